@@ -1,8 +1,9 @@
-/* bare: a program without a C library, as a guest that has none. It brings its own memory and its own memcpy, memmove and memset, and tries
- * each call of the header, its answers among them. It ends with the number of the first line that isn't as it should be, or with 0. */
+/* bare: a program without a C library, like a guest that has none. It has its own memory and its
+ * own memcpy, memmove and memset, and tries each call of the header with its results. It ends with
+ * the number of the first line that isn't as expected, or with 0. */
 #include "ivshm_c.h"
 
-static _Alignas(16) unsigned char arena[1 << 18];
+static _Alignas(16) unsigned char arena[1 << 19];
 static size_t top;
 
 int check(void);
@@ -39,14 +40,14 @@ void *memset(void *to, int byte, size_t n) {
 
 static uint32_t words[1024 + 2 * 4096];
 
-/* Makes this access, and gives what a read gave. */
+/* Makes this access, and returns the value of a read. */
 static uint32_t made(uint32_t me, const ivshm_access *access) {
     if (access->kind == IVSHM_WRITE) words[access->word] = access->value;
     if (access->kind == IVSHM_STATE) words[me] = access->value;
     return access->kind == IVSHM_READ ? words[access->word] : 0;
 }
 
-/* Makes the accesses of the open call, and tells how many frames were delivered. */
+/* Makes the accesses of the open call, and returns the number of frames delivered. */
 static int run(ivshm_end *end, uint32_t me) {
     ivshm_access access;
     ivshm_notes notes;
@@ -68,6 +69,7 @@ static void tick(ivshm_end *end, uint32_t me) {
 
 /* The sizes of structs on both sides of the header. */
 _Static_assert(sizeof(ivshm_end) == 8 && sizeof(ivshm_access) == 28 && sizeof(ivshm_note) == 16 && sizeof(ivshm_notes) == 40, "sizes");
+_Static_assert(sizeof(ivshm_counts) == 48, "sizes");
 _Static_assert(sizeof(ivshm_view) == 40 && sizeof(ivshm_found) == 64 && sizeof(ivshm_words) == 56 && sizeof(ivshm_limit_values) == 24 && sizeof(ivshm_burst) == 8, "sizes");
 
 static int check_tables(void) {
@@ -77,6 +79,7 @@ static int check_tables(void) {
     ivshm_words layout;
     ivshm_limits(&limits);
     WANT(limits.version == IVSHM_VERSION && limits.least_mtu == IVSHM_LEAST_MTU && limits.most_mtu == IVSHM_MOST_MTU);
+    WANT(ivshm_abi_version() == IVSHM_ABI_VERSION && ivshm_library_version() == IVSHM_LIBRARY_NUMBER);
     WANT(limits.shortest_frame == IVSHM_SHORTEST && limits.longest_frame == IVSHM_LONGEST && limits.largest_region == IVSHM_LARGEST_REGION);
     /* a vendor capability at 40h with a base, then MSI-X at 60h with 4 vectors */
     static const uint8_t head[] = {0x0a, 0x11, 0x06, 0x41, 0, 0, 0x10, 0, 0, 1, 0, 0xff};
@@ -124,8 +127,10 @@ static int check_handles(void) {
     ivshm_notes notes;
     ivshm_view view;
     ivshm_burst bursts[3] = {{7, 7}};
+    ivshm_counts counts = {.down = 7};
     uint8_t frame[14] = {0};
     size_t length;
+    WANT(ivshm_end_counts(&none, &counts) == IVSHM_NO_END && counts.down == 7);
     WANT(ivshm_end_begin(&none, IVSHM_TICK) == IVSHM_NO_END && ivshm_end_offer(&none, frame, 14) == IVSHM_NO_END);
     WANT(ivshm_end_offer_again(&none) == IVSHM_NO_END);
     WANT(ivshm_end_next(&none, &access) == IVSHM_NO_END && ivshm_end_took(&none, 0, &notes) == IVSHM_NO_END);
@@ -138,7 +143,7 @@ static int check_handles(void) {
     return 0;
 }
 
-/* The frame of 38 bytes that was offered last goes again, with all before its index at once. */
+/* Offers the last frame of 38 bytes again, with all writes before its index at once. */
 static int check_before_index(ivshm_end *a, ivshm_end *b, const uint8_t *frame) {
     static uint8_t room[64];
     ivshm_burst bursts[3];
@@ -160,7 +165,8 @@ static int check_before_index(ivshm_end *a, ivshm_end *b, const uint8_t *frame) 
     return 0;
 }
 
-/* Once more, with the words of the frame from this copy of it, but for the first one, and taken from the words that the other read at once. */
+/* Once more: the words of the frame, except the first, are written from this copy of it. The frame
+ * is delivered from the words that the other read at once. */
 static int check_tail(ivshm_end *a, ivshm_end *b, const uint8_t *frame) {
     static uint8_t room[64];
     ivshm_burst bursts[3] = {{7, 7}};
@@ -192,7 +198,7 @@ static int check_tail(ivshm_end *a, ivshm_end *b, const uint8_t *frame) {
     return 0;
 }
 
-/* Some steps at once: a section that is cleared, and a frame of 40 bytes from end to end. */
+/* Bursts: a section that is cleared, and a whole frame of 40 bytes. */
 static int check_bursts(void) {
     static ivshm_end a = IVSHM_END_NONE, b = IVSHM_END_NONE;
     static uint8_t frame[40] = {255, 255, 255, 255, 255, 255, 2}, room[64];
@@ -245,7 +251,8 @@ static int check_bursts(void) {
     return 0;
 }
 
-/* A link of version 2: a poll that finds nothing asks for the next frame, which rings, and the one after it doesn't. */
+/* A link of version 2: after a poll that finds nothing the next frame rings, and the one after it
+ * doesn't. */
 static int check_events(void) {
     static ivshm_end a = IVSHM_END_NONE, b = IVSHM_END_NONE;
     static uint8_t frame[14] = {255, 255, 255, 255, 255, 255, 2};
@@ -262,16 +269,17 @@ static int check_events(void) {
         tick(&b, 1);
     }
     for (int frames = 0; frames < 3; frames += 2) {
-        /* the poll looks, writes its event, with a full fence after it, and looks again */
+        /* the poll looks, writes its event index, with a full fence after it, and looks again */
         WANT(ivshm_end_begin(&b, IVSHM_POLL) == IVSHM_DONE);
         if (frames > 0) WANT(run(&b, 1) == frames && ivshm_end_begin(&b, IVSHM_POLL) == IVSHM_DONE);
         WANT(ivshm_end_took(&b, words[1024 + 256], &notes) == IVSHM_DONE && notes.count == 1 && notes.note[0].kind == IVSHM_LOOK && notes.note[0].value == 0);
         WANT(ivshm_end_next(&b, &access) == IVSHM_DONE && access.kind == IVSHM_WRITE && access.word == 5120 + 433 && access.value == (uint32_t)frames);
         WANT(access.count < 2 && access.order == IVSHM_RELAXED && access.fence_before == 0 && access.fence_after == 1 && run(&b, 1) == 0);
-        /* once it has found nothing then, a poll that finds nothing is one look */
+        /* after that, a poll that finds nothing is one look */
         WANT(ivshm_end_begin(&b, IVSHM_POLL) == IVSHM_DONE && ivshm_end_took(&b, words[1024 + 256], &notes) == IVSHM_DONE && notes.count == 2);
         WANT(notes.note[1].kind == IVSHM_FINISH);
-        /* an offer ends with the read of that event, with a full fence before it, and with the doorbell where it is asked for */
+        /* an offer ends with the read of that event index, with a full fence before it, and with
+         * the doorbell if it is wanted */
         for (int asked = 1; asked >= 0; asked--) {
             WANT(ivshm_end_offer(&a, frame, 14) == IVSHM_DONE);
             do WANT(ivshm_end_next(&a, &access) == IVSHM_DONE && ivshm_end_took(&a, made(0, &access), &notes) == IVSHM_DONE);
@@ -287,7 +295,8 @@ static int check_events(void) {
     return 0;
 }
 
-/* A link of version 3: 45 frames of the longest length leave room for a short one, and the next one begins anew. */
+/* A link of version 3: after 45 frames of the longest length a short one fits, and the next one
+ * begins at the start again. */
 static int check_bytes(void) {
     static ivshm_end a = IVSHM_END_NONE, b = IVSHM_END_NONE;
     static uint8_t frame[274] = {255, 255, 255, 255, 255, 255, 2}, room[300];
@@ -316,6 +325,13 @@ static int check_bytes(void) {
     return 0;
 }
 
+/* Whether the end has these counts. */
+static int has_counts(ivshm_end *end, ivshm_counts due) {
+    ivshm_counts found;
+    return ivshm_end_counts(end, &found) == IVSHM_DONE && found.sessions == due.sessions && found.accepted == due.accepted && found.full == due.full
+        && found.down == due.down && found.delivered == due.delivered && found.refused == due.refused;
+}
+
 static int check_ends(void) {
     static ivshm_end a = IVSHM_END_NONE, b = IVSHM_END_NONE;
     static uint8_t frame[300] = {255, 255, 255, 255, 255, 255, 2}, room[300];
@@ -334,8 +350,11 @@ static int check_ends(void) {
     WANT(run(&a, 0) == 0 && run(&b, 1) == 0 && words[0] == 0 && words[1] == 0);
     WANT(ivshm_end_next(&a, &access) == IVSHM_NO_CALL && ivshm_end_took(&a, 0, &notes) == IVSHM_NO_CALL);
     WANT(ivshm_end_view(&a, &view) == IVSHM_DONE && view.outcome == IVSHM_NEVER && view.longest == 274 && view.delivered == 0);
+    WANT(has_counts(&a, (ivshm_counts){0}));
     /* outside RUN an offer is down */
     WANT(ivshm_end_offer(&a, frame, 14) == IVSHM_DONE && run(&a, 0) == 0 && ivshm_end_view(&a, &view) == IVSHM_DONE && view.outcome == IVSHM_WAS_DOWN);
+    WANT(has_counts(&a, (ivshm_counts){.down = 1}) && ivshm_end_begin(&b, IVSHM_POLL) == IVSHM_DONE && run(&b, 1) == 0);
+    WANT(has_counts(&b, (ivshm_counts){.down = 1}));
     for (int i = 0; i < 10; i++) {
         tick(&a, 0);
         tick(&b, 1);
@@ -351,13 +370,13 @@ static int check_ends(void) {
     WANT(ivshm_end_frame(&b, room, 273, &length) == IVSHM_SHORT_ROOM && length == 274 && room[0] == 0);
     WANT(ivshm_end_frame(&b, room, 300, &length) == IVSHM_DONE && length == 274);
     for (int i = 0; i < 274; i++) WANT(frame[i] == room[i]);
-    /* the link is full in the end, and an offer that is cut is told as such */
+    /* at last the link is full, and an offer that is cut has that outcome */
     view.outcome = IVSHM_ACCEPTED;
     for (int i = 0; i < 100 && view.outcome == IVSHM_ACCEPTED; i++) {
         WANT(ivshm_end_offer(&a, frame, 14) == IVSHM_DONE && run(&a, 0) == 0 && ivshm_end_view(&a, &view) == IVSHM_DONE);
     }
     WANT(view.outcome == IVSHM_WAS_FULL);
-    /* the frame is still there, and there is room for it once the other has polled */
+    /* the frame is still there, and fits once the other has polled */
     WANT(ivshm_end_offer_again(&a) == IVSHM_DONE && ivshm_end_offer_again(&a) == IVSHM_CALL_OPEN);
     WANT(run(&a, 0) == 0 && ivshm_end_view(&a, &view) == IVSHM_DONE && view.outcome == IVSHM_WAS_FULL);
     WANT(ivshm_end_begin(&b, IVSHM_POLL) == IVSHM_DONE && run(&b, 1) == 45);
@@ -372,6 +391,12 @@ static int check_ends(void) {
     words[1024 + 256] = 200 << 16;
     WANT(ivshm_end_begin(&b, IVSHM_POLL) == IVSHM_DONE && run(&b, 1) == 0 && ivshm_end_view(&b, &view) == IVSHM_DONE);
     WANT(view.refused_field == IVSHM_AVAIL_INDEX && view.refused_value == 200 && view.state == IVSHM_RESET && words[1] == 0);
+    /* 1 + 45 + 1 frames came, and two offers between them were full. A reset keeps the counts,
+     * and a new end has none. */
+    WANT(has_counts(&a, (ivshm_counts){.sessions = 1, .accepted = 47, .full = 2, .down = 1}));
+    WANT(has_counts(&b, (ivshm_counts){.sessions = 1, .down = 1, .delivered = 47, .refused = 1}));
+    WANT(ivshm_end_reset(&b) == IVSHM_DONE && has_counts(&b, (ivshm_counts){.sessions = 1, .down = 1, .delivered = 47, .refused = 1}));
+    WANT(ivshm_end_free(&b) == IVSHM_DONE && ivshm_end_new(&b, &found, 2, 1, 256, 1) == IVSHM_DONE && has_counts(&b, (ivshm_counts){0}));
     WANT(ivshm_end_free(&a) == IVSHM_DONE && ivshm_end_free(&a) == IVSHM_NO_END && ivshm_end_free(&b) == IVSHM_DONE && a.at == NULL);
     return 0;
 }
@@ -388,7 +413,7 @@ int check(void) {
 #ifdef HOSTED
 int main(void) { return check(); }
 #else
-/* Calls check on an aligned stack, and ends with its answer. */
+/* Calls check on an aligned stack, and ends with its result. */
 #ifdef __aarch64__
 __asm__(".globl _start\n_start:\n bl check\n mov x8, #93\n svc #0");
 #else

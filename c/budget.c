@@ -1,9 +1,12 @@
-/* budget FRAMES: a hostile peer fills its queue with the longest frames that there are, again and
- * again, and an end takes FRAMES of them at most in each call, as NAPI has it. The program looks
- * at what ivshm_link.h says of a budget: no call delivers more frames; the poll is over after a
- * bounded number of calls; until then a send and a tick change nothing; a send that waited is
- * accepted before the next poll begins; and the frames are those that one poll delivers. It ends
- * with 0 if all of that holds. */
+/* budget FRAMES: a hostile peer fills its queue with the longest frames that exist, again and
+ * again. An end takes at most FRAMES of them in each call, as in NAPI. The program checks what
+ * ivshm_link.h says of a budget:
+ * - no call delivers more frames;
+ * - the poll is over after a bounded number of calls;
+ * - until then a send and a tick change nothing;
+ * - a send that waited is accepted before the next poll begins;
+ * - the frames are those that one poll delivers.
+ * It ends with 0 if all of that holds. */
 #include <inttypes.h>
 #include <stdbool.h>
 #include <stdio.h>

@@ -1,10 +1,11 @@
 /* A driver of the link, as play.c and fuzz.c see it: what a driver under test offers, and the
  * four accesses that it makes.
  *
- * A driver of your own is tried so: in place of its own load, store, State register and Doorbell
- * register it calls the four functions world_load to world_ring, and a few lines offer its calls
- * as the functions driver_new to driver_reset. library_driver.c does this for the C library, and
- * plain_link.c is a driver without it. docs/DRIVERS.md has more. */
+ * To try a driver of your own, replace its load, store, State register and Doorbell register by the
+ * four functions world_load to world_ring. A few lines offer its calls as the functions driver_new
+ * to driver_reset. library_driver.c does this for the C library, and plain_link.c is a driver
+ * without it. docs/DRIVERS.md has more.
+ */
 #ifndef DRIVER_H
 #define DRIVER_H
 #include <stdbool.h>

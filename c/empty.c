@@ -1,12 +1,15 @@
-/* In the library's place, for speed.c: an end that tells its accesses from a list and takes each step, with no state, no check and no frame. The lists
- * are those of a Tick, of an offer that finds one frame returned, and of a poll of 8 frames. What is measured over it is the form itself, two calls for
- * each step, without what the library does in them: cc -O2 -o empty speed.c empty.c */
+/* In place of the library, for speed.c: an end that returns its accesses from a list and completes
+ * each step, without state, checks and frames. The lists are those of a Tick, of an offer that
+ * finds one frame returned, and of a poll of 8 frames. The program measures the interface itself,
+ * two calls for each step, without the library's work in them: cc -O2 -o empty speed.c empty.c */
 #include <stdlib.h>
 #include <string.h>
 
 #include "ivshm_c.h"
 
-enum { MOST = 1 << 18, BATCH = 8, SLOT = 600, DATA = 25000 }; /* SLOT: words, for frames of 2,400 bytes at most; DATA: the word where they begin */
+enum { MOST = 1 << 18, BATCH = 8, SLOT = 600, DATA = 25000 }; /* SLOT: words of a frame of at most
+                                                               * 2,400 bytes; DATA: the first word
+                                                               * of the data */
 
 struct list {
     uint32_t count;
@@ -118,7 +121,7 @@ uint32_t ivshm_end_next(ivshm_end *end, ivshm_access *access) {
     return IVSHM_DONE;
 }
 
-/* Goes on by so many steps, and tells the notes of the last. */
+/* Completes `count` steps, and returns the notes of the last. */
 static uint32_t go_on(struct empty *e, uint32_t count, ivshm_notes *notes) {
     if (!e) return IVSHM_NO_END;
     e->at += count;
@@ -179,5 +182,11 @@ uint32_t ivshm_end_frame(ivshm_end *end, uint8_t *room, size_t size, size_t *len
 uint32_t ivshm_end_view(ivshm_end *end, ivshm_view *view) {
     (void)end;
     *view = (ivshm_view){.state = IVSHM_RUN};
+    return IVSHM_DONE;
+}
+
+uint32_t ivshm_end_counts(ivshm_end *end, ivshm_counts *counts) {
+    (void)end;
+    *counts = (ivshm_counts){.sessions = 1};
     return IVSHM_DONE;
 }

@@ -1,6 +1,8 @@
-/* floor OUT MTU SIZE ROUNDS: the rounds of speed.c in plain C, with no end in between and no check but of a frame's length: what the copies and the
- * index words cost by themselves. A frame is copied as often as with the library: into the end and into the section, and from there into a room and
- * into the other end. It prints frames a second; the layout is the library's. */
+/* floor OUT MTU SIZE ROUNDS: the rounds of speed.c in plain C, without an end and without a check
+ * other than a frame's length. The program measures the cost of the copies and the index words by
+ * themselves. A frame is copied as often as with the library: into the end and into the section,
+ * and from there into a room and into the other end. It prints frames a second. The layout is the
+ * library's. */
 #include "region.h"
 
 #include <stdatomic.h>

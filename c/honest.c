@@ -28,6 +28,15 @@ static void refused(struct region *r) {
     expect(view.refused_field == 0);
 }
 
+/* The library counts as the link does, through all sessions and resets. */
+static void check_counts(struct region *r) {
+    const ivshm_link_counts *own = &r->link.counts;
+    ivshm_counts counts;
+    must(ivshm_end_counts(&r->link.end, &counts), "counts");
+    expect(counts.accepted == own->accepted && counts.full == own->full && counts.down == own->down);
+    expect(counts.delivered == own->delivered && counts.refused == own->refusals && counts.sessions >= own->sessions);
+}
+
 static void print(const struct region *r, const uint64_t *outcomes, uint64_t changed) {
     static const char *const fields[] = {"-", "AvailIndex", "AvailEntry", "DescAddress", "DescLength", "DescFlags", "UsedIndex", "UsedId"};
     const ivshm_link_counts *counts = &r->link.counts;
@@ -59,6 +68,7 @@ int main(int argc, char **argv) {
         }
     }
     for (uint32_t i = 2; i < TABLE / 4; i++) changed += load_word(&r.words[i]) != 0xdead0000u + i;
+    check_counts(&r);
     detach(&r);
     print(&r, outcomes, changed);
     return r.link.counts.stray || changed || wrong || !r.link.counts.refusals;

@@ -1,5 +1,6 @@
-/* What a hostile peer 1 does: it plays the handshake, and then stores words in its own section and its own State, in part wholly random ones, in part
- * the fields of frames that are right but for one. It knows nothing of the library. A program includes this once, and sets the words. */
+/* A hostile peer 1. It plays the handshake, and then stores words in its own section and its own
+ * State: wholly random ones, or the fields of frames that are right except for one. It knows
+ * nothing of the library. A program includes this file once, and sets the words. */
 #ifndef HOSTILE_H
 #define HOSTILE_H
 #include <sched.h>
@@ -53,7 +54,7 @@ static void store_random(void) {
     if (draw() % 1000 == 0) atomic_store(own_state, draw() % 5);
 }
 
-/* Publishes a frame, with this field wrong, where the other peer has room for one. */
+/* Publishes a frame, with this field wrong, if the other peer can take one. */
 static uint32_t publish(uint32_t published, int wrong) {
     uint32_t d = published % 64, address = data + 64 * d, length = 14 + draw() % 50;
     atomic_store(&own[4 * d], wrong == DESC_ADDRESS ? (draw() % 2 ? address + 1 : draw()) : address);
@@ -68,7 +69,7 @@ static uint32_t publish(uint32_t published, int wrong) {
     return published;
 }
 
-/* Hands back a frame that the other peer published, with this field wrong. */
+/* Returns a frame that the other peer published, with this field wrong. */
 static void hand_back(int wrong) {
     uint32_t index = atomic_load(&own[used]) >> 16;
     if (index == atomic_load(&his[avail()]) >> 16) return;
@@ -90,8 +91,9 @@ static void wait_for(uint32_t least, uint32_t most, double end, double most_seco
     }
 }
 
-/* A session in which one kind of field is wrong now and then, or in which all stores are random; so many rounds at most. What is handed back is wrong
- * every other time, since the other peer may publish but few frames. */
+/* A session of at most `rounds` rounds in which one kind of field is wrong now and then, or in
+ * which all stores are random. What is returned is wrong every other time, since the other peer may
+ * publish only a few frames. */
 static void session(double end, int kind, int rounds) {
     atomic_store(own_state, 1);
     wait_for(1, 2, end, 2);

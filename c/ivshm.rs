@@ -1,9 +1,12 @@
-//! A safe wrapper of the end as a C library, for a hypervisor or a driver in Rust: copy it. `cargo` isn't needed:
+//! A safe wrapper of the end as a C library, for a hypervisor or a driver in Rust: copy it. `cargo`
+//! isn't needed:
+//!
 //!     rustc -C opt-level=2 c/ivshm.rs -C link-arg=heap.o -L crates/ivshm_c/out -l static=ivshm_c
-//! What stands in `ivshm_c.h` holds here too; the duties that types can keep are kept by types.
+//!
+//! `ivshm_c.h` describes the library. Types keep those of its duties that types can keep.
 use std::collections::HashMap;
 
-/// What a walk over a device's configuration space found, in bytes.
+/// The result of a walk over a device's configuration space. Sizes are in bytes.
 #[repr(C)]
 #[derive(Clone, Copy, Debug, Default)]
 pub struct Found {
@@ -67,6 +70,21 @@ pub struct View {
     pub longest: u32,
 }
 
+/// The counts of an end since it was made, each modulo 2^64.
+#[repr(C)]
+#[derive(Clone, Copy, Debug, Default, PartialEq, Eq)]
+pub struct Counts {
+    pub sessions: u64,
+    pub accepted: u64,
+    pub full: u64,
+    pub down: u64,
+    pub delivered: u64,
+    pub refused: u64,
+}
+
+/// The version of the binary interface that these declarations are of.
+pub const ABI_VERSION: u32 = 1;
+
 #[repr(C)]
 struct Handle(*mut u8);
 
@@ -80,11 +98,14 @@ extern "C" {
     fn ivshm_end_tail(end: &mut Handle, bursts: &mut [Burst; 3], room: *mut u8, size: usize) -> u32;
     fn ivshm_end_took_bursts(end: &mut Handle) -> u32;
     fn ivshm_end_view(end: &mut Handle, view: &mut View) -> u32;
+    fn ivshm_end_counts(end: &mut Handle, counts: &mut Counts) -> u32;
+    fn ivshm_abi_version() -> u32;
     fn ivshm_end_frame(end: &mut Handle, room: *mut u8, size: usize, length: &mut usize) -> u32;
     fn ivshm_end_reset(end: &mut Handle) -> u32;
 }
 
-/// The region and the registers, as the driver reaches them: each access is one load or store of 32 bits, in order.
+/// The region and the registers, as the driver accesses them: each access is one load or store of
+/// 32 bits, in order.
 pub trait Region {
     fn read(&mut self, word: u32) -> u32;
     fn write(&mut self, word: u32, value: u32);
@@ -92,22 +113,24 @@ pub trait Region {
     fn ring(&mut self, peer: u32, vector: u32);
 }
 
-/// An end. An error is the answer by its number in `ivshm_c.h`.
+/// An end. An error is the number of a result in `ivshm_c.h`.
 pub struct End(Handle);
 
-// SAFETY: the handle's block belongs to it alone, and the library proves that what it holds may go to another thread.
+// SAFETY: the handle's block belongs to it alone, and the library proves that the block's contents
+// may go to another thread.
 unsafe impl Send for End {}
 
 fn done(answer: u32) -> Result<(), u32> {
     if answer == 0 { Ok(()) } else { Err(answer) }
 }
 
-/// The word of these bytes, the lowest first, with 0 for those that it hasn't.
+/// Returns the word of these bytes, the lowest first, with 0 for missing bytes.
 fn word_of(bytes: &[u8]) -> u32 {
     bytes.iter().rev().fold(0, |word, byte| word << 8 | u32::from(*byte))
 }
 
-// SAFETY of the calls below: each pointer is a reference or a slice of this program, and `&mut self` gives the handle to one call at a time.
+// SAFETY of the calls below: each pointer is a reference or a slice of this program, and `&mut
+// self` gives the handle to one call at a time.
 impl End {
     /// Makes the end of peer `me` and writes State 0.
     pub fn new(found: &Found, peers: u32, me: u32, mtu: u32, vector: u32, region: &mut impl Region) -> Result<End, u32> {
@@ -117,7 +140,8 @@ impl End {
         Ok(end)
     }
 
-    /// Makes all that an offer of this frame writes before its index, where a word of the frame is next: its words come from here.
+    /// Makes all writes of an offer of this frame before its index, if a word of the frame is next.
+    /// The words come from `frame`.
     fn write_frame(&mut self, region: &mut impl Region, frame: &[u8]) -> bool {
         let (mut bursts, mut tail) = ([Burst::default(); 3], [0u8; 20]);
         if unsafe { ivshm_end_tail(&mut self.0, &mut bursts, tail.as_mut_ptr(), tail.len()) } != 0 {
@@ -132,7 +156,8 @@ impl End {
         true
     }
 
-    /// Makes the accesses of the open call, which offers this frame, or none. `told` is handed each note, and the frame at a delivery.
+    /// Makes the accesses of the open call, which offers this frame, or none. `told` gets each
+    /// note, and the frame at a delivery.
     fn finish(&mut self, region: &mut impl Region, offered: &[u8], told: &mut impl FnMut(&Note, &[u8])) {
         let (mut access, mut notes) = (Access::default(), Notes::default());
         while unsafe { ivshm_end_next(&mut self.0, &mut access) } == 0 {
@@ -154,7 +179,7 @@ impl End {
         }
     }
 
-    /// The frame delivered last.
+    /// Returns the frame delivered last.
     fn frame(&mut self) -> Vec<u8> {
         let mut frame = vec![0; self.view().delivered as usize];
         let mut length = 0;
@@ -168,13 +193,19 @@ impl End {
         view
     }
 
+    pub fn counts(&mut self) -> Counts {
+        let mut counts = Counts::default();
+        unsafe { ivshm_end_counts(&mut self.0, &mut counts) };
+        counts
+    }
+
     /// Looks at the other's State and moves on.
     pub fn tick(&mut self, region: &mut impl Region) {
         unsafe { ivshm_end_begin(&mut self.0, 0) };
         self.finish(region, &[], &mut |_, _| ());
     }
 
-    /// Takes the frames that the other published.
+    /// Delivers the frames that the other published.
     pub fn poll(&mut self, region: &mut impl Region, mut take: impl FnMut(&[u8])) {
         unsafe { ivshm_end_begin(&mut self.0, 1) };
         self.finish(region, &[], &mut |note, frame| {
@@ -190,14 +221,14 @@ impl End {
         self.finish(region, &[], &mut |_, _| ());
     }
 
-    /// Offers a frame, and tells the outcome by its number.
+    /// Offers a frame, and returns the number of its outcome.
     pub fn offer(&mut self, region: &mut impl Region, frame: &[u8]) -> Result<u32, u32> {
         done(unsafe { ivshm_end_offer(&mut self.0, frame.as_ptr(), frame.len()) })?;
         self.finish(region, frame, &mut |_, _| ());
         Ok(self.view().outcome)
     }
 
-    /// The own device was reset.
+    /// Resets the end after a reset of its own device.
     pub fn reset(&mut self, region: &mut impl Region) {
         unsafe { ivshm_end_reset(&mut self.0) };
         self.finish(region, &[], &mut |_, _| ());
@@ -230,6 +261,7 @@ impl Region for Memory {
 }
 
 fn main() {
+    assert_eq!(unsafe { ivshm_abi_version() }, ABI_VERSION);
     let found = Found { table: 4096, out: 16_384, ..Found::default() };
     let mut region = Memory { words: HashMap::new(), me: 0 };
     let mut ends: Vec<End> = (0..2).map(|me| End::new(&found, 2, me, 256, 1, &mut region).expect("sizes of a region")).collect();
@@ -249,6 +281,8 @@ fn main() {
     region.me = 0;
     ends[0].reset(&mut region);
     assert_eq!(ends[0].view().state, 0);
+    assert_eq!(ends[0].counts(), Counts { sessions: 1, accepted: 1, ..Counts::default() });
+    assert_eq!(ends[1].counts(), Counts { sessions: 1, delivered: 1, ..Counts::default() });
     ends[0].stop(&mut region);
     println!("ivshm.rs: a frame went over the link");
 }

@@ -1,10 +1,12 @@
 /* An end of the virtual Ethernet link over an Inter-VM Shared Memory device, version 2.
  *
- * A region of shared memory has a State Table, a common section and an output section for each peer. Peers 0 and 1 exchange Ethernet
- * frames over it: each writes its own output section and its own State alone, and reads those of the other, whom it needn't trust.
- * docs/LAYOUT.md of the repository has the layout, docs/DEVICE.md the device.
+ * A region of shared memory has a State Table, a common section and an output section for each
+ * peer. Peers 0 and 1 exchange Ethernet frames over it. Each writes its own output section and its
+ * own State alone, and reads those of the other peer, which it needn't trust. docs/LAYOUT.md of the
+ * repository has the layout, docs/DEVICE.md the device.
  *
- * The library makes no access to the region. It says which access comes next, and is handed what a read gave:
+ * The library performs no access to the region. It returns the next access; the caller performs it
+ * and passes on the value read:
  *
  *     ivshm_end end = IVSHM_END_NONE;
  *     ivshm_access access;
@@ -18,35 +20,41 @@
  *             case IVSHM_READ:    value = load(access.word); break;
  *             case IVSHM_WRITE:   store(access.word, access.value); break;
  *             case IVSHM_STATE:   write the State register: access.value; break;
- *             case IVSHM_RING:    write the Doorbell register: access.word << 16 | access.value; break;
+ *             case IVSHM_RING:    write Doorbell: access.word << 16 | access.value; break;
  *             }
  *             ivshm_end_took(&end, value, &notes);
  *         }
  *         ivshm_end_begin(&end, IVSHM_TICK), or _POLL, or ivshm_end_offer(&end, frame, length)
  *     }
  *
- * DUTIES OF THE CALLER. Nothing checks these; what the library promises holds where they are kept.
+ * DUTIES OF THE CALLER. Nothing checks these. What the library promises holds if they are kept.
  *
- *  1. State 0 comes first. ivshm_end_new and ivshm_end_reset leave a call open whose one access is State 0. Make its step, as of any other
- *     call, before you begin another: until then ivshm_end_begin and ivshm_end_offer answer IVSHM_CALL_OPEN.
- *  2. An access is one load or one store of 32 bits of an aligned word, made once and in the order in which it was told: a store that was
- *     told before another access is visible before it. On x86 and ARM that is a sequentially consistent atomic access. A word holds its
- *     lowest byte first. Hand a read's value over as it was read; never read a word again. Some words may be read or written at once, as
- *     it stands at ivshm_end_took_reads; and `order` says which weaker order is enough: docs/ORDERS.md has
- *     what is proved of that, and over which memory.
- *  3. A handle is IVSHM_END_NONE, or what a call left there. It is never copied, and one call at a time has it. During a call it is null.
- *     One call may be made on one thread and the next on another, where a lock or the like orders them.
- *  4. Every other pointer is valid and aligned, and to memory that nothing else touches during the call. A pointer that comes with a
- *     length isn't null, even at length 0. Frames lie in memory of your own, never in the region: the library reads them more than once.
- *  5. The own State in the State Table is what the last IVSHM_STATE access wrote: where something else changed the register or the word (a
- *     device reset that the library wasn't told of, say), call ivshm_end_reset.
- *  6. A refusal stays. An end that met a value out of range writes State 0 and stays in RESET until ivshm_end_reset. When to call that is
- *     yours: at once, where the other peer is to have another chance; after its State was 0 for a while; or never.
- *  7. A peer that resets its end again and again makes yours clear its section each time (out / 4 accesses). Bound how often you tick in
- *     INIT, if that costs you something.
- *  8. Poll until a poll delivers nothing before you stop: what the other peer published, and you didn't poll, is lost with the session.
- *     Its doorbell comes with its frames, from version 2 on with the first one after a poll that found nothing; but poll too where none
- *     came: interrupts may be lost.
+ *  1. State 0 comes first. After ivshm_end_new and ivshm_end_reset a call is open whose one access
+ *     is State 0. Make its step, as of any other call, before you begin another call. Until then
+ *     ivshm_end_begin and ivshm_end_offer return IVSHM_CALL_OPEN.
+ *  2. An access is one load or one store of an aligned 32-bit word. Perform each access once, and
+ *     in the order in which the library returns them: a store is visible before each later access.
+ *     On x86 and ARM that is a sequentially consistent atomic access. A word has its lowest byte
+ *     first. Pass on the value of a read without a change, and never read a word again. Bursts of
+ *     words may be read or written at once (ivshm_end_took_reads). `order` gives a weaker order
+ *     that suffices: docs/ORDERS.md has what is proved of it, and over which memory.
+ *  3. A handle is IVSHM_END_NONE, or what a call left there. It is never copied, and used by one
+ *     call at a time. During a call it is null. Calls may be made on different threads if a lock or
+ *     the like orders them.
+ *  4. Every other pointer is valid and aligned, and to memory that nothing else accesses during the
+ *     call. A pointer that comes with a length isn't null, even at length 0. Frames are in memory
+ *     of your own, never in the region: the library reads them more than once.
+ *  5. Your State in the State Table is the value of the last IVSHM_STATE access. If something else
+ *     changed the register or the word, for example a device reset, call ivshm_end_reset.
+ *  6. A refusal is final. An end that read a value out of range writes State 0 and stays in RESET
+ *     until ivshm_end_reset. You decide when to call that: at once, to give the other peer another
+ *     chance; after its State was 0 for a while; or never.
+ *  7. A peer that resets its end again and again makes yours clear its section each time (out / 4
+ *     accesses). Bound the rate of ticks in INIT if that is too costly.
+ *  8. Poll until a poll delivers nothing before you stop: frames that the other peer published and
+ *     you didn't poll are lost with the session. The other peer rings for its frames; from version
+ *     2 on, for the first one after a poll that found nothing. Poll too if no doorbell came:
+ *     interrupts may be lost.
  *  9. rattle_alloc and rattle_dealloc do what their declarations say, and memcpy, memmove and
  *     memset do what C says.
  * 10. The archive fits the code that calls it. For x86-64 there are two forms:
@@ -65,9 +73,9 @@
  *     registers alone, so it doesn't make the first form safe. ARM64 has no red zone; there the
  *     second form is the one without vector registers.
  *
- * THREADS. The library has no data of its own: the state of an end is in the blocks that its
- * handle leads to. Calls on different handles may overlap if rattle_alloc and rattle_dealloc may.
- * Calls on one handle don't overlap (duty 3). No call waits.
+ * THREADS. The library has no data of its own: the state of an end is in the blocks that its handle
+ * leads to. Calls on different handles may overlap if rattle_alloc and rattle_dealloc may. Calls on
+ * one handle don't overlap (duty 3). No call waits.
  *
  * STACK. A call uses at most IVSHM_STACK bytes of stack, without what memcpy, memmove, memset,
  * rattle_alloc and rattle_dealloc use.
@@ -78,17 +86,24 @@
  * BOTH ENDS of a link have the same version, the same MTU and the same vector. Nothing in the
  * region says which: the two programs agree on them. The proof about two ends is of such a pair.
  * checks/c_library tries ends that differ in version and MTU: no value is refused and no frame is
- * lost, and each end bounds the frames that it offers itself. But a doorbell may be missing: an
- * end of version 1 never writes its event index, so an end of version 2 or 3 rings it for one
- * frame in 65,536, and it finds the other frames when it polls.
+ * lost, and each end bounds the frames that it offers itself. But a doorbell may be missing: an end
+ * of version 1 never writes its event index, so an end of version 2 or 3 rings it for one frame in
+ * 65,536, and it finds the other frames when it polls.
  *
- * WHAT IS PROVED of the library, for all values that a program hands over, where those duties are kept: each answer has exactly the cause
- * that stands here, but for IVSHM_NO_MEMORY, which is free to come; an answer other than IVSHM_DONE changes neither the end nor what a
- * pointer leads to, but where it says so; each access is the next one of the link's call grammar, a read of the other's section or State, or
- * a write of the own section, State or doorbell, inside the region; each field of a frame that is delivered was read once and was in its
- * range; between two such ends the frames delivered in a session are a beginning of those accepted. No call runs for ever.
+ * WHAT IS PROVED of the library, for all values that a program passes, if those duties are kept:
  *
- * WHAT IS TRUSTED: this header's match with the library, the accesses that you make, heap.c, the compiler and the proof checker.
+ * - Each result has exactly the cause that this header gives, except IVSHM_NO_MEMORY, which may be
+ *   returned at any time.
+ * - A result other than IVSHM_DONE changes neither the end nor what a pointer leads to, except
+ *   where this header says so.
+ * - Each access is the next one of the link's call grammar: a read of the other's section or State,
+ *   or a write of your own section, State or Doorbell, inside the region.
+ * - Each field of a delivered frame was read once and was in its range.
+ * - Between two such ends the frames delivered in a session are a prefix of those accepted.
+ * - Every call ends.
+ *
+ * WHAT IS TRUSTED: this header's match with the library, the accesses that you perform, heap.c, the
+ * compiler and the proof checker.
  */
 #ifndef IVSHM_C_H
 #define IVSHM_C_H
@@ -105,12 +120,21 @@
 extern "C" {
 #endif
 
-/* The version of the library, and the version of its binary interface. A program compiled with
- * this header works with each archive of the same IVSHM_ABI_VERSION: there no function leaves, no
- * constant changes and no struct grows. c/ivshm_c.abi lists them, and checks/c_style compares the
- * list with this header and with the archive. */
+/* The version of the library, the same as a number, and the version of its binary interface. The
+ * number is 1,000 times the first number of the version, plus the second. A program compiled with
+ * this header works with each archive of the same IVSHM_ABI_VERSION and of this library version or
+ * a later one: there no function leaves, no constant changes and no struct grows. c/ivshm_c.abi
+ * lists them, and checks/c_style compares the list with this header and with the archive. */
 #define IVSHM_LIBRARY_VERSION "1.0"
+#define IVSHM_LIBRARY_NUMBER 1000
 #define IVSHM_ABI_VERSION 1
+
+/* The version of the binary interface of the archive that is linked, and its library version as a
+ * number. A program compares them with what it was compiled with:
+ *     if (ivshm_abi_version() != IVSHM_ABI_VERSION) ..
+ *     if (ivshm_library_version() < IVSHM_LIBRARY_NUMBER) .. */
+uint32_t ivshm_abi_version(void);
+uint32_t ivshm_library_version(void);
 
 /* The handle of an end. Its one field is the library's. */
 typedef struct ivshm_end {
@@ -120,19 +144,20 @@ typedef struct ivshm_end {
 /* The handle of no end. */
 #define IVSHM_END_NONE { NULL }
 
-/* The answers. */
+/* The results. */
 enum {
     IVSHM_DONE = 0,
-    IVSHM_NO_END = 1,     /* the handle holds no end: it was freed, or none was made */
-    IVSHM_HAS_END = 2,    /* ivshm_end_new, ivshm_end_new_version: the handle holds an end already */
+    IVSHM_NO_END = 1,     /* the handle has no end: it was freed, or no end was made */
+    IVSHM_HAS_END = 2,    /* ivshm_end_new, ivshm_end_new_version: the handle has an end */
     IVSHM_CALL_OPEN = 3,  /* a call is open: make its steps first */
-    IVSHM_NO_CALL = 4,    /* no call is open: there is no access to make, begin another call */
-    IVSHM_NO_MEMORY = 5,  /* memory ran out */
+    IVSHM_NO_CALL = 4,    /* no call is open, so there is no access: begin another call */
+    IVSHM_NO_MEMORY = 5,  /* an allocation failed */
     IVSHM_BAD_CALL = 6,   /* ivshm_end_begin: none of the three calls */
-    IVSHM_SHORT_FRAME = 7,/* ivshm_end_offer: fewer than IVSHM_SHORTEST bytes; ivshm_end_offer_again: no frame was offered yet */
+    IVSHM_SHORT_FRAME = 7,/* ivshm_end_offer: too short; _again: no frame was offered yet */
     IVSHM_LONG_FRAME = 8, /* ivshm_end_offer: more than the MTU and 18 bytes */
-    IVSHM_SHORT_ROOM = 9, /* ivshm_end_frame, ivshm_end_bursts, ivshm_end_tail: what is to be copied doesn't fit */
-    /* why sizes make no end: the first that is wrong, after IVSHM_BAD_PEER, IVSHM_BAD_VERSION and IVSHM_BAD_VECTOR, in this order */
+    IVSHM_SHORT_ROOM = 9, /* the destination is too small for the copy */
+    /* why sizes make no end: the first fault, after IVSHM_BAD_PEER, IVSHM_BAD_VERSION and
+     * IVSHM_BAD_VECTOR, in this order */
     IVSHM_BAD_PEER = 10,     /* the peer isn't 0 or 1 */
     IVSHM_BAD_PEERS = 11,    /* the peers aren't 2 to 65,536 */
     IVSHM_BAD_TABLE = 12,    /* the State Table isn't whole pages of 4,096 bytes, one at least */
@@ -146,25 +171,25 @@ enum {
     /* why a walk found no device: the first fault in the order of the list */
     IVSHM_OTHER_DEVICE = 20,      /* Vendor and Device ID are another device's */
     IVSHM_BAD_CLASS = 21,         /* the Base Class isn't FFh */
-    IVSHM_OUT_OF_SPACE = 22,      /* a capability lies below 40h or passes the space */
-    IVSHM_LOOP = 23,              /* the list comes back to a capability */
-    IVSHM_BAD_VENDOR_LENGTH = 24, /* the vendor capability's length is none that there is */
+    IVSHM_OUT_OF_SPACE = 22,      /* a capability is below 40h, or goes past the space */
+    IVSHM_LOOP = 23,              /* the list returns to a capability */
+    IVSHM_BAD_VENDOR_LENGTH = 24, /* the vendor capability has a wrong length */
     IVSHM_NO_VENDOR = 25,         /* there is no vendor capability */
-    /* why some steps aren't taken at once */
-    IVSHM_OTHER_ACCESS = 26, /* reads were taken, or writes, and no count of such is told; or all before the index, and no word of a frame is next */
-    IVSHM_BAD_COUNT = 27,    /* no word, not whole words, or more than the count that is told */
+    /* why a burst isn't made */
+    IVSHM_OTHER_ACCESS = 26, /* no such burst comes next */
+    IVSHM_BAD_COUNT = 27,    /* no word, not whole words, or more than the burst has */
     /* why a version or a vector makes no end */
     IVSHM_BAD_VERSION = 28,  /* ivshm_end_new_version: the version isn't 1 to IVSHM_VERSION */
-    IVSHM_BAD_VECTOR = 29    /* ivshm_end_new, ivshm_end_new_version: the vector has more than 16 bits */
+    IVSHM_BAD_VECTOR = 29    /* ivshm_end_new, _new_version: the vector has over 16 bits */
 };
 
-/* The highest version of the link, and bounds; ivshm_limits tells the same numbers of the library that is linked. */
+/* The highest version of the link, and bounds. ivshm_limits returns those of the linked library. */
 #define IVSHM_VERSION 3
 #define IVSHM_PROTOCOL 1     /* ivshm_found.protocol of the link */
 #define IVSHM_LEAST_MTU 256
 #define IVSHM_MOST_MTU 65535
 #define IVSHM_SHORTEST 14    /* bytes of the shortest frame: an Ethernet header */
-#define IVSHM_LONGEST 65553  /* bytes of the longest frame of all: a room of so many takes any delivery */
+#define IVSHM_LONGEST 65553  /* bytes of the longest frame; such a room fits any delivery */
 #define IVSHM_LARGEST_REGION 16777216
 #define IVSHM_STACK 1024     /* bytes of stack that a call uses at most */
 
@@ -177,156 +202,196 @@ typedef struct ivshm_limit_values {
     uint32_t largest_region;
 } ivshm_limit_values;
 
-/* Tells the highest version, and bounds. */
+/* Writes the highest version and the bounds to *told. */
 void ivshm_limits(ivshm_limit_values *told);
 
 /* ---- the device and the region ---- */
 
-/* What a walk over the configuration space found. Sizes are in bytes. Without PCI, fill in common, out and table, and leave the rest 0. */
+/* The result of a walk over the configuration space. Sizes are in bytes. Without PCI, set common,
+ * out and table, and leave the rest 0. */
 typedef struct ivshm_found {
     uint64_t common;         /* the common section, which every peer may write; often 0 */
     uint64_t out;            /* each output section */
     uint64_t base;           /* where the region is in guest-physical memory, if has_base */
     uint32_t table;          /* the State Table */
-    uint32_t protocol;       /* Sub-Class << 8 | Interface. No call looks at it: leave a device alone if it isn't IVSHM_PROTOCOL */
-    uint32_t one_shot;       /* 1 where Privileged Control asks for one-shot mode */
-    uint32_t has_base;       /* 0: the region lies behind Base Address Register 2 */
-    uint32_t vectors;        /* of MSI-X; 0: there is no such capability, and interrupts come by INTx */
-    uint32_t vectors_bar;    /* the table of vectors: its Base Address Register, and the offset there */
+    uint32_t protocol;       /* Sub-Class << 8 | Interface: IVSHM_PROTOCOL (*) */
+    uint32_t one_shot;       /* 1 if Privileged Control sets one-shot mode */
+    uint32_t has_base;       /* 0: the region is at Base Address Register 2 */
+    uint32_t vectors;        /* of MSI-X; 0: no such capability, so INTx */
+    uint32_t vectors_bar;    /* the vectors' Base Address Register */
     uint32_t vectors_offset;
     uint32_t pending_bar;    /* the pending bits: the same */
     uint32_t pending_offset;
 } ivshm_found;
 
-/* Finds the device in the 256 bytes of a configuration space, which can't be trusted. The registers lie behind Base Address Register 0.
- * IVSHM_DONE and *found is filled, or one of IVSHM_OTHER_DEVICE to IVSHM_NO_VENDOR. */
+/* Finds the device in the 256 bytes of an untrusted configuration space. The registers are at Base
+ * Address Register 0. Returns IVSHM_DONE and fills *found, or returns one of IVSHM_OTHER_DEVICE to
+ * IVSHM_NO_VENDOR. (*) No call checks the protocol: don't use a device if its protocol isn't
+ * IVSHM_PROTOCOL. */
 uint32_t ivshm_walk(const uint8_t space[256], ivshm_found *found);
 
-/* The words of a region by name. Words have 4 bytes and are numbered from the base of the region. The State of peer p is word p. The output
- * section of peer p begins at word first + p * words; the words from available_index on count from the start of a section. Descriptor i has
- * the four words from 4 * i: the address's two, the length, then flags and next. */
+/* The words of a region by name. Words have 4 bytes and are numbered from the base of the region.
+ * The State of peer p is word p. The output section of peer p begins at word first + p * words. The
+ * words from available_index on count from the start of a section. Descriptor i is the four words
+ * from 4 * i: two of the address, the length, then flags and next. In version 3 a frame has no
+ * slot: its footprint is its length, rounded up to a multiple of 64, and frames are in flight up to
+ * queue_size if their bytes fit. */
 typedef struct ivshm_words {
     uint32_t first;
     uint32_t words;
     uint32_t queue_size;        /* descriptors, available entries, used elements */
-    uint32_t limit;             /* frames that may be in flight; in version 3 as many as queue_size, where their bytes have room */
-    uint32_t slot;              /* bytes of a slot, which holds a frame; in version 3 a frame takes its length, up to the next multiple of 64 */
-    uint32_t data_area;         /* byte of the section where the slots begin, or the ring of bytes */
+    uint32_t limit;             /* frames that may be in flight */
+    uint32_t slot;              /* bytes of a slot, which holds a frame */
+    uint32_t data_area;         /* byte of the section where slots or byte ring begin */
     uint32_t available_index;   /* flags in the low half, index in the high one */
     uint32_t available_entries; /* two entries a word, the even one in the low half */
     uint32_t used_event;        /* in the low half */
     uint32_t used_index;        /* flags in the low half, index in the high one */
     uint32_t used_elements;     /* two words an element: its id, its length */
     uint32_t available_event;   /* in the low half */
-    uint32_t longest_offer;     /* bytes of the longest frame that may be offered: the MTU and 18 */
-    uint32_t longest_delivery;  /* bytes of the longest frame that is taken from the other peer: its section and the format bound it */
+    uint32_t longest_offer;     /* most bytes of an offered frame: the MTU and 18 */
+    uint32_t longest_delivery;  /* most bytes of a delivered frame */
 } ivshm_words;
 
-/* Tells the words of a region of these sizes, which are the same in each version, but for what is said of the slots. IVSHM_DONE, or one of IVSHM_BAD_PEERS to IVSHM_NO_SLOT. */
+/* Returns the words of a region of these sizes. They are the same in each version, except for the
+ * slots. Returns IVSHM_DONE, or one of IVSHM_BAD_PEERS to IVSHM_NO_SLOT. */
 uint32_t ivshm_layout(const ivshm_found *found, uint32_t peers, uint32_t mtu, ivshm_words *layout);
 
 /* ---- memory ---- */
 
+#ifndef IVSHM_DEVICE_H
 /* A block of memory, or none. */
 struct rattle_block {
     uint64_t ok; /* 1: `at` is the block. 0: there is no memory, and `at` is any pointer but NULL */
     void *at;
 };
 
-/* The program defines these two functions, or links heap.c. The library calls rattle_alloc in
- * ivshm_end_new and ivshm_end_new_version alone, for six blocks: two of the longest frame that may
- * come, one of the longest frame that may be offered, one of two bytes for each descriptor, one of
- * four bytes for each frame that may be in flight, and one of some hundred bytes. rattle_alloc
- * returns a new block of `size` bytes, at least 1, at a multiple of `align`: 1, 2, 4, 8 or 16.
- * The library calls rattle_dealloc once for each block: in ivshm_end_free, and in
+/* The program defines these two functions, or links heap.c or storage.c. The library calls
+ * rattle_alloc in ivshm_end_new and ivshm_end_new_version alone, for six blocks. Two have the
+ * longest frame that may come, one the longest frame that may be offered, and one two bytes for
+ * each descriptor. One has four bytes for each frame that may be in flight, and one some hundred
+ * bytes. rattle_alloc returns a new block of `size` bytes, at least 1, at a multiple of `align`: 1,
+ * 2, 4, 8 or 16. The library calls rattle_dealloc once for each block: in ivshm_end_free, and in
  * ivshm_end_new and ivshm_end_new_version if a later block is missing. */
 struct rattle_block rattle_alloc(size_t size, size_t align);
 void rattle_dealloc(void *at);
+#endif
+
+/* MEMORY OF THE PROGRAM'S OWN. c/storage.c has the two functions over a static array, for programs
+ * without malloc. An end of any version needs at most IVSHM_END_BYTES of it, with the `words` that
+ * ivshm_layout wrote for its sizes, and at most IVSHM_LARGEST_END for the largest sizes. Both have
+ * room for six blocks at multiples of 16 with 16 bytes in front of each. The six blocks alone have,
+ * in version 3, for an output section and an MTU:
+ *
+ *     bytes of the section      MTU 256    MTU 1,500    MTU 9,000    MTU 65,535
+ *                   16,384       30,290       31,534       39,034          none
+ *                   65,536      119,762      121,006      128,506          none
+ *                  520,192      144,116      145,360      152,860       209,395
+ *                8,384,512      156,404      157,648      165,148       221,683
+ *
+ * c/sizes.c measures these numbers on the machine that it runs on, and checks/c_library runs it. */
+#define IVSHM_END_BYTES(words) \
+    (2 * (size_t)(words)->longest_delivery + (words)->longest_offer + 6 * (size_t)(words)->queue_size + 1024)
+#define IVSHM_LARGEST_END 222259
 
 /* ---- an end ---- */
 
-/* Makes the end of peer `me`, 0 or 1, of a region of these sizes: those that a walk found. `peers` is the Maximum Peers register. `mtu` bounds
- * the frames that this end offers. `vector` is the one by which the other peer is rung: 1 where it has two MSI-X vectors or more, else 0.
- * Afterwards the call is open whose one access is State 0. The link is of version 1.
- * IVSHM_DONE; or the handle is as it was, and the answer is the first of these that has its cause: IVSHM_HAS_END, IVSHM_BAD_PEER, IVSHM_BAD_VECTOR, one of
- * IVSHM_BAD_PEERS to IVSHM_NO_SLOT, IVSHM_NO_MEMORY. */
+/* Makes the end of peer `me`, 0 or 1, of a region of these sizes: those that a walk found. `peers`
+ * is the Maximum Peers register. `mtu` bounds the frames that this end offers. `vector` is the one
+ * by which the other peer is rung: 1 if it has two MSI-X vectors or more, else 0. Afterwards the
+ * call is open whose one access is State 0. The link is of version 1.
+ *
+ * Returns IVSHM_DONE. Otherwise the handle doesn't change, and the result is the first of these
+ * that applies: IVSHM_HAS_END, IVSHM_BAD_PEER, IVSHM_BAD_VECTOR, one of IVSHM_BAD_PEERS to
+ * IVSHM_NO_SLOT, IVSHM_NO_MEMORY. */
 uint32_t ivshm_end_new(ivshm_end *end, const ivshm_found *found, uint32_t peers, uint32_t me, uint32_t mtu, uint32_t vector);
 
-/* The same in a link of this version. Both ends have the same one: nothing in the region tells it.
+/* The same in a link of this version. Both ends have the same version; nothing in the region says
+ * which.
  *   1: an offer that publishes a frame rings.
- *   2: it rings where the other's event index asks for it. A poll that finds nothing, the first after frames or in a session, writes the own event
- *      and looks again: once it has found nothing then, the next frame rings. Both need the full fences that an access tells.
- *   3: as 2, and a frame takes as many bytes of the section as it has, up to the next multiple of 64: more short frames are in flight at once.
- * The answers of ivshm_end_new, and IVSHM_BAD_VERSION, which comes before IVSHM_BAD_VECTOR. */
+ *   2: an offer rings if the other's event index wants the doorbell. A poll that finds nothing, the
+ *      first after frames or in a session, writes its event index and looks again. If the second
+ *      look finds nothing, the next frame rings. Both need the full fences that an access requests.
+ *   3: as 2, but a frame occupies its length in bytes of the section, rounded up to a multiple of
+ *      64. So more short frames are in flight at once.
+ *
+ * The results of ivshm_end_new, and IVSHM_BAD_VERSION, which comes before IVSHM_BAD_VECTOR. */
 uint32_t ivshm_end_new_version(ivshm_end *end, const ivshm_found *found, uint32_t peers, uint32_t me, uint32_t mtu, uint32_t vector, uint32_t version);
 
-/* Frees the end. The handle is IVSHM_END_NONE then. Stop first, or write State 0 yourself.
- * IVSHM_DONE, IVSHM_NO_END. */
+/* Frees the end. The handle is IVSHM_END_NONE then. Stop first, or write State 0 yourself. Returns
+ * IVSHM_DONE or IVSHM_NO_END. */
 uint32_t ivshm_end_free(ivshm_end *end);
 
 /* The calls. */
 enum {
-    IVSHM_TICK = 0, /* looks at the other's State and moves on: every 10 ms, say, and when vector 0 comes */
-    IVSHM_POLL = 1, /* takes the frames that the other published */
+    IVSHM_TICK = 0, /* reads the other's State: every 10 ms, say, and on vector 0 */
+    IVSHM_POLL = 1, /* delivers the frames that the other published */
     IVSHM_STOP = 2  /* leaves the link: State 0 */
 };
 
-/* Begins a call. IVSHM_DONE, IVSHM_NO_END, IVSHM_BAD_CALL, IVSHM_CALL_OPEN. */
+/* Begins a call. Returns IVSHM_DONE, IVSHM_NO_END, IVSHM_BAD_CALL or IVSHM_CALL_OPEN. */
 uint32_t ivshm_end_begin(ivshm_end *end, uint32_t call);
 
-/* Begins an offer of this frame, which is copied at once, in whatever State. Its outcome is told by the notes, and by ivshm_end_view.
- * A link that is full costs an offer one access: offer the frame again after the other peer had time to poll, by ivshm_end_offer_again. So too a frame
- * whose offer was down: offer it again in RUN.
- * IVSHM_DONE, IVSHM_NO_END, IVSHM_SHORT_FRAME, IVSHM_LONG_FRAME, IVSHM_CALL_OPEN. */
+/* Begins an offer of this frame, which is copied at once, in any State. The notes and
+ * ivshm_end_view give its outcome. If the link is full, an offer costs one access: offer the frame
+ * again by ivshm_end_offer_again after the other peer had time to poll. If the end wasn't in RUN,
+ * offer it again in RUN. Returns IVSHM_DONE, IVSHM_NO_END, IVSHM_SHORT_FRAME, IVSHM_LONG_FRAME or
+ * IVSHM_CALL_OPEN. */
 uint32_t ivshm_end_offer(ivshm_end *end, const uint8_t *frame, size_t length);
 
-/* Begins an offer of the frame offered last, which is still here and isn't copied: the last one for which ivshm_end_offer answered IVSHM_DONE, in whatever
- * State that was and whatever came of it. It stays until another is offered: through all other calls, refusals, sessions and resets.
- * IVSHM_DONE, IVSHM_NO_END, IVSHM_SHORT_FRAME (no frame was offered yet), IVSHM_CALL_OPEN. */
+/* Begins an offer of the last frame for which ivshm_end_offer returned IVSHM_DONE, in any State and
+ * with any outcome. The library still has that frame, and doesn't copy it again. It has it until
+ * another frame is offered: through all other calls, refusals, sessions and resets. Returns
+ * IVSHM_DONE, IVSHM_NO_END, IVSHM_SHORT_FRAME (no frame was offered yet) or IVSHM_CALL_OPEN. */
 uint32_t ivshm_end_offer_again(ivshm_end *end);
 
 /* An access of an open call. */
 enum {
-    IVSHM_NOTHING = 0, /* none: hand 0 to ivshm_end_took. An offer or a poll outside RUN has this one step */
-    IVSHM_READ = 1,    /* read `word`, and hand its value over. `value` is 0 */
-    IVSHM_WRITE = 2,   /* write `value` to `word`, which is in the own section */
-    IVSHM_STATE = 3,   /* write `value` to the own State. `word` is 0 */
-    IVSHM_RING = 4     /* ring the peer `word` by the vector `value`, after all stores before it: the index that it announces is one of them */
+    IVSHM_NOTHING = 0, /* none: the one step of an offer or poll outside RUN */
+    IVSHM_READ = 1,    /* read `word`. `value` is 0 */
+    IVSHM_WRITE = 2,   /* write `value` to `word`, which is in your section */
+    IVSHM_STATE = 3,   /* write `value` to your State. `word` is 0 */
+    IVSHM_RING = 4     /* ring peer `word` by vector `value`, after all stores before */
 };
 
-/* The order of an access with those before and after it, for whom makes them weaker than sequentially consistent (docs/ORDERS.md). */
+/* The order of an access relative to those before and after it, for a caller that performs accesses
+ * weaker than sequentially consistent ones (docs/ORDERS.md). IVSHM_ACQUIRE is the order of loads of
+ * the other's State and of indices. IVSHM_RELEASE is that of stores of your State, of indices and
+ * of the doorbell. */
 enum {
-    IVSHM_RELAXED = 0, /* it may go to memory sooner or later than its neighbours */
-    IVSHM_ACQUIRE = 1, /* a load before all accesses that follow it: the other's State, and the indices that are read */
-    IVSHM_RELEASE = 2  /* a store after all accesses before it: the own State, the indices that are written, and the doorbell */
+    IVSHM_RELAXED = 0, /* it may move before or after its neighbours */
+    IVSHM_ACQUIRE = 1, /* a load before all accesses that follow it */
+    IVSHM_RELEASE = 2  /* a store after all accesses before it */
 };
 
 typedef struct ivshm_access {
     uint32_t kind;
     uint32_t word;
     uint32_t value;
-    uint32_t count;        /* IVSHM_READ, IVSHM_WRITE: so many words from `word` on may be read or written at once; 0: this one alone */
+    uint32_t count;        /* of IVSHM_READ, IVSHM_WRITE: length of the burst; 0: no burst */
     uint32_t order;        /* IVSHM_RELAXED, _ACQUIRE or _RELEASE */
-    uint32_t fence_before; /* 1: a full fence stands right before the access */
-    uint32_t fence_after;  /* 1: a full fence stands right after it */
+    uint32_t fence_before; /* 1: a full fence comes right before the access */
+    uint32_t fence_after;  /* 1: a full fence comes right after it */
 } ivshm_access;
 
-/* Tells the next access of the open call, as often as it is asked. IVSHM_DONE, IVSHM_NO_END, IVSHM_NO_CALL. */
+/* Returns the next access of the open call, any number of times. A burst begins at `word` and has
+ * `count` words, which may be read or written at once. Returns IVSHM_DONE, IVSHM_NO_END or
+ * IVSHM_NO_CALL. */
 uint32_t ivshm_end_next(ivshm_end *end, ivshm_access *access);
 
 /* The notes of a step, by the words of a record (docs/FORMATS.md). */
 enum {
-    IVSHM_OVER = 0,    /* over: the call is over */
+    IVSHM_OVER = 0,    /* over: the call has ended */
     IVSHM_SAW = 1,     /* saw: the other's State was `value` */
     IVSHM_RECLAIM = 2, /* reclaim: an offer found `value` frames returned */
-    IVSHM_FULL = 3,    /* full: the frame that is offered has no room; the offer is over */
+    IVSHM_FULL = 3,    /* full: the frame offered doesn't fit; the offer has ended */
     IVSHM_ACCEPT = 4,  /* accept: the frame offered is published */
     IVSHM_LOOK = 5,    /* look: a poll found `value` frames */
-    IVSHM_DELIVER = 6, /* deliver: a frame was read whole; ivshm_end_frame copies it until the next IVSHM_DELIVER, and it is in the words that were read at once */
-    IVSHM_RETURN = 7,  /* return: a frame's slot was handed back */
-    IVSHM_FINISH = 8,  /* done: the poll is over */
-    IVSHM_DOWN = 9,    /* down: the call was made outside RUN; it is over */
-    IVSHM_REFUSE = 10  /* refuse: `field` had `value`, which is out of its range; State 0 follows, and the end stays in RESET */
+    IVSHM_DELIVER = 6, /* deliver: a frame was read whole (ivshm_end_frame) */
+    IVSHM_RETURN = 7,  /* return: a frame was returned to the other */
+    IVSHM_FINISH = 8,  /* done: the poll has ended */
+    IVSHM_DOWN = 9,    /* down: the call was made outside RUN; it has ended */
+    IVSHM_REFUSE = 10  /* refuse: `field` had `value`, out of range; State 0 is next */
 };
 
 /* The field of a refusal, by the names of a record. */
@@ -351,94 +416,127 @@ typedef struct ivshm_notes {
     ivshm_note note[2];
 } ivshm_notes;
 
-/* Takes the step of the access that ivshm_end_next told. `value` is what a read gave, and 0 for any other access, which makes no use of it.
- * IVSHM_DONE, IVSHM_NO_END, IVSHM_NO_CALL. */
+/* Completes the access that ivshm_end_next returned. `value` is the value of a read. For any other
+ * access it is 0, and ignored. Returns IVSHM_DONE, IVSHM_NO_END or IVSHM_NO_CALL. */
 uint32_t ivshm_end_took(ivshm_end *end, uint32_t value, ivshm_notes *notes);
 
-/* SOME STEPS AT ONCE. Where ivshm_end_next tells a count, the accesses that come are reads, or writes, of `word` and the words after it, all of them
- * relaxed, and none before the last has a note: the words of a frame, of a descriptor, of a used element, or those that a Tick clears. Take all of
- * them at once, or some, or go on by single steps: it is the same. Each word is still read once, into memory of your own, and written once. */
+/* BURSTS. If the access has a count, the next accesses are reads, or writes, of `word` and the
+ * words after it. All are relaxed, and none before the last has a note: the words of a frame, of a
+ * descriptor, of a used element, or those that a Tick clears. Complete all of them at once, or a
+ * part, or make single steps: the result is the same. Each word is still read once, into memory of
+ * your own, and written once. */
 
-/* Takes the steps of size / 4 reads: `words` has what each gave, as four bytes, the lowest first. The notes are those of the last.
- * Where a read with a count is told, and the access before, the last of a descriptor, was none, it is that of the first word of a frame, and `count` is all
- * its words. Where these are handed over at once, the first view.delivered bytes of them (ivshm_end_view) are the frame that is delivered, and
- * ivshm_end_frame need not be called.
- * IVSHM_DONE; or the end and the notes are as they were: IVSHM_NO_END, IVSHM_NO_CALL, IVSHM_OTHER_ACCESS, IVSHM_BAD_COUNT. */
+/* Completes size / 4 reads. `words` has the value of each, as four bytes, the lowest first. The
+ * notes are those of the last read.
+ *
+ * A read with a count after an access without one, the last of a descriptor, is that of the first
+ * word of a frame. Its `count` is all the frame's words. If these are passed at once, their first
+ * view.delivered bytes (ivshm_end_view) are the frame delivered, and ivshm_end_frame needn't be
+ * called.
+ *
+ * Returns IVSHM_DONE. Otherwise the end and the notes don't change: IVSHM_NO_END, IVSHM_NO_CALL,
+ * IVSHM_OTHER_ACCESS, IVSHM_BAD_COUNT. */
 uint32_t ivshm_end_took_reads(ivshm_end *end, const uint8_t *words, size_t size, ivshm_notes *notes);
 
-/* Tells the size / 4 words that are to be written next, as four bytes each, the lowest first. Write them, and then call ivshm_end_took_writes.
- * IVSHM_DONE; or `into` is as it was: IVSHM_NO_END, IVSHM_NO_CALL, IVSHM_OTHER_ACCESS, IVSHM_BAD_COUNT. */
+/* Writes the next size / 4 words to `into`, as four bytes each, the lowest first. Write them to the
+ * region, and then call ivshm_end_took_writes. Returns IVSHM_DONE. Otherwise `into` doesn't change:
+ * IVSHM_NO_END, IVSHM_NO_CALL, IVSHM_OTHER_ACCESS, IVSHM_BAD_COUNT. */
 uint32_t ivshm_end_words(ivshm_end *end, uint8_t *into, size_t size);
 
-/* Takes the steps of so many writes, which have no notes.
- * IVSHM_DONE; or the end is as it was: IVSHM_NO_END, IVSHM_NO_CALL, IVSHM_OTHER_ACCESS, IVSHM_BAD_COUNT. */
+/* Completes `count` writes, which have no notes. Returns IVSHM_DONE. Otherwise the end doesn't
+ * change: IVSHM_NO_END, IVSHM_NO_CALL, IVSHM_OTHER_ACCESS, IVSHM_BAD_COUNT. */
 uint32_t ivshm_end_took_writes(ivshm_end *end, uint32_t count);
 
-/* ALL BEFORE THE INDEX. What an offer writes before its index has no notes: the words of the frame, the four of its descriptor and the one with its entry.
- * They may be written at once, in any order: all of them are relaxed, and the index, whose access comes next, releases them. */
+/* ALL BEFORE THE INDEX. The writes of an offer before its index have no notes: the words of the
+ * frame, the four of its descriptor and the one with its available entry. They may be made at once,
+ * in any order: all are relaxed, and the index, the next access, releases them. */
 
-/* Words that come one after the other: the number of the first, and how many. */
+/* Consecutive words: the number of the first, and how many there are. */
 typedef struct ivshm_burst {
     uint32_t word;
     uint32_t count;
 } ivshm_burst;
 
-/* Tells the words that the open offer writes before its index, where a word of its frame is next: bursts[0] are those that are left of the frame, [1]
- * those of its descriptor and [2] that of its entry. They stand at the front of `room` then, in this order, as four bytes each, the lowest first: for
- * a frame 4 * (count + 5) bytes, with the count of the access. Write them, and then call ivshm_end_took_bursts.
- * IVSHM_DONE; or the bursts and the room are as they were: IVSHM_NO_END, IVSHM_NO_CALL, IVSHM_OTHER_ACCESS (no word of a frame is next),
- * IVSHM_SHORT_ROOM. */
+/* Returns the words that the open offer writes before its index, if a word of its frame is next.
+ * bursts[0] is the rest of the frame, bursts[1] its descriptor and bursts[2] its entry. `room`
+ * begins with their values in this order, as four bytes each, the lowest first: for a frame 4 *
+ * (count + 5) bytes, with the count of the access. Write them to the region, and then call
+ * ivshm_end_took_bursts.
+ *
+ * Returns IVSHM_DONE. Otherwise the bursts and the room don't change: IVSHM_NO_END, IVSHM_NO_CALL,
+ * IVSHM_OTHER_ACCESS (no word of a frame is next), IVSHM_SHORT_ROOM. */
 uint32_t ivshm_end_bursts(ivshm_end *end, ivshm_burst bursts[3], uint8_t *room, size_t size);
 
-/* Tells the same bursts, and puts the words of the descriptor and of the entry alone at the front of `room`, 20 bytes; the rest of it stays. The words
- * of the frame are the last bursts[0].count ones of the frame that was handed to ivshm_end_offer last, as four bytes each, with 0 after its last byte:
- * write them from there, where you have it still. So the library's own copy of the frame is read no more. Then call ivshm_end_took_bursts.
- * IVSHM_DONE; or the bursts and the room are as they were: IVSHM_NO_END, IVSHM_NO_CALL, IVSHM_OTHER_ACCESS (no word of a frame is next),
- * IVSHM_SHORT_ROOM (size < 20). */
+/* Returns the same bursts, and writes only the words of the descriptor and of the entry to the
+ * first 20 bytes of `room`. The words of the frame are the last bursts[0].count ones of the frame
+ * passed to ivshm_end_offer last, as four bytes each, with 0 after its last byte. Write them from
+ * your own copy, if you still have it: then the library's copy isn't read again. Then call
+ * ivshm_end_took_bursts.
+ *
+ * Returns IVSHM_DONE. Otherwise the bursts and the room don't change: IVSHM_NO_END, IVSHM_NO_CALL,
+ * IVSHM_OTHER_ACCESS (no word of a frame is next), IVSHM_SHORT_ROOM (size < 20). */
 uint32_t ivshm_end_tail(ivshm_end *end, ivshm_burst bursts[3], uint8_t *room, size_t size);
 
-/* Takes the steps of all these writes, which have no notes, where ivshm_end_bursts or ivshm_end_tail told them.
- * IVSHM_DONE; or the end is as it was: IVSHM_NO_END, IVSHM_NO_CALL, IVSHM_OTHER_ACCESS. */
+/* Completes all these writes, which have no notes, after ivshm_end_bursts or ivshm_end_tail.
+ * Returns IVSHM_DONE. Otherwise the end doesn't change: IVSHM_NO_END, IVSHM_NO_CALL,
+ * IVSHM_OTHER_ACCESS. */
 uint32_t ivshm_end_took_bursts(ivshm_end *end);
 
 /* The states, as in the State Table. */
 enum {
     IVSHM_RESET = 0, /* no link */
-    IVSHM_INIT = 1,  /* waits for the other to be here */
+    IVSHM_INIT = 1,  /* waits for the other */
     IVSHM_READY = 2, /* its section is clear */
-    IVSHM_RUN = 3    /* frames go */
+    IVSHM_RUN = 3    /* frames are exchanged */
 };
 
-/* What came of the last offer. */
+/* The outcome of the last offer. */
 enum {
     IVSHM_NEVER = 0,    /* nothing was offered yet */
     IVSHM_OPEN = 1,     /* its call is open, and the frame isn't published yet */
     IVSHM_ACCEPTED = 2, /* the frame is published */
-    IVSHM_WAS_FULL = 3, /* there was no room: offer it again later */
-    IVSHM_REFUSED = 4,  /* the other's value was refused meanwhile */
+    IVSHM_WAS_FULL = 3, /* the frame doesn't fit: offer it again later */
+    IVSHM_REFUSED = 4,  /* a value of the other was refused meanwhile */
     IVSHM_WAS_DOWN = 5, /* the end wasn't in RUN */
-    IVSHM_CUT = 6       /* ivshm_end_reset came before it was published */
+    IVSHM_CUT = 6       /* ivshm_end_reset came before the publication */
 };
 
 typedef struct ivshm_view {
-    uint64_t refused_value; /* what the end refused since its reset */
+    uint64_t refused_value; /* the value refused since the end's reset */
     uint64_t delivered;     /* bytes of the frame delivered last; 0 before the first */
     uint32_t refused_field; /* 0: nothing */
-    uint32_t state;         /* the State that the end wrote last, but for a call that is open */
+    uint32_t state;         /* the State that the end wrote last, apart from an open call */
     uint32_t busy;          /* 1: a call is open */
     uint32_t outcome;       /* of the last offer */
     uint32_t longest;       /* bytes of the longest frame that may be offered */
 } ivshm_view;
 
-/* Tells how the end stands. IVSHM_DONE, IVSHM_NO_END. */
+/* Returns the state of the end. Returns IVSHM_DONE or IVSHM_NO_END. */
 uint32_t ivshm_end_view(ivshm_end *end, ivshm_view *view);
 
-/* Copies the frame delivered last to the front of `room`, which has `size` bytes, where it fits, and tells its length. The frame stays until
- * the next IVSHM_DELIVER, through resets too. IVSHM_DONE, IVSHM_NO_END, IVSHM_SHORT_ROOM (the length is told, nothing is copied). */
+/* The counts of an end since it was made, through sessions, refusals and resets. Each is modulo
+ * 2^64. They count the notes of the steps, so a step counts as soon as it is made. */
+typedef struct ivshm_counts {
+    uint64_t sessions;  /* times that its State became IVSHM_READY, by which a session opens */
+    uint64_t accepted;  /* IVSHM_ACCEPT: frames that it published */
+    uint64_t full;      /* IVSHM_FULL: offers that found no room */
+    uint64_t down;      /* IVSHM_DOWN: offers and polls outside RUN */
+    uint64_t delivered; /* IVSHM_DELIVER: frames that it delivered */
+    uint64_t refused;   /* IVSHM_REFUSE: values that it refused */
+} ivshm_counts;
+
+/* Writes the counts of the end into *counts, in an open call too.
+ * IVSHM_DONE; or *counts is as it was: IVSHM_NO_END. */
+uint32_t ivshm_end_counts(ivshm_end *end, ivshm_counts *counts);
+
+/* Copies the frame delivered last to the front of `room`, which has `size` bytes, if it fits, and
+ * sets `length` to its length. The frame stays until the next IVSHM_DELIVER, through resets too.
+ * IVSHM_DONE, IVSHM_NO_END, IVSHM_SHORT_ROOM (the length is set, nothing is copied). */
 uint32_t ivshm_end_frame(ivshm_end *end, uint8_t *room, size_t size, size_t *length);
 
-/* The end's own device was reset: the open call is cut, and what was refused is forgotten. The frames offered last and delivered last stay. Afterwards
- * the call is open whose one access is State 0. IVSHM_DONE, IVSHM_NO_END. */
+/* Resets the end after a reset of its own device: the open call ends, and the refused value is
+ * forgotten. The frames offered last and delivered last remain. Afterwards the call is open whose
+ * one access is State 0. Returns IVSHM_DONE or IVSHM_NO_END. */
 uint32_t ivshm_end_reset(ivshm_end *end);
 
 #ifdef __cplusplus

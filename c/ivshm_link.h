@@ -7,6 +7,7 @@
  *     ivshm_link_poll(&link, budget)            when the other vector comes, and every 10 ms
  *     ivshm_link_send(&link, frame, length, &outcome)
  *     ivshm_link_reset(&link)                   the device was reset; or a refusal is forgiven
+ *     ivshm_link_list(&link, list)              the counts, for `ethtool -S`
  *     ivshm_link_close(&link)                   leaves the link and frees the end
  *
  * One call at a time uses a link. None of them waits.
@@ -40,7 +41,7 @@
 
 #define IVSHM_LINK_ALL 0xffffffffu /* the budget of a poll that takes all frames */
 
-/* What the program gives. Functions that aren't needed are NULL. */
+/* What the program provides. Functions that aren't needed are NULL. */
 typedef struct ivshm_link_setup {
     ivshm_found found; /* what ivshm_walk found */
     uint32_t peers;    /* the Maximum Peers register */
@@ -72,7 +73,10 @@ typedef struct ivshm_link_setup {
     void (*noted)(void *context, const ivshm_note *note, const uint8_t *frame, size_t length);
 } ivshm_link_setup;
 
-/* Counts since ivshm_link_open. */
+/* Counts since ivshm_link_open. The library counts frames, offers and refusals too
+ * (ivshm_end_counts), with equal numbers. These are here because a poll with a budget compares
+ * `delivered` after each step, where a call would cost more than the step, and because the library
+ * counts no bytes, accesses and doorbells, and no refusals by field. */
 typedef struct ivshm_link_counts {
     uint64_t accesses;        /* words, States and doorbells */
     uint64_t steps;           /* calls of ivshm_end_next */
@@ -88,6 +92,14 @@ typedef struct ivshm_link_counts {
     uint64_t refused[8];      /* the same by field: IVSHM_AVAIL_INDEX to IVSHM_USED_ID */
     uint64_t stray;           /* accesses outside the link, which aren't made: always 0 */
 } ivshm_link_counts;
+
+/* One of the counts with its name, for a list as that of `ethtool -S`. */
+typedef struct ivshm_link_count {
+    const char *name; /* at most 31 characters */
+    uint64_t value;
+} ivshm_link_count;
+
+#define IVSHM_LINK_LIST 18 /* the counts of ivshm_link_list */
 
 typedef struct ivshm_link {
     ivshm_end end;
@@ -173,7 +185,7 @@ static inline void ivshm_link_report(ivshm_link *link, uint32_t kind, const ivsh
     }
 }
 
-/* Makes an access by itself, and returns what a read gave. */
+/* Makes an access by itself, and returns the value read. */
 static inline uint32_t ivshm_link_single(ivshm_link *link, const ivshm_access *access) {
     const ivshm_link_setup *setup = &link->setup;
     switch (access->kind) {
@@ -188,7 +200,7 @@ static inline uint32_t ivshm_link_single(ivshm_link *link, const ivshm_access *a
         ivshm_link_store(&setup->own_section[access->word - link->own], access);
         return 0;
     case IVSHM_STATE:
-        /* the register is no word: fences order it with the words on both sides */
+        /* the register is no word of the region: fences order it with the words before and after */
         ivshm_link_fence();
         setup->write_state(setup->context, access->value);
         ivshm_link_fence();
@@ -291,7 +303,7 @@ static inline void ivshm_link_delivered(ivshm_link *link, const ivshm_note *note
     if (setup->deliver) setup->deliver(setup->context, (const uint8_t *)setup->room, length);
 }
 
-/* Does what a note asks for. */
+/* Handles a note. */
 static inline void ivshm_link_heed(ivshm_link *link, const ivshm_note *note) {
     ivshm_link_setup *setup = &link->setup;
     switch (note->kind) {
@@ -351,9 +363,9 @@ static inline uint32_t ivshm_link_call(ivshm_link *link, uint32_t which) {
 }
 
 /* Makes the end of a mapped region, and writes State 0. Afterwards tick until the state is
- * IVSHM_RUN. *setup is copied. IVSHM_DONE, IVSHM_SHORT_ROOM if the room has no place for a frame of
- * the other peer, IVSHM_OTHER_DEVICE if the device's protocol is another one, or an answer of
- * ivshm_end_new_version. Without PCI the protocol is to be IVSHM_PROTOCOL too. */
+ * IVSHM_RUN. *setup is copied. Returns IVSHM_DONE, IVSHM_SHORT_ROOM if a frame of the other peer
+ * doesn't fit into the room, IVSHM_OTHER_DEVICE if the device's protocol is another one, or a
+ * result of ivshm_end_new_version. Without PCI the protocol must be IVSHM_PROTOCOL too. */
 static inline uint32_t ivshm_link_open(ivshm_link *link, const ivshm_link_setup *setup) {
     uint32_t answer;
     memset(link, 0, sizeof *link);
@@ -372,10 +384,10 @@ static inline uint32_t ivshm_link_open(ivshm_link *link, const ivshm_link_setup 
 /* Whether a poll that stopped at its budget is open still. */
 static inline int ivshm_link_is_open(const ivshm_link *link) { return link->polling != 0; }
 
-/* Looks at the other's State and moves on. IVSHM_DONE, or IVSHM_CALL_OPEN if a poll is open. */
+/* Reads the other's State. Returns IVSHM_DONE, or IVSHM_CALL_OPEN if a poll is open. */
 static inline uint32_t ivshm_link_tick(ivshm_link *link) { return ivshm_link_call(link, IVSHM_TICK); }
 
-/* Delivers `budget` frames at most, and returns their number. If it is less than the budget the
+/* Delivers at most `budget` frames, and returns their number. If it is less than the budget the
  * poll is over. */
 static inline uint32_t ivshm_link_poll(ivshm_link *link, uint32_t budget) {
     uint64_t before = link->counts.delivered;
@@ -386,7 +398,7 @@ static inline uint32_t ivshm_link_poll(ivshm_link *link, uint32_t budget) {
 }
 
 /* Offers a frame. *outcome is IVSHM_ACCEPTED, IVSHM_WAS_FULL (send it again after the other peer
- * had time to poll), IVSHM_WAS_DOWN or IVSHM_REFUSED. IVSHM_DONE, or an answer of
+ * had time to poll), IVSHM_WAS_DOWN or IVSHM_REFUSED. Returns IVSHM_DONE, or a result of
  * ivshm_end_offer: IVSHM_CALL_OPEN if a poll is open, IVSHM_SHORT_FRAME, IVSHM_LONG_FRAME. */
 static inline uint32_t ivshm_link_send(ivshm_link *link, const uint8_t *frame, size_t length, uint32_t *outcome) {
     uint32_t answer = ivshm_end_offer(&link->end, frame, length);
@@ -398,6 +410,35 @@ static inline uint32_t ivshm_link_send(ivshm_link *link, const uint8_t *frame, s
     *outcome = link->outcome;
     link->frame = NULL;
     return answer;
+}
+
+/* Writes the counts of the link with their names, in a fixed order: first those of the library, of
+ * which `sessions` counts the times that the end came to READY. IVSHM_DONE, or IVSHM_NO_END after
+ * ivshm_link_close. */
+static inline uint32_t ivshm_link_list(ivshm_link *link, ivshm_link_count list[IVSHM_LINK_LIST]) {
+    static const char *const names[IVSHM_LINK_LIST] = {
+        "sessions", "tx_frames", "tx_full", "down", "rx_frames", "refused", "tx_bytes", "rx_bytes", "sessions_running", "doorbells", "accesses",
+        "refused_avail_index", "refused_avail_entry", "refused_desc_address", "refused_desc_length", "refused_desc_flags", "refused_used_index",
+        "refused_used_id",
+    };
+    const ivshm_link_counts *own = &link->counts;
+    ivshm_counts end;
+    uint32_t answer = ivshm_end_counts(&link->end, &end);
+    if (answer != IVSHM_DONE) return answer;
+    for (uint32_t i = 0; i < IVSHM_LINK_LIST; i++) list[i].name = names[i];
+    list[0].value = end.sessions;
+    list[1].value = end.accepted;
+    list[2].value = end.full;
+    list[3].value = end.down;
+    list[4].value = end.delivered;
+    list[5].value = end.refused;
+    list[6].value = own->accepted_bytes;
+    list[7].value = own->delivered_bytes;
+    list[8].value = own->sessions;
+    list[9].value = own->rings;
+    list[10].value = own->accesses;
+    for (uint32_t field = IVSHM_AVAIL_INDEX; field <= IVSHM_USED_ID; field++) list[10 + field].value = own->refused[field];
+    return IVSHM_DONE;
 }
 
 /* Begins anew after a reset of the device, or after a refusal. A poll that is open is cut. */

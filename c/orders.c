@@ -1,19 +1,24 @@
-/* orders RUNS STEPS SEED [--version 2] [--without ROW]: random runs of two ends over a memory that is weaker than sequentially consistent, with each
- * access in the order that the library tells of it. ROW takes one order away: state-release, state-fence, state-acquire, available-release,
- * available-acquire, used-release, used-acquire, doorbell-release, and in a link of version 2 event-store-fence or event-load-fence. It ends with 0
- * where each run was as it is to be, and with 1 at the first that isn't.
+/* orders RUNS STEPS SEED [--version 2] [--without ROW]: random runs of two ends over a memory that
+ * is weaker than sequentially consistent. Each access has the order that the library gives it. ROW
+ * removes one order: state-release, state-fence, state-acquire, available-release,
+ * available-acquire, used-release, used-acquire, doorbell-release, and in a link of version 2
+ * event-store-fence or event-load-fence. The program ends with 0 if each run was as expected, and
+ * with 1 at the first that wasn't.
  *
- * The memory: each word has a list of messages. A store adds one; a load may give any message that its thread's view doesn't rule out, and the view
- * goes on to it. A releasing store carries its thread's view along, and an acquiring load takes over the view that its message carries. A full fence
- * joins the thread's view with that of all fences before it. Loads don't see stores that come later. Each word has one writer and one reader. A
- * doorbell is a store too: if it is a releasing one it carries its thread's view, and the interrupt takes over what came with it, at any later step of
- * the peer that is rung. Doorbells that were rung until then come as one. In most runs no interrupt comes, so that nothing else is hidden by what it
- * carries.
+ * The memory: each word has a list of messages. A store adds one. A load may return any message
+ * that its thread's view allows, and moves the view to it. A releasing store has its thread's view,
+ * and an acquiring load joins the view of its message. A full fence joins the thread's view with
+ * that of all fences before it. Loads don't see later stores. Each word has one writer and one
+ * reader. A doorbell is a store too: a releasing one has its thread's view, which the interrupt
+ * joins at any later step of the peer that is rung. Doorbells rung until then are delivered as one.
+ * In most runs no interrupt is delivered, so that its view hides nothing else.
  *
- * What is to hold: nothing is refused; and in each of its sessions an end delivers a beginning of what the other accepted in one session, whole, in
- * order, each session of the other once at most, and these rising. What a doorbell announces is found after its interrupt: a look finds the frames that
- * were accepted before it was rung, and an offer the frames that were returned. And in a link of version 2 no doorbell is lost: where the last look of a
- * poll found nothing, the other's next frame in that session rings. */
+ * What must hold: nothing is refused. In each of its sessions an end delivers a prefix of what the
+ * other accepted in one session, whole and in order. It delivers from each session of the other at
+ * most once, and from rising ones. What a doorbell announces is found after its interrupt: a look
+ * finds the frames that were accepted before the doorbell, and an offer the frames that were
+ * returned. And in a link of version 2 no doorbell is lost: if the last look of a poll found
+ * nothing, the other's next frame in that session rings. */
 #include <inttypes.h>
 #include <stdbool.h>
 #include <stdio.h>
@@ -29,7 +34,7 @@ enum row { NONE, STATE_RELEASE, STATE_FENCE, STATE_ACQUIRE, AVAILABLE_RELEASE, A
 static const char *const rows[ROWS] = {"none", "state-release", "state-fence", "state-acquire", "available-release", "available-acquire",
                                        "used-release", "used-acquire", "doorbell-release", "event-store-fence", "event-load-fence"};
 
-struct view { uint32_t at[WORDS]; }; /* the number of the oldest message of each word that may be read still */
+struct view { uint32_t at[WORDS]; }; /* the oldest message of each word that may be read */
 
 struct message {
     uint32_t value;
@@ -37,27 +42,33 @@ struct message {
 };
 
 struct word {
-    uint32_t first, count, room; /* the number of the first message kept, and how many there are */
+    uint32_t first, count, room; /* the number of the first message stored, and how many there
+                                  * are */
     struct message *list;
 };
 
-/* What a doorbell announces: the frames that its peer accepted in its session, and those that it returned of the session that it attends. */
+/* What a doorbell announces: the frames that its peer accepted in its session, and those that it
+ * returned of the session that it attends. */
 struct news { uint32_t session, accepted, attended, returned; };
 
 struct peer {
     ivshm_end end;
     struct view view;
-    struct view carried;        /* by the doorbells that were rung for it and whose interrupt hasn't come */
-    struct news rung, heard;    /* what the last of them announces, and what the last doorbell whose interrupt came */
-    bool due;                   /* an interrupt is to come */
-    uint32_t freed, returned;   /* frames that it found returned in its session; those of the other that it returned */
-    uint32_t me, own, theirs, ready, accepted[SESSIONS]; /* `ready`: sessions of its own so far; `accepted`: frames in each */
-    uint32_t attended, taken, last;                      /* the other's session whose frames it takes, how many, and the one before */
+    struct view carried;        /* by the doorbells whose interrupt isn't delivered yet */
+    struct news rung, heard;    /* the news of the last doorbell rung, and of the last delivered */
+    bool due;                   /* an interrupt is due */
+    uint32_t freed, returned;   /* its frames found returned; the other's frames returned */
+    uint32_t me, own, theirs, ready, accepted[SESSIONS]; /* sessions of its own so far; frames in
+                                                          * each */
+    uint32_t attended, taken, last;                      /* the other's session, its frames
+                                                          * delivered, the one before */
     uint8_t offered[300];                                /* the frame of its open offer, and its length */
     size_t length;
     bool reading;                                        /* its last step read words of a frame */
-    bool fencing, fenced;                                /* a full fence is due after its last access, or was made before the next: a step of its own */
-    bool rests, silent[FLIGHT];                          /* its last poll found nothing in the end; its frames, by their numbers, that didn't ring */
+    bool fencing, fenced;                                /* a full fence is due after its last
+                                                          * access, or was made before the next */
+    bool rests, silent[FLIGHT];                          /* its last poll found nothing; the frames
+                                                          * that didn't ring */
 };
 
 static struct word region[WORDS];
@@ -67,8 +78,9 @@ static ivshm_words layout;
 static enum row without;
 static uint32_t version = 1;
 static uint64_t generator, delivered, sessions, rests, silences, rings;
-static uint32_t resets, ticks; /* one step in so many is a reset, and one call in so many a Tick: drawn for each run */
-static uint32_t hears;         /* an interrupt that is due comes at one step in so many, or at none in this run: drawn too */
+static uint32_t resets, ticks; /* one step of this number is a reset, or one call a Tick: drawn for
+                                * each run */
+static uint32_t hears;         /* one step of this number delivers a due interrupt; 0 means none */
 static const char *wrong;
 
 static uint32_t draw(uint32_t below) {
@@ -101,7 +113,7 @@ static void store(struct peer *p, uint32_t at, uint32_t value, bool release) {
     *m->carried = p->view;
 }
 
-/* The newest message in half of all loads, and else any. */
+/* Returns the newest message in half of all loads, and otherwise any message. */
 static uint32_t load(struct peer *p, uint32_t at, bool acquire) {
     struct word *w = &region[at];
     uint32_t oldest = p->view.at[at] > w->first ? p->view.at[at] : w->first, newest = w->first + w->count - 1;
@@ -119,7 +131,8 @@ static void fence(struct peer *p) {
     fences = p->view;
 }
 
-/* Frame `number` that peer `from` offers in this session of its own: from 14 to 123 bytes that come of the three. */
+/* Makes frame `number` of peer `from` in this session of its own: 14 to 123 bytes that depend on
+ * the three. */
 static size_t make(uint8_t *frame, uint32_t from, uint32_t session, uint32_t number) {
     uint32_t x = session * 2654435761u ^ number * 40503u ^ from << 7;
     size_t length = 14 + x % 110;
@@ -130,7 +143,7 @@ static size_t make(uint8_t *frame, uint32_t from, uint32_t session, uint32_t num
     return length;
 }
 
-/* A frame was delivered; `room` has all its words, where these were read at once. */
+/* Checks a delivered frame. `room` has all its words, if these were read at once. */
 static void take(struct peer *p, const uint32_t *room) {
     uint8_t frame[300], expected[300];
     size_t length = 0;
@@ -149,7 +162,7 @@ static void take(struct peer *p, const uint32_t *room) {
     p->taken++;
 }
 
-/* The doorbell is rung: an interrupt is due at the other. */
+/* Rings the doorbell: an interrupt is due at the other. */
 static void ring(const struct peer *p, bool release) {
     struct peer *other = &peers[1 - p->me];
     if (release) join(&other->carried, &p->view);
@@ -157,7 +170,7 @@ static void ring(const struct peer *p, bool release) {
     other->due = true;
 }
 
-/* The interrupt comes: a step of its own. */
+/* Delivers the interrupt, in a step of its own. */
 static void hear(struct peer *p) {
     join(&p->view, &p->carried);
     p->heard = p->rung;
@@ -165,32 +178,34 @@ static void hear(struct peer *p) {
     rings++;
 }
 
-/* A look found so many frames: those that a doorbell announced are among them, where its session is the one that is attended. */
+/* Checks a look that found `found` frames: it must find those that a doorbell announced, if the
+ * doorbell's session is the one attended. */
 static void look(struct peer *p, uint64_t found) {
     p->rests = false;
     if (p->taken && p->heard.session == p->attended && p->taken + found < p->heard.accepted) wrong = "a doorbell came before the frame that it announces";
 }
 
-/* An offer found so many more frames returned. */
+/* Counts `found` more returned frames of an offer. */
 static void reclaim(struct peer *p, uint64_t found) {
     p->freed += (uint32_t)found;
     if (p->ready && p->heard.attended == p->ready && p->freed < p->heard.returned) wrong = "a doorbell came before the slot that it announces";
 }
 
-/* A peer that rests at this frame of the other's session is to be rung for it. Which session it attends is known after its first frame. */
+/* Checks a peer that rests at this frame of the other's session: the frame must ring. The session
+ * that the peer attends is known after its first frame. */
 static void wake(const struct peer *resting, const struct peer *other, uint32_t number) {
     bool same = resting->rests && resting->taken == number && number > 0 && resting->attended == other->ready;
     if (same && number < other->accepted[other->ready] && other->silent[number % FLIGHT]) wrong = "a doorbell was lost";
 }
 
-/* The poll is over, and has found nothing. */
+/* Ends a poll that found nothing. */
 static void rest(struct peer *p) {
     p->rests = true;
     rests++;
     wake(p, &peers[1 - p->me], p->taken);
 }
 
-/* The offer is over, and didn't ring. */
+/* Ends an offer that didn't ring. */
 static void keep_silent(struct peer *p) {
     uint32_t number = p->accepted[p->ready] - 1;
     p->silent[number % FLIGHT] = true;
@@ -198,7 +213,7 @@ static void keep_silent(struct peer *p) {
     wake(&peers[1 - p->me], p, number);
 }
 
-/* The own State is stored: at READY a session begins. */
+/* Stores the end's State: at READY a session begins. */
 static void enter(struct peer *p, uint32_t state) {
     p->rests = false;
     if (state != IVSHM_READY) return;
@@ -224,7 +239,7 @@ static bool fences_at(const ivshm_access *access) {
     return row != without;
 }
 
-/* Does what the notes of a step ask for. */
+/* Handles the notes of a step. */
 static void heed(struct peer *p, const ivshm_access *access, const ivshm_notes *notes, const uint32_t *room) {
     bool at_event = access->kind == IVSHM_READ && access->word == p->theirs + layout.available_event;
     for (uint32_t i = 0; i < notes->count; i++) {
@@ -243,7 +258,8 @@ static void heed(struct peer *p, const ivshm_access *access, const ivshm_notes *
     }
 }
 
-/* Puts all that an offer writes before its index into the room: as the library tells it, or of some frames the words of the frame from the frame. */
+/* Writes all words of an offer before its index to the room. For a part of the frames the words of
+ * the frame are taken from the frame itself. */
 static bool tell_before_index(struct peer *p, ivshm_burst bursts[3], uint32_t *room, size_t bytes) {
     uint8_t tail[20];
     if (p->length / 4 % 2) return ivshm_end_bursts(&p->end, bursts, (uint8_t *)room, bytes) == IVSHM_DONE;
@@ -255,7 +271,8 @@ static bool tell_before_index(struct peer *p, ivshm_burst bursts[3], uint32_t *r
     return true;
 }
 
-/* Makes all the writes of an offer before its index, in some order: from the last to the first, or the frame first. */
+/* Makes all writes of an offer before its index, in one of two orders: from the last to the first,
+ * or the frame first. */
 static bool step_before_index(struct peer *p, uint32_t *room, size_t bytes) {
     ivshm_burst bursts[3];
     if (!tell_before_index(p, bursts, room, bytes)) return false;
@@ -269,7 +286,8 @@ static bool step_before_index(struct peer *p, uint32_t *room, size_t bytes) {
     return true;
 }
 
-/* Makes one access of the open call, or as many as may be made at once; or the full fence before it. */
+/* Makes one access of the open call, or as many as may be made at once, or the full fence before
+ * it. */
 static void step(struct peer *p) {
     static uint32_t room[OUT / 4];
     ivshm_access access;

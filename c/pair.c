@@ -1,8 +1,11 @@
 /* pair REGION ME OUT MTU FRAMES SIZE                one end; run it twice, with ME 0 and 1
  * pair --both OUT MTU FRAMES SIZE [--record FILE]   both ends in this process, in turn
+ * pair --counts OUT MTU FRAMES SIZE                 the same, and prints all counts of each end
  *
- * Each end sends so many frames of SIZE bytes, and compares each frame that it takes with the one that the other sent at that place. An end
- * that lost, changed or refused anything has exit number 1. With --record the record of both ends is written to FILE: see record.h. */
+ * Each end sends FRAMES frames of SIZE bytes, and compares each frame that it takes with the one
+ * that the other sent at that place. An end has exit number 1 if it lost, changed or refused
+ * anything, or if the library's counts differ from the link's. With --record the record of both
+ * ends is written to FILE: see record.h. */
 #include "region.h"
 
 #include <sched.h>
@@ -12,9 +15,11 @@ struct side {
     size_t size;
     uint64_t frames, sent, taken, bad;
     uint8_t next[IVSHM_LONGEST], expected[IVSHM_LONGEST];
+    ivshm_link_count list[IVSHM_LINK_LIST];
 };
 
-/* Frame `number` of this peer: an Ethernet header to all, the number, and bytes that come of both. */
+/* Makes frame `number` of this peer: an Ethernet header to all, the number, and bytes that depend
+ * on both. */
 static void make(uint8_t *frame, uint32_t from, uint64_t number, size_t size) {
     uint64_t x = number * 2 + from + 1;
     memset(frame, 0xff, 6);
@@ -57,6 +62,27 @@ static void exchange(struct side *s, int most) {
     take_frames(&s->region);
 }
 
+/* Reads the counts, and leaves the link. */
+static void leave(struct side *s) {
+    must(ivshm_link_list(&s->region.link, s->list), "list");
+    detach(&s->region);
+}
+
+/* Whether the counts of the library from `tx_frames` to `refused` are those of the link. */
+static bool counts_agree(const struct side *s) {
+    const ivshm_link_counts *counts = &s->region.link.counts;
+    const uint64_t due[5] = {counts->accepted, counts->full, counts->down, counts->delivered, counts->refusals};
+    for (int i = 0; i < 5; i++)
+        if (s->list[1 + i].value != due[i]) return false;
+    return true;
+}
+
+/* Prints the counts in the form of `ethtool -S`. */
+static void print_counts(const struct side *s) {
+    printf("counts of peer %u:\n", s->region.link.setup.me);
+    for (int i = 0; i < IVSHM_LINK_LIST; i++) printf("     %s: %" PRIu64 "\n", s->list[i].name, s->list[i].value);
+}
+
 static bool is_done(const struct side *s) { return s->sent == s->frames && s->taken == s->frames; }
 
 /* Prints what the side did, and returns 0 if all of it was right. */
@@ -65,7 +91,7 @@ static int report(const struct side *s, double seconds) {
     printf("peer %u: %" PRIu64 " frames of %zu bytes sent, %" PRIu64 " taken, %" PRIu64 " changed, %" PRIu64 " refusals, %" PRIu64
            " stray accesses; %" PRIu64 " accesses, %.0f frames a second each way\n",
            s->region.link.setup.me, s->sent, s->size, s->taken, s->bad, counts->refusals, counts->stray, counts->accesses, (double)s->taken / seconds);
-    return s->bad || counts->refusals || counts->stray || !is_done(s);
+    return s->bad || counts->refusals || counts->stray || !counts_agree(s) || !is_done(s);
 }
 
 static int one(const char *path, uint32_t me, char **sizes) {
@@ -88,7 +114,7 @@ static int one(const char *path, uint32_t me, char **sizes) {
         }
     }
     double seconds = now() - start;
-    /* the other may not have taken the last ones: the session goes on until it leaves */
+    /* the other may not have polled the last frames: the session continues until it leaves */
     const uint32_t *used_index = &s.region.link.setup.other_section[s.region.link.layout.used_index];
     for (last = now(); is_running(&s.region) && now() - last < 2;) {
         take_frames(&s.region);
@@ -96,11 +122,11 @@ static int one(const char *path, uint32_t me, char **sizes) {
         if (load_word(used_index) >> 16 == (s.sent & 0xffff)) break;
         usleep(100);
     }
-    detach(&s.region);
+    leave(&s);
     return report(&s, seconds);
 }
 
-static int both(char **sizes, const char *record) {
+static int both(char **sizes, const char *record, bool prints) {
     static struct side a, b;
     struct record lines;
     char path[64];
@@ -120,17 +146,22 @@ static int both(char **sizes, const char *record) {
         exchange(&b, 8);
     }
     double seconds = now() - start;
-    detach(&a.region);
-    detach(&b.region);
+    leave(&a);
+    leave(&b);
     if (record) record_end(&lines, record, strtoull(sizes[0], NULL, 10), (uint32_t)strtoul(sizes[1], NULL, 10));
+    if (prints) {
+        print_counts(&a);
+        print_counts(&b);
+    }
     int failed = report(&a, seconds);
     return report(&b, seconds) || failed;
 }
 
 int main(int argc, char **argv) {
     if (argc == 7 && strcmp(argv[1], "--both") != 0) return one(argv[1], (uint32_t)strtoul(argv[2], NULL, 10), argv + 3);
-    if (argc == 6 && !strcmp(argv[1], "--both")) return both(argv + 2, NULL);
-    if (argc == 8 && !strcmp(argv[1], "--both") && !strcmp(argv[6], "--record")) return both(argv + 2, argv[7]);
-    fprintf(stderr, "usage: pair REGION ME OUT MTU FRAMES SIZE | pair --both OUT MTU FRAMES SIZE [--record FILE]\n");
+    if (argc == 6 && !strcmp(argv[1], "--both")) return both(argv + 2, NULL, false);
+    if (argc == 6 && !strcmp(argv[1], "--counts")) return both(argv + 2, NULL, true);
+    if (argc == 8 && !strcmp(argv[1], "--both") && !strcmp(argv[6], "--record")) return both(argv + 2, argv[7], false);
+    fprintf(stderr, "usage: pair REGION ME OUT MTU FRAMES SIZE | pair --both OUT MTU FRAMES SIZE [--record FILE] | pair --counts OUT MTU FRAMES SIZE\n");
     return 2;
 }

@@ -1,11 +1,12 @@
 /* ring0 RUNS OFF: calls the library as code in ring 0 does, in user space on x86-64. An interrupt
  * comes after every instruction: the processor traps, and a handler on a stack of its own
- * overwrites the 128 bytes below the stack pointer, as an interrupt on the same stack does. At
- * each call the stack is OFF bytes, 0 or 8, off its alignment to 16 bytes.
+ * overwrites the 128 bytes below the stack pointer, as an interrupt on the same stack does. At each
+ * call the stack is OFF bytes, 0 or 8, off its alignment to 16 bytes.
  *
  * Each run is made by two pairs of ends, with interrupts and without, and the two must agree in
  * every answer and in every word of their regions. The program ends with 1 at the first run in
- * which they differ. It is compiled like a kernel: -fno-builtin -mno-red-zone -mgeneral-regs-only. */
+ * which they differ. It is compiled like a kernel: -fno-builtin -mno-red-zone
+ * -mgeneral-regs-only. */
 #define _GNU_SOURCE
 #include <signal.h>
 #include <stdbool.h>
@@ -178,6 +179,7 @@ static void make_run(void) {
     static uint8_t frame[274], room[300];
     size_t length = 14 + run * 7 % 50, copied = 0;
     ivshm_view view;
+    ivshm_counts counts;
     walk();
     if (run % LIFE == 0) make_ends();
     for (size_t i = 0; i < length; i++) frame[i] = (uint8_t)(run + i * 31);
@@ -190,6 +192,8 @@ static void make_run(void) {
     for (size_t i = 0; i < copied && i < length; i++) mix(room[i]);
     mix(ivshm_end_view(&now->ends[from], &view));
     mix(view.outcome + view.state);
+    mix(ivshm_end_counts(&now->ends[from], &counts));
+    mix(counts.sessions + counts.accepted + counts.delivered + counts.full + counts.down + counts.refused);
 }
 
 /* The same, with the trap flag set: the processor traps after each instruction from here on. */

@@ -1,9 +1,11 @@
-/* running: the accesses of two ends of the link in C, by two threads over sequentially consistent words, with a record of them: what
- * `ivshm run` is compared with. Each end offers its frames and polls the other's, as docs/OFFER.md says; the handshake is left out.
+/* running: the accesses of two ends of the link in C, by two threads over sequentially consistent
+ * words, with a record of them. `ivshm run` is compared with it. Each end offers its frames and
+ * polls the other's, as docs/OFFER.md says; the handshake is left out.
  *
- *   running FRAMES BYTES BOTH     so many frames of so many bytes from peer 0, and as many back where BOTH is 1
+ *   running FRAMES BYTES BOTH     FRAMES frames of BYTES bytes from peer 0, and back if BOTH is 1
  *
- * It writes the lines of both ends' accesses, and on standard error the nanoseconds that the threads took. */
+ * It writes the lines of both ends' accesses, and on standard error the nanoseconds that the
+ * threads took. */
 #define _GNU_SOURCE
 #include <pthread.h>
 #include <stdatomic.h>
@@ -13,8 +15,8 @@
 #include <string.h>
 #include <time.h>
 
-/* a section of 520,192 bytes: 4,096 entries would do; the ring has 256, as the slots of 2,048 bytes allow, and the words stand as in the
- * link's layout, by their kinds and not by their places */
+/* A section of 520,192 bytes: 4,096 entries would fit. The ring has 256, as the slots of 2,048
+ * bytes allow. The words have the kinds of the link's layout, and other offsets. */
 enum { SIZE = 256, SLOT = 512, DESCRIPTORS = 0, AVAILABLE = 4 * SIZE, ENTRIES = AVAILABLE + 1, USED = ENTRIES + SIZE, IDS = USED + 1,
        DATA = IDS + 2 * SIZE, WORDS = DATA + SIZE * SLOT, IN_FLIGHT = SIZE - 1 };
 
@@ -52,7 +54,8 @@ static void store(struct end *end, uint32_t word, uint32_t value) {
   note(end, 'w', end->me * WORDS + word, value);
 }
 
-/* one frame: what the other returned is freed, then the data words, the descriptor, the entry and the index are written */
+/* one frame: what the other returned is freed; then the data words, the descriptor, the entry and
+ * the index are written */
 static int offer(struct end *end) {
   uint32_t returned = look(1 - end->me, USED);
   if (end->offered - end->freed == IN_FLIGHT && returned == end->freed) return 0;
@@ -69,7 +72,7 @@ static int offer(struct end *end) {
   return 1;
 }
 
-/* the frames that are new: entry, descriptor and data of each, and its return */
+/* the new frames: entry, descriptor and data of each, and its return */
 static int poll(struct end *end) {
   uint32_t other = 1 - end->me;
   uint32_t index = look(other, AVAILABLE);

@@ -1,4 +1,5 @@
-/* tap REGION ME OUT MTU TAP: frames between a TAP device and the link. A doorbell is a byte in the FIFO REGION.bellN of peer N. It ends at SIGTERM. */
+/* tap REGION ME OUT MTU TAP: frames between a TAP device and the link. A doorbell is a byte in the
+ * FIFO REGION.bellN of peer N. The program ends at SIGTERM. */
 #include "region.h"
 
 #include <linux/if.h>
@@ -47,8 +48,8 @@ static int open_tap(const char *name) {
     return file;
 }
 
-/* Takes frames of the TAP device to the link: 32 at most, and none after the link is full. A frame
- * that found no room waits. */
+/* Passes frames of the TAP device to the link: at most 32, and none after the link is full. A frame
+ * that doesn't fit waits. */
 static bool send_some(ivshm_link *link, uint8_t *frame, ssize_t *waiting) {
     uint32_t outcome;
     bool moved = false;
@@ -85,7 +86,7 @@ static void report(const ivshm_link *link) {
            link->setup.me, from_tap, counts->accepted, counts->delivered, to_tap, lost, counts->full, counts->refusals, counts->stray, counts->rings);
 }
 
-/* Moves frames both ways until the program is to end or a value is refused. */
+/* Moves frames both ways until SIGTERM, or until a value is refused. */
 static void run(ivshm_link *link) {
     static uint8_t frame[IVSHM_LONGEST];
     ssize_t waiting = 0;

@@ -1,6 +1,7 @@
 #!/usr/bin/env bash
-# tap.sh [PINGS]: two network namespaces, each with a TAP device, and the link between them. It pings across, 20,000 times where PINGS isn't given,
-# and runs iperf3 where it is installed. Everything is taken away at the end. It needs root, /dev/net/tun, and ../crates/ivshm_c/out/libivshm_c.a.
+# tap.sh [PINGS]: two network namespaces, each with a TAP device, and the link between them. It
+# pings across, 20,000 times by default, and runs iperf3 if it is installed. Everything is removed
+# at the end. It needs root, /dev/net/tun, and ../crates/ivshm_c/out/libivshm_c.a.
 set -u
 here=$(cd "$(dirname "${BASH_SOURCE[0]}")" && pwd) || exit 2
 pings=${1:-20000}

@@ -19,7 +19,9 @@ def ring_part(size):
 
 
 class Layout:
-    """The places of a section's fields (docs/LAYOUT.md), in words from its start. `data` is a byte."""
+    """The offsets of a section's fields (docs/LAYOUT.md), in words from its start. `data` is in
+    bytes.
+    """
 
     def __init__(self, out):
         size = 4096
@@ -42,7 +44,7 @@ class Layout:
         }
 
     def place(self, name):
-        """The word of a name, and by how many bits a value is shifted in it."""
+        """Returns the word of a name, and the number of bits by which its value is shifted."""
         if name in self.fixed():
             return self.fixed()[name], SHIFT_OF_INDEX if name.endswith(".index") else 0
         found = re.fullmatch(r"(avail|desc|used|data)([0-9]+)(?:\.([a-z]+))?", name)
@@ -62,7 +64,9 @@ class Layout:
         return first + fields.index(field), 0
 
     def name(self, place):
-        """The name of a word, or None. A word with two entries has the name of the even one."""
+        """Returns the name of a word, or None. A word with two entries has the name of the even
+        one.
+        """
         for name, word in self.fixed().items():
             if place == word:
                 return name

@@ -1,7 +1,9 @@
-/* bridge ME OUT MTU TAP [SPIN [IDLE]]: frames between a TAP device and the link, in a guest. It ticks each 5 milliseconds and polls, SPIN rounds
- * without a frame at full speed; then it sleeps IDLE microseconds at most between two rounds, and a frame from the TAP device ends that sleep, or
- * a doorbell, where there is a device that has them. The TAP device has its carrier while the link is in RUN. At SIGUSR1 the counts go to
- * /tmp/counts, at SIGTERM the bridge leaves the link and ends. */
+/* bridge ME OUT MTU TAP [SPIN [IDLE]]: frames between a TAP device and the link, in a guest. The
+ * bridge ticks each 5 milliseconds and polls, for SPIN rounds without a frame at full speed. Then
+ * it sleeps at most IDLE microseconds between two rounds. A frame from the TAP device ends that
+ * sleep, or a doorbell, if the device has doorbells. The TAP device has its carrier while the link
+ * is in RUN. At SIGUSR1 the counts are written to /tmp/counts. At SIGTERM the bridge leaves the
+ * link and ends. */
 #include "doorbell.h"
 #include "link.h"
 
@@ -11,9 +13,11 @@
 #include <poll.h>
 #include <signal.h>
 
-/* A refusal is forgiven after half a second, so a peer that is refused gets two sessions a second. A peer that isn't, and only plays with its
- * State, may open eight sessions at once, as a program that is started again and again does, and then two a second: each costs a store for each
- * word of the own section, and without a bound a hostile peer would have this guest do nothing else. */
+/* A refusal is forgiven after half a second, so a refused peer gets two sessions a second. A peer
+ * that isn't refused, and only plays with its State, may open eight sessions at once, like a
+ * program that is started again and again, and then two a second. Each session costs a store for
+ * each word of the own section. Without a bound a hostile peer could keep this guest busy with
+ * nothing else. */
 static const double tick_time = 0.005, forgiven_after = 0.5, sessions_a_second = 2, sessions_at_once = 8;
 
 static const char *const fields[] = {"-", "AvailIndex", "AvailEntry", "DescAddress", "DescLength", "DescFlags", "UsedIndex", "UsedId"};
@@ -28,7 +32,7 @@ struct bridge {
     bool refused;
     double ticked, refused_at, allowed, counted_at;
     uint64_t ticks, held, resets, forgiven, from_tap, dropped, to_tap, lost, interrupts;
-    size_t waiting; /* bytes of the frame that found no room yet */
+    size_t waiting; /* bytes of the frame that doesn't fit yet */
     uint8_t frame[IVSHM_LONGEST];
 };
 
@@ -90,7 +94,7 @@ static void set_carrier(struct bridge *b, int on) {
     if (ioctl(b->tap, TUNSETCARRIER, &on)) perror("TUNSETCARRIER");
 }
 
-/* What follows from the end's State, as it is by now. */
+/* Handles a change of the end's State. */
 static void follow(struct bridge *b) {
     uint32_t state = b->guest.link.state, before = b->state;
     b->state = state;
@@ -100,7 +104,7 @@ static void follow(struct bridge *b) {
     fprintf(stderr, "bridge %u: %s at %.3f\n", b->guest.link.setup.me, states[state], now());
 }
 
-/* May another session begin? */
+/* Whether another session may begin. */
 static bool is_allowed(struct bridge *b, double time) {
     b->allowed += (time - b->counted_at) * sessions_a_second;
     if (b->allowed > sessions_at_once) b->allowed = sessions_at_once;
@@ -108,7 +112,8 @@ static bool is_allowed(struct bridge *b, double time) {
     return b->allowed >= 1;
 }
 
-/* An end in INIT begins a session with its next Tick, if the other is there: that Tick is held back when there were too many. */
+/* An end in INIT begins a session with its next Tick, if the other is there. That Tick is delayed
+ * if there were too many sessions. */
 static void tick(struct bridge *b, double time) {
     b->ticked = time;
     mend(&b->guest);
@@ -121,7 +126,7 @@ static void tick(struct bridge *b, double time) {
     follow(b);
 }
 
-/* Takes what the other published; did anything come? */
+/* Delivers what the other published, and returns whether a frame was delivered. */
 static bool receive(struct bridge *b) {
     if (b->state != IVSHM_RUN) return false;
     uint32_t delivered = ivshm_link_poll(&b->guest.link, IVSHM_LINK_ALL);
@@ -129,7 +134,7 @@ static bool receive(struct bridge *b) {
     return delivered > 0;
 }
 
-/* The frame to be offered next is at hand; or there is none. Frames that can't be sent at all are dropped. */
+/* Whether there is a frame to offer next. Frames that can't be sent at all are dropped. */
 static bool has_frame(struct bridge *b) {
     while (!b->waiting) {
         ssize_t length = read(b->tap, b->frame, sizeof b->frame);
@@ -141,8 +146,9 @@ static bool has_frame(struct bridge *b) {
     return true;
 }
 
-/* Offers frames of the TAP device, 32 at most and none after the link is full; was one accepted? A frame that finds no room waits, unless its session
- * ends: the next one has only new frames. */
+/* Offers frames of the TAP device, at most 32 and none after the link is full. Returns whether one
+ * was accepted. A frame that doesn't fit waits, unless its session ends: the next session has only
+ * new frames. */
 static bool send_some(struct bridge *b) {
     bool moved = false;
     for (int i = 0; i < 32 && has_frame(b); i++) {
@@ -160,7 +166,7 @@ static bool send_some(struct bridge *b) {
     return moved;
 }
 
-/* An end that refused something stays in RESET until it is reset, some time later. */
+/* Resets an end that refused a value, after a while. */
 static void forgive(struct bridge *b, double time) {
     ivshm_link *link = &b->guest.link;
     if (link->counts.refusals == b->forgiven) return;
@@ -177,7 +183,7 @@ static void forgive(struct bridge *b, double time) {
     follow(b);
 }
 
-/* Sleeps until a frame comes from the TAP device or a doorbell is rung, or for a while. */
+/* Sleeps until a frame comes from the TAP device, a doorbell is rung, or the time is over. */
 static void rest(struct bridge *b) {
     struct pollfd files[2] = {{b->tap, b->waiting ? 0 : POLLIN, 0}, {b->bell.events, POLLIN, 0}};
     uint32_t idle = b->state == IVSHM_RUN ? b->idle : 1000;
@@ -203,7 +209,8 @@ static void run(struct bridge *b) {
     }
 }
 
-/* Maps the words, and makes the end over them. Where there is no plain device, the one with doorbells has the memory too. */
+/* Maps the words, and makes the end over them. If there is no plain device, the one with doorbells
+ * has the memory too. */
 static void join(struct bridge *b, uint32_t me, size_t out, uint32_t mtu) {
     struct devices found = find_devices();
     struct bar bars[MOST_PLAIN];

@@ -1,9 +1,12 @@
-/* QEMU's devices ivshmem-plain and ivshmem-doorbell in a guest: found by their PCI numbers in sysfs, and the shared memory, which lies behind
- * Base Address Register 2, mapped part by part, so that what isn't this peer's to write can't be written by mistake. There are two layouts:
+/* QEMU's devices ivshmem-plain and ivshmem-doorbell in a guest: they are found by their PCI numbers
+ * in sysfs. The shared memory, at Base Address Register 2, is mapped part by part, so that a word
+ * that this peer may not write can't be written by mistake. There are two layouts:
  *
- * apart   Two plain devices. Device p, in the order of the slots, is the file of peer p: its State is the first word, its section lies behind
- *         the first page. The host hands each guest the other's file read-only.
- * shared  One device. Its file has the State Table in its first page and both sections behind it, and each guest can write all of it. */
+ * apart   Two plain devices. Device p, in the order of the slots, is the file of peer p: its State
+ *         is the first word, and its section comes after the first page. The host hands each guest
+ *         the other's file read-only.
+ * shared  One device. Its file has the State Table in its first page and both sections after it,
+ *         and each guest can write all of it. */
 #ifndef DEVICE_H
 #define DEVICE_H
 #ifndef _GNU_SOURCE
@@ -25,7 +28,7 @@
 
 enum { TABLE = 4096, VENDOR = 0x1af4, DEVICE = 0x1110, MOST_PLAIN = 2 };
 
-/* The memory of a device: a file, and where in that file it begins. */
+/* The memory of a device: a file, and the offset at which it begins. */
 struct bar {
     int file;
     off_t start;
@@ -36,7 +39,8 @@ struct peer_words {
     _Atomic uint32_t *state, *section;
 };
 
-/* The folders of the devices in sysfs: the plain ones in the order of their slots; and the one that has doorbells, or an empty word. */
+/* The folders of the devices in sysfs: the plain ones in the order of their slots, and the one that
+ * has doorbells, or an empty word. */
 struct devices {
     int count;
     char plain[MOST_PLAIN][256], doorbell[256];
@@ -69,7 +73,8 @@ static inline unsigned sysfs_number(const char *device, const char *name) {
     return (unsigned)number;
 }
 
-/* Both devices have the same numbers, but only the one with doorbells has a Base Address Register 1, where its vectors are. */
+/* Both devices have the same numbers, but only the one with doorbells has a Base Address Register
+ * 1, which has its vectors. */
 static inline struct devices find_devices(void) {
     struct devices found = {0};
     char vectors[512];
@@ -86,7 +91,8 @@ static inline struct devices find_devices(void) {
     return found;
 }
 
-/* Opens Base Address Register 2 of a plain device. resource2 is mapped uncached; resource2_wc would combine writes, and so break their order. */
+/* Opens Base Address Register 2 of a plain device. resource2 is mapped uncached. resource2_wc would
+ * combine writes, and so break their order. */
 static inline struct bar open_bar(const char *device) {
     char path[512];
     struct stat told;
@@ -104,7 +110,8 @@ static inline struct bar open_bar(const char *device) {
     return bar;
 }
 
-/* Each part is a mapping of its own: with an mprotect inside of one mapping the kernel complains of memory types when the program ends. */
+/* Each part is a mapping of its own: after an mprotect inside one mapping the kernel complains of
+ * memory types when the program ends. */
 static inline void *map_part(const struct bar *bar, size_t from, size_t size, bool write) {
     if (from + size > bar->size) give_up("Base Address Register 2 is too small");
     void *place = mmap(NULL, size, write ? PROT_READ | PROT_WRITE : PROT_READ, MAP_SHARED, bar->file, bar->start + (off_t)from);
@@ -112,7 +119,7 @@ static inline void *map_part(const struct bar *bar, size_t from, size_t size, bo
     return place;
 }
 
-/* Maps the words of both peers, to write where `may_write` has them. */
+/* Maps the words of both peers, writable if `may_write` says so. */
 static inline void map_peers(struct peer_words peers[2], const struct bar *bars, int count, size_t out, const bool may_write[2]) {
     if (count < 1) give_up("there is no ivshmem device");
     if (out == 0 || out % TABLE) give_up("a section has whole pages");

@@ -1,5 +1,6 @@
-/* QEMU's device ivshmem-doorbell in a guest, by vfio-pci, to which the device is bound already: its registers, its shared memory, and one
- * eventfd for its MSI-X vectors. The guest needs an IOMMU, or a kernel that has VFIO without one. */
+/* QEMU's device ivshmem-doorbell in a guest, by vfio-pci, to which the device is bound already: its
+ * registers, its shared memory, and one eventfd for its MSI-X vectors. The guest needs an IOMMU, or
+ * a kernel that has VFIO without one. */
 #ifndef DOORBELL_H
 #define DOORBELL_H
 #include "device.h"
@@ -13,7 +14,7 @@ enum { COMMAND = 4, MEMORY_SPACE = 2, BUS_MASTER = 4 };
 
 struct doorbell {
     volatile uint32_t *registers;
-    int events; /* what can be read when the other rang; -1: there is no doorbell */
+    int events; /* readable after the other rang; -1: there is no doorbell */
 };
 
 /* Opens the group of a device whose folder in sysfs is `path`, and in it the device. */
@@ -37,7 +38,8 @@ static inline struct bar vfio_bar(int device, uint32_t index) {
     return (struct bar){.file = device, .start = (off_t)told.offset, .size = told.size};
 }
 
-/* vfio-pci takes bus mastering away as it opens the device, and without it no MSI-X message goes out: every ring is lost, and nothing says so. */
+/* vfio-pci switches bus mastering off when it opens the device. Without it no MSI-X message is
+ * sent: every doorbell is lost, without an error. */
 static inline void master_the_bus(int device) {
     struct bar space = vfio_bar(device, VFIO_PCI_CONFIG_REGION_INDEX);
     uint16_t command;
@@ -46,7 +48,7 @@ static inline void master_the_bus(int device) {
     if (pwrite(device, &command, sizeof command, space.start + COMMAND) != sizeof command) fail("the configuration space");
 }
 
-/* One eventfd for all vectors: the bridge ticks and polls whatever was rung. */
+/* One eventfd for all vectors: the bridge ticks and polls after any doorbell. */
 static inline int take_interrupts(int device) {
     int events = eventfd(0, EFD_NONBLOCK);
     union {
@@ -62,7 +64,7 @@ static inline int take_interrupts(int device) {
     return events;
 }
 
-/* Opens the device whose folder in sysfs is `path`, and gives its shared memory. */
+/* Opens the device whose folder in sysfs is `path`, and returns its shared memory. */
 static inline struct bar open_doorbell(struct doorbell *bell, const char *path) {
     int device = open_vfio(path);
     struct bar registers = vfio_bar(device, VFIO_PCI_BAR0_REGION_INDEX);

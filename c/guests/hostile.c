@@ -1,10 +1,10 @@
 /* hostile KIND OUT SECONDS SEED: the program of a hostile guest 1.
  *
- * fields   plays the handshake, and publishes frames that are right but for one field now and then
+ * fields   plays the handshake, and publishes frames that are right but for one field at times
  * own      plays the handshake, and stores random words in its own section and its own State
  * whole    stores random words all over the memory that its devices have
  * state    stores random States, its own and the other's
- * rings    rings doorbells, anybody's and all the time */
+ * rings    rings doorbells of any peer, all the time */
 #include "doorbell.h"
 
 #include "../hostile.h"
@@ -13,7 +13,8 @@ static struct bar bars[MOST_PLAIN];
 static _Atomic uint32_t *whole[MOST_PLAIN];
 static struct peer_words peers[2];
 
-/* What the host keeps read-only may be mapped to write in the guest: QEMU then drops the stores. */
+/* Memory that the host keeps read-only may be mapped writable in the guest: QEMU then drops the
+ * stores. */
 static int map_all(uint32_t out) {
     struct devices found = find_devices();
     for (int i = 0; i < found.count; i++) {
@@ -29,7 +30,7 @@ static int map_all(uint32_t out) {
     return found.count;
 }
 
-/* 1,000 words anywhere; one in 50 is a State, where there is one file. */
+/* 1,000 words anywhere; if there is one file, one in 50 is a State. */
 static void store_anywhere(int count) {
     for (int i = 0; i < 1000; i++, stores++) {
         int device = (int)(draw() % (uint32_t)count);
@@ -44,7 +45,7 @@ static void store_state(void) {
     usleep(draw() % 2000);
 }
 
-/* Peers and vectors that there are, and some that there aren't. */
+/* Peers and vectors that exist, and others that don't. */
 static int ring_until(double end) {
     struct doorbell bell;
     open_doorbell(&bell, find_devices().doorbell);

@@ -1,5 +1,5 @@
-/* A link over the words of a guest's device (ivshm_link.h), and what a program owes if no device
- * of version 2 does it: State 0 first, and the own State put right if something else changed it.
+/* A link over the words of a guest's device (ivshm_link.h), and the duties of a program without a
+ * device of version 2: State 0 first, and the own State corrected if something else changed it.
  * c/region.h is the same over a file, whose State Table no other guest can write. */
 #ifndef LINK_H
 #define LINK_H
@@ -34,8 +34,8 @@ static inline void say(struct guest *g, uint32_t state) {
     if (g->ring) g->ring(g, 1 - g->link.setup.me, 0);
 }
 
-/* Puts the own State right. If the other guest can write the table its value may be spoiled, and
- * the library writes it only when it changes. */
+/* Corrects the own State. If the other guest can write the table its value may be spoiled, and the
+ * library writes it only when it changes. */
 static inline void mend(struct guest *g) {
     if (atomic_load(g->peers[g->link.setup.me].state) == g->said) return;
     g->mended++;
@@ -58,7 +58,7 @@ static inline void guest_delivers(void *context, const uint8_t *frame, size_t le
 }
 
 /* Opens the link of peer `me`, whose words are mapped. No device set the State to 0 when this
- * guest, or this program, died before: the word still has the value from then, and the other end
+ * guest, or this program, died before. The word still has the value from then, and the other end
  * would wait for its end for ever. The first access of an end writes it. */
 static inline void attach(struct guest *g, uint32_t me, uint64_t out, uint32_t mtu) {
     ivshm_link_setup setup = {.peers = 2, .me = me, .mtu = mtu, .vector = 1, .version = 1};

@@ -20,7 +20,7 @@ use Rattle.bridge_text.proofs.Follows.{CanFollow, with_row, step-row, row_of_fol
 
 -- ---- rows that follow one another
 
--- each row can follow, and none is the end
+-- Each row can follow, and none is the end.
 abbrev Along : SoFar → List (Row Form) → SoFar → Type 0
 Along d [] e = d ≡ e
 Along d (r ∷ rs) e = CanFollow d r × (has_ended (with_row r d) ≡ false) × Along (with_row r d) rs e
@@ -33,7 +33,7 @@ leads-cons : (d now : SoFar) (line : List ℕ) (lines : List (List ℕ)) (e : So
 leads-cons d now line [] e plain is on leads = absurd leads
 leads-cons d now line (next ∷ more) e plain is on leads = (now, plain, is, on, leads)
 
--- rows up to the last are lines that lead to the end
+-- Rows up to the last are lines that lead to the end.
 leads : (d : SoFar) (rs : List (Row Form)) (e : SoFar) (r : Row Form) (f : SoFar) → Along d rs e → CanFollow e r → with_row r e ≡ f → has_ended f ≡ true → Leads machine d (map (bare pieces_of) (rs ++ r ∷ [])) f
 leads d [] e r f along can gives ended =
     let can' = subst (λ (x : SoFar). CanFollow x r) (sym along) can in
@@ -44,7 +44,7 @@ leads d (s ∷ rs) e r f along can gives ended =
 
 -- ---- the head
 
--- at the frames of this run, after these
+-- At the frames of this run, after these.
 abbrev pub at_frames : World → List Sent → SoFar
 at_frames w front = record { position = AtFrames; ports = w.ports; rounds = w.rounds; sent = front }
 
@@ -92,7 +92,7 @@ sent_along w front (s ∷ rest) allowed few =
 abbrev pub at_end : World → SoFar
 at_end w = record { position = Ended; ports = w.ports; rounds = w.rounds; sent = w.sent }
 
--- the lines of a run's rows lead to its end
+-- The lines of a run's rows lead to its end.
 pub spelled_leads : (w : World) → IsWorld w → Leads machine at_start (map (bare pieces_of) (rows_of w)) (at_end w)
 spelled_leads w is =
     let sent = sent_along w [] w.sent (recursion_from_All (IsAllowed w) w.sent is.allowed) (omega (arith, is.few)) in

@@ -1,4 +1,4 @@
--- What holds of the lines so far at each place, and that each row that can follow keeps it.
+-- The invariant of the lines so far at each position. Each row that can follow preserves it.
 use Rattle.std.proofs.Common.{◌≡◌, ℕ, zero, suc, ◌<◌, ◌≤◌, true, eqb, List, [], ◌∷◌, ◌++◌, length, get_or, map, refl, sym, ap, subst, ◌∙◌, append_assoc, arith}
 use Rattle.std.specs.Prelude.{All}
 use Rattle.std.specs.List.{AllByRecursion}
@@ -19,7 +19,7 @@ use Rattle.bridge_text.specs.Spelling.{World, row_of_sent, IsAllowed, IsWorld}
 use Rattle.bridge_text.specs.Judge.{SoFar, world_so_far, ordinal_of, position_of}
 use Rattle.bridge_text.proofs.Follows.{CanFollow, with_row}
 
--- ---- the rows before a place
+-- ---- the rows before a position
 
 abbrev pub head_rows : SoFar → List (Row Form)
 head_rows d = row Version (1 ∷ []) [] ∷ row Ports (d.ports ∷ []) [] ∷ row Rounds (d.rounds ∷ []) [] ∷ row Begin [] [] ∷ []
@@ -32,7 +32,7 @@ before AtBegin d = row Version (1 ∷ []) [] ∷ row Ports (d.ports ∷ []) [] �
 before AtFrames d = head_rows d ++ map row_of_sent d.sent
 before Ended d = (head_rows d ++ map row_of_sent d.sent) ++ row End [] [] ∷ []
 
--- ---- what holds at a place
+-- ---- the invariant of a position
 
 abbrev pub IsFew : ℕ → Type 0
 IsFew ports = (2 ≤ ports) × (ports ≤ 8)
@@ -49,7 +49,7 @@ pub record Adds (d : SoFar) (r : Row Form) : Type 0 where
   pub rows : before (with_row r d).position (with_row r d) ≡ before d.position d ++ r ∷ []
   pub good : Good (with_row r d).position (with_row r d)
 
--- ---- places
+-- ---- positions
 
 position_at : ℕ → Position
 position_at zero = AtVersion
@@ -89,7 +89,7 @@ the_number form ns frame one none = same_row form _ ns frame (list_1 ns one) (sy
 
 -- ---- frames
 
--- what is allowed doesn't depend on the frames
+-- Whether a frame is allowed doesn't depend on the frames.
 allowed_in : (w : World) (later : List Sent) (s : Sent) → IsAllowed w s → IsAllowed (record w { sent = later }) s
 allowed_in w later s is = record { values = is.values; bytes = is.bytes; range = is.range; size = is.size }
 
@@ -167,6 +167,6 @@ adds End ns frame d can good =
     let same = same_row End [] ns frame (list_0 ns (counted (pieces_of End) ns can.values)) (sym can.bytes) in
     record { rows = rw at (ap (λ (r : Row Form). (head_rows d ++ map row_of_sent d.sent) ++ r ∷ []) same); good = rw at at good }
 
--- a row that can follow keeps what holds, and adds its line
+-- A row that can follow preserves the invariant, and adds its line.
 pub row_adds : (d : SoFar) (r : Row Form) → CanFollow d r → Good d.position d → Adds d r
 row_adds d r can good = adds r.form r.numbers r.frame d can good

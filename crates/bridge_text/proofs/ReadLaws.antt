@@ -1,4 +1,4 @@
--- What is answered of a text that is wrong.
+-- The result for a faulty text.
 use Rattle.std.proofs.Common.{◌≡◌, ℕ, Result, Err, ap}
 use Rattle.line_format.specs.declared.reading.TextFault.{TextFault}
 use Rattle.line_format.specs.declared.reading.TextFault.TheVariants as texts
@@ -15,14 +15,14 @@ refuses_at : {Y : Type 0} (cause : Cause) (n : ℕ) (said : Result Y BridgeFault
 refuses_at BadLine n said is = is
 refuses_at _ n said is = is
 
--- what is wrong with the lines is the fault that is answered
+-- The fault of the lines is the fault that is returned.
 pub text_fails : (d : SoFar) (fault : TextFault Cause) (said : Result SoFar (Wrong Cause)) → Reads {U = Unit {0}} d (Err fault) said → Refuses (fault_of_text fault) (faulted said)
 text_fails d texts.NoMemory said is = tt
 text_fails d (texts.At cause n) said is = refuses_at cause n (faulted said) (ap faulted is)
 text_fails d (texts.After n) said is = ap faulted is
 text_fails d texts.NoEnd said is = ap faulted is
 
--- a fault of the lines is a fault of the text
+-- A fault of the lines is a fault of the text.
 pub same_fault : (fault : BridgeFault) (said : Result SoFar BridgeFault) → Refuses fault said → Refuses fault (world_in said)
 same_fault faults.NoMemory said is = tt
 same_fault (faults.BadLine n) said is = ap world_in is

@@ -1,4 +1,4 @@
--- Reading line by line: what a good line adds, and what is wrong with a bad one.
+-- Reading line by line: the effect of a line, and the fault of a faulty one.
 use Rattle.std.specs.Prelude.{ℕ, ◌==◌, ◌&&◌, not, nat_le, if◌then◌else◌, Bool, true, false, List, [], ◌∷◌, ◌++◌, length, slice_index, Option, Some, None, Result, Ok, Err, option_and_then}
 use Rattle.std.specs.List.{list_all}
 use Rattle.line_format.specs.Forms.{fields_of, numbers_of, hex_of, hex_bytes, is_printable}
@@ -17,7 +17,7 @@ use Rattle.bridge_text.specs.declared.faults.BridgeFault.TheVariants as faults
 use Rattle.bridge_text.specs.Table.{pieces_of, all_forms}
 use Rattle.bridge_text.specs.Spelling.{World, is_in_range, is_frame_length}
 
--- what the lines so far say; what no line has said yet is 0 or empty
+-- The value of the lines so far. The default of a line that wasn't read is 0 or empty.
 pub record SoFar : Type 0 where
   pub position : Position
   pub ports : ℕ
@@ -37,7 +37,7 @@ ordinal_of AtBegin = 3
 ordinal_of AtFrames = 4
 ordinal_of Ended = 5
 
--- where a form can stand
+-- The position of a form.
 abbrev pub position_of : Form → Position
 position_of Version = AtVersion
 position_of Ports = AtPorts
@@ -69,7 +69,7 @@ is_frame _ = false
 abbrev pub is_too_many : SoFar → Form → Bool
 is_too_many d form = is_frame form && nat_le 10000 (length d.sent)
 
--- What a line adds
+-- The effect of a line
 
 abbrev pub add : Form → List ℕ → List ℕ → SoFar → SoFar
 add Version ns frame d = record d { position = AtPorts }
@@ -105,7 +105,7 @@ has_ended d = ordinal_of d.position == 5
 abbrev pub machine : Machine SoFar Cause
 machine = record { step = step; ended = has_ended }
 
--- what a text says, or what is wrong with it first
+-- The value of a text, or its first fault.
 abbrev pub reading : List ℕ → Result SoFar (Wrong Cause)
 reading bytes = read machine at_start bytes
 
@@ -118,13 +118,13 @@ fault_at BadNumber n = faults.BadNumber n
 fault_at BadFrame n = faults.BadFrame n
 fault_at TooManyFrames n = faults.TooManyFrames n
 
--- bytes after the end are a line that is bad
+-- Bytes after the end are a faulty line.
 abbrev pub fault_of : Wrong Cause → BridgeFault
 fault_of (At cause n) = fault_at cause n
 fault_of (After n) = faults.BadLine n
 fault_of NoEnd = faults.NoEnd
 
--- the same with the fault that is answered
+-- The same with the fault that is returned.
 abbrev pub faulted : Result SoFar (Wrong Cause) → Result SoFar BridgeFault
 faulted (Ok d) = Ok d
 faulted (Err wrong) = Err (fault_of wrong)
@@ -133,6 +133,6 @@ abbrev pub world_in : Result SoFar BridgeFault → Result World BridgeFault
 world_in (Ok d) = Ok (world_so_far d)
 world_in (Err fault) = Err fault
 
--- the run that a text spells, or its first fault
+-- The run that a text spells, or its first fault.
 abbrev pub answer : List ℕ → Result World BridgeFault
 answer bytes = world_in (faulted (reading bytes))

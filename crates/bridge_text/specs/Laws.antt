@@ -1,4 +1,4 @@
--- What holds of all texts of a bridge.
+-- Laws of all texts of a bridge.
 use Rattle.std.specs.Prelude.{◌≡◌, ℕ, ◌+◌, ◌<◌, List, ◌++◌, length, take, Ok, Err}
 use Rattle.line_format.specs.Forms.{cuts}
 use Rattle.line_format.specs.Machine.{At, IsFirstWrong}
@@ -7,19 +7,19 @@ use Rattle.bridge_text.specs.declared.faults.BridgeFault.TheVariants.{BadLine, N
 use Rattle.bridge_text.specs.Spelling.{World, rows_of, IsSpelling}
 use Rattle.bridge_text.specs.Judge.{at_start, machine, reading, answer}
 
--- the spelling of a run is read as the run
+-- The spelling of a run is read as the run.
 abbrev pub SpelledIsRead : Type 0
 SpelledIsRead = (w : World) (bytes : List ℕ) → IsSpelling w bytes → answer bytes ≡ Ok w
 
--- a text that is cut anywhere has no end
+-- A text that is cut at any byte has no end.
 abbrev pub CutIsNoEnd : Type 0
 CutIsNoEnd = (w : World) (bytes : List ℕ) (j : ℕ) → IsSpelling w bytes → j < length bytes → answer (take j bytes) ≡ Err NoEnd
 
--- bytes after a text of L lines are the line L + 1, which is bad
+-- Bytes after a text of L lines are line L + 1, which is faulty.
 abbrev pub BytesAfterEndAreBadLine : Type 0
 BytesAfterEndAreBadLine = (w : World) (bytes more : List ℕ) → IsSpelling w bytes → 0 < length more
     → answer (bytes ++ more) ≡ Err (BadLine (length (rows_of w) + 1))
 
--- the line that a fault names is the first bad one: the lines before it are good
+-- The line that a fault names is the first faulty one: no line before it is faulty.
 abbrev pub FaultIsFirst : Type 0
 FaultIsFirst = (bytes : List ℕ) (cause : Cause) (line : ℕ) → reading bytes ≡ Err (At cause line) → IsFirstWrong machine at_start (cuts 10 bytes) cause line

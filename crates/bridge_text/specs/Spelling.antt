@@ -1,4 +1,5 @@
--- What a text of a bridge says, and its one spelling (profile): a head gives the ports and the rounds, and then come the frames that are sent.
+-- The value of a text of a bridge, and its one spelling (profile): a head gives the ports and the
+-- rounds; the frames follow.
 use Rattle.std.specs.Prelude.{◌≡◌, ℕ, ◌≤◌, ◌&&◌, nat_lt, nat_le, Bool, true, List, [], ◌∷◌, ◌++◌, length, slice_index, map, All}
 use Rattle.line_format.specs.Forms.{Fit, FitBytes}
 use Rattle.line_format.specs.Rows.{Row, row, text_of}
@@ -8,7 +9,8 @@ use Rattle.bridge_text.specs.declared.scripts.Sent.{Sent}
 use Rattle.bridge_text.specs.declared.scripts.Script.{Script}
 use Rattle.bridge_text.specs.Table.{pieces_of}
 
--- how many ports and rounds there are, and the frames that the stations send, in the order of their lines
+-- The numbers of ports and rounds, and the frames that the stations send, in the order of their
+-- lines.
 pub record World : Type 0 where
   pub ports : ℕ
   pub rounds : ℕ
@@ -17,12 +19,12 @@ pub record World : Type 0 where
 abbrev pub world_of : Script → World
 world_of script = record { ports = script.ports; rounds = script.rounds; sent = script.sent }
 
--- the port of a frame is there
+-- The run has the port of a frame.
 abbrev pub is_in_range : World → Form → List ℕ → Bool
 is_in_range w Frame ns = nat_lt (slice_index ns 0) w.ports
 is_in_range w _ ns = true
 
--- a frame has 14 to 274 bytes
+-- A frame has 14 to 274 bytes.
 abbrev pub is_frame_length : Form → ℕ → Bool
 is_frame_length Frame size = nat_le 14 size && nat_le size 274
 is_frame_length _ size = true
@@ -30,14 +32,14 @@ is_frame_length _ size = true
 abbrev pub row_of_sent : Sent → Row Form
 row_of_sent sent = row Frame (sent.port ∷ []) sent.frame
 
--- a frame that may be sent
+-- A frame that may be sent.
 pub record IsAllowed (w : World) (sent : Sent) : Type 0 where
   pub values : Fit (pieces_of Frame) (sent.port ∷ [])
   pub bytes : FitBytes (pieces_of Frame) sent.frame
   pub range : is_in_range w Frame (sent.port ∷ []) ≡ true
   pub size : is_frame_length Frame (length sent.frame) ≡ true
 
--- a run of 2 to 8 ports, of at most 4,000 rounds and 10,000 frames, each of which may be sent
+-- A run of 2 to 8 ports, of at most 4,000 rounds and 10,000 frames, each of which may be sent.
 pub record IsWorld (w : World) : Type 0 where
   pub least : 2 ≤ w.ports
   pub most : w.ports ≤ 8
@@ -45,15 +47,15 @@ pub record IsWorld (w : World) : Type 0 where
   pub allowed : All (IsAllowed w) w.sent
   pub few : length w.sent ≤ 10000
 
--- the head, `begin`, the frames, `end`
+-- The head, `begin`, the frames, `end`.
 abbrev pub rows_of : World → List (Row Form)
 rows_of w = (row Version (1 ∷ []) [] ∷ row Ports (w.ports ∷ []) [] ∷ row Rounds (w.rounds ∷ []) [] ∷ row Begin [] [] ∷ [])
     ++ map row_of_sent w.sent ++ row End [] [] ∷ []
 
--- the one text of a run
+-- The one text of a run.
 abbrev pub spelling : World → List ℕ
 spelling w = text_of pieces_of (rows_of w)
 
--- the bytes spell the run
+-- The bytes spell the run.
 abbrev pub IsSpelling : World → List ℕ → Type 0
 IsSpelling w bytes = IsWorld w × (bytes ≡ spelling w)

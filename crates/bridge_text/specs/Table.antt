@@ -4,7 +4,7 @@ use Rattle.line_format.specs.Forms.{Piece, Word, Number, Hex}
 use Rattle.bridge_text.specs.declared.forms.Form.{Form}
 use Rattle.bridge_text.specs.declared.forms.Form.TheVariants.{Version, Ports, Rounds, Begin, Frame, End}
 
--- what stands in the fields of a line of this form
+-- The fields of a line of this form.
 abbrev pub pieces_of : Form → List Piece
 pieces_of Version = Word (codes "bridge") ∷ Number 1 1 ∷ []
 pieces_of Ports = Word (codes "ports") ∷ Number 2 8 ∷ []

@@ -1,8 +1,9 @@
-//! What the lines so far say.
+//! The value of the lines so far.
 use crate::positions::Position;
 use crate::scripts::SentFrames;
 
-/// A text of which some lines are read. What no line has said yet is 0 or empty.
+/// A text of which a prefix of the lines was read. The default of a line that wasn't read is 0 or
+/// empty.
 #[derive(Drop)]
 pub struct Draft {
     pub(crate) position: Position,

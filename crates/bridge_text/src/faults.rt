@@ -1,4 +1,4 @@
-//! What is wrong with a text of a bridge.
+//! The faults of a text of a bridge.
 ghost use Rattle.std.specs.Prelude.{◌≡◌};
 ghost use Rattle.bridge_text.specs.Judge.{fault_at};
 ghost use Rattle.bridge_text.specs.Answers.{fault_of_text};
@@ -6,7 +6,7 @@ ghost use Rattle.bridge_text.specs.Answers.{fault_of_text};
 use line_format::TextFault;
 use thiserror::Error;
 
-/// What is wrong with a line: the first of these that fits, in this order.
+/// The fault of a line: the first of these that applies, in this order.
 #[derive(Clone, Copy, Debug, PartialEq, Eq, Error)]
 pub enum Cause {
     #[error("the line has no form")]
@@ -22,7 +22,7 @@ pub enum Cause {
 }
 
 impl Cause {
-    /// The fault of a text whose first bad line is this one, with lines from 1.
+    /// Returns the fault of a text whose first faulty line is this one, counted from 1.
     pub fn at(self, line: u64) -> BridgeFault
         ensures { result ≡ fault_at self line }
     {
@@ -36,29 +36,31 @@ impl Cause {
     }
 }
 
-/// What is wrong with a text that spells no run of a bridge. A number is that of the first bad line, from 1. Where several of these fit a
-/// line, the first of them in the order BadLine, BadOrder, BadNumber, BadFrame, TooManyFrames is the answer.
+/// The fault of a text that spells no run of a bridge. A number is that of the first faulty line,
+/// from 1. If several faults apply to a line, the first in this order is returned: BadLine,
+/// BadOrder, BadNumber, BadFrame, TooManyFrames.
 #[derive(Clone, Copy, Debug, PartialEq, Eq, Error)]
 pub enum BridgeFault {
-    /// The line is none of the forms, has a byte outside of 20h to 7Eh, or stands after `end`.
+    /// The line matches no form, has a byte outside of 20h to 7Eh, or comes after `end`.
     #[error("line {0} has no form")]
     BadLine(u64),
-    /// A number field is no number or is out of its range, as a port that isn't there.
+    /// A number field is no number or is out of its range, for example a port that the run doesn't
+    /// have.
     #[error("line {0} has a number out of its range")]
     BadNumber(u64),
     /// The hexadecimal digits are no frame of 14 to 274 bytes.
     #[error("line {0} has no frame that fits")]
     BadFrame(u64),
-    /// The form isn't allowed at this place.
+    /// The form isn't allowed at this position.
     #[error("line {0} is out of order")]
     BadOrder(u64),
     /// The line has the 10,001st frame.
     #[error("line {0} has one frame too many")]
     TooManyFrames(u64),
-    /// All whole lines are good, and there is no `end` line.
+    /// No line is faulty, and there is no `end` line.
     #[error("the text has no end")]
     NoEnd,
-    /// There was no memory left.
+    /// An allocation failed.
     #[error("out of memory")]
     NoMemory,
 }
@@ -66,7 +68,7 @@ pub enum BridgeFault {
 impl From<TextFault<Cause>> for BridgeFault {
     ghost from_gives = { λ fault result. result ≡ fault_of_text fault };
 
-    /// Bytes after the end are a line that has no form.
+    /// Returns the fault of the text. Bytes after the end are a line that matches no form.
     fn from(fault: TextFault<Cause>) -> BridgeFault {
         match fault {
             TextFault::NoMemory => BridgeFault::NoMemory,

@@ -33,7 +33,7 @@ const FORMS: [Form; 6] = [
 ];
 
 impl Form {
-    /// What stands in the fields of the form.
+    /// Returns the fields of the form.
     pub fn slots(self) -> &'static [FieldKind]
         ensures value { pieces result.now ≡ pieces_of self }
         ensures few { length result.now ≤ 6 }
@@ -53,7 +53,7 @@ impl Form {
     }
 }
 
-/// The form of a line with these fields.
+/// Returns the form of a line with these fields, if it has one.
 #[tactic(auto, unfolding(line_format::specs::Rows::find_form))]
 pub fn form_of(fields: &[&[u8]]) -> Option<Form>
     ensures { result ≡ find_form pieces_of all_forms (texts fields.now) }

@@ -1,10 +1,12 @@
-//! The text of a bridge's run: how many ports and rounds there are, and the frames that each station sends. It stands on
-//! `line_format` for lines and forms. Its contracts promise that a value has one spelling, that reading answers exactly where the bytes are
-//! one, and that each fault is the first in the order of the format.
+//! The text of a bridge's run: the numbers of ports and rounds, and the frames that each station
+//! sends. The crate uses `line_format` for lines and forms. Its contracts promise that each value
+//! has one spelling. They promise that reading succeeds exactly if the bytes are a spelling, and
+//! that each fault is the first in the order of the format.
 //!
 //! # Design
 //!
-//! - A port that isn't there is BadNumber, so the range of a `frame` line's port depends on the `ports` line above it.
+//! - A port that the run doesn't have is BadNumber, so the range of a `frame` line's port depends
+//!   on the `ports` line above it.
 #![tactic(auto)]
 
 mod drafts;

@@ -13,7 +13,7 @@ use line_format::read_text;
 use std::alloc::Global;
 
 impl Draft {
-    /// The draft of a text of which nothing is read.
+    /// Returns the draft of a text before its first line.
     pub fn new(alloc: Global) -> Draft
         ensures { so_far result ≡ at_start }
     {
@@ -25,7 +25,7 @@ impl Draft {
         }
     }
 
-    /// What the lines up to the end say.
+    /// Returns the value of the lines up to the end.
     pub fn finish(self) -> Script
         ensures { world_of result ≡ world_so_far (so_far self) }
     {
@@ -43,13 +43,19 @@ impl Draft {
     }
 }
 
-/// The run that the text spells, or the first fault of the text, in one pass over it. NoMemory says that memory ran out.
+/// Returns the run that the text spells, or the first fault of the text, in one pass over it.
+/// Returns `NoMemory` if an allocation fails.
+// claim found, only with spelled_is_read: `parse` reads exactly what the bytes spell, or answers
+//    NoMemory.
+// claim exact with fault_is_first, Cause::at: A refusal is the first bad line's first fault, in the
+//    format's order. A text has at most 10,000 frames, and `TooManyFrames` names the line of the
+//    next.
 pub fn parse(alloc: Global, bytes: &[u8]) -> Result<Script, BridgeFault>
-    // What is read is spelled so.
+    // The text is a spelling of the run that is read.
     ensures found { IfOk result (λ script. IsSpelling (world_of script) bytes.now) }
-    // What is spelled so is read, unless memory ran out.
+    // A spelling of a run is read as that run, unless an allocation fails.
     ensures only { (w : World) → IsSpelling w bytes.now → Answers result (Ok w) }
-    // Which fault it is.
+    // The fault that is returned.
     ensures exact { Answers result (answer bytes.now) }
 {
     let mut draft = Draft::new(alloc);

@@ -1,4 +1,4 @@
-//! What a text says.
+//! The value of a text.
 ghost use Rattle.std.specs.Prelude.{◌≡◌, ◌++◌, [], ◌∷◌, OnOk, OnErr};
 
 use ivs_base::{Frame, NoMemory};
@@ -12,7 +12,7 @@ pub struct Sent {
     pub frame: Frame,
 }
 
-/// Frames that are sent, in the order of their lines.
+/// The frames of the stations, in the order of their lines.
 #[derive(Debug, Drop)]
 pub struct SentFrames {
     items: Vec<Sent>,
@@ -28,7 +28,7 @@ impl Model for SentFrames {
 }
 
 impl SentFrames {
-    /// The empty list.
+    /// Returns the empty list.
     pub fn new(alloc: Global) -> Self
         ensures { result ≡ [] }
     {
@@ -37,7 +37,9 @@ impl SentFrames {
         }
     }
 
-    /// Puts the frame last. After NoMemory the list is unchanged and the frame is dropped.
+    /// Appends the frame. After `NoMemory` the list is unchanged and the frame is dropped.
+    // claim ok, err with SentFrames::new, SentFrames::items, SentFrames::into_items: A list has the
+    //    items that were appended, in order; a failed call changes nothing.
     pub fn push(&mut self, item: Sent) -> Result<(), NoMemory>
         ensures ok { OnOk result (self.new ≡ self.old ++ item ∷ []) }
         ensures err { OnErr result (self.new ≡ self.old) }
@@ -48,14 +50,14 @@ impl SentFrames {
         }
     }
 
-    /// The whole list.
+    /// Returns the whole list.
     pub fn items(&self) -> &[Sent]
         ensures { result.now ≡ self.now }
     {
         self.items.as_slice()
     }
 
-    /// The whole list, with its memory.
+    /// Returns the whole list, with its memory.
     pub fn into_items(self) -> Vec<Sent>
         ensures { result.items ≡ self }
     {
@@ -63,7 +65,7 @@ impl SentFrames {
     }
 }
 
-/// A bridge's run: 2 to 8 ports, so many rounds, and the frames that the stations send.
+/// A bridge's run: 2 to 8 ports, a number of rounds, and the frames that the stations send.
 #[derive(Debug, Drop)]
 pub struct Script {
     pub ports: u32,

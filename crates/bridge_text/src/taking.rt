@@ -1,4 +1,4 @@
-//! Taking a line into a draft: its tests in their order, and what it adds.
+//! Taking a line into a draft: its tests in their order, and its effect.
 ghost use Rattle.std.specs.Prelude.{◌≡◌, ◌<◌, ◌≤◌, ◌^◌, IsTrue, slice_index, OnOk, IfOk, IfSome, option_map};
 ghost use Rattle.line_format.specs.Forms.{texts, AreInRange};
 ghost use Rattle.line_format.specs.Reading.{Gives};
@@ -20,14 +20,14 @@ use std::alloc::Global;
 /// The most frames of a text.
 const MOST: usize = 10_000;
 
-/// Isn't the line allowed at this place?
+/// Whether the line is forbidden at this position.
 fn is_out_of_order(draft: &Draft, form: Form) -> bool
     ensures { result ≡ is_out_of_order (so_far draft.now) form }
 {
     Position::of(form).ordinal() != draft.position.ordinal()
 }
 
-/// Is the port of a frame there?
+/// Whether the run has the port of a frame.
 fn is_in_range(draft: &Draft, form: Form, numbers: &[u64]) -> bool
     ensures small { IsTrue result → IsTrue (is_frame form) → slice_index numbers.now 0 < 2 ^ 32 }
     ensures value { result ≡ is_in_range (world_so_far (so_far draft.now)) form numbers.now }
@@ -38,7 +38,7 @@ fn is_in_range(draft: &Draft, form: Form, numbers: &[u64]) -> bool
     }
 }
 
-/// Has a frame 14 to 274 bytes?
+/// Whether a frame has 14 to 274 bytes.
 fn is_frame_length(form: Form, size: u64) -> bool
     ensures { result ≡ is_frame_length form size }
 {
@@ -48,14 +48,14 @@ fn is_frame_length(form: Form, size: u64) -> bool
     }
 }
 
-/// Is it one frame too many?
+/// Whether the line has one frame too many.
 fn is_too_many(draft: &Draft, form: Form) -> bool
     ensures { result ≡ is_too_many (so_far draft.now) form }
 {
     matches!(form, Form::Frame) && draft.sent.items().len() >= MOST
 }
 
-/// The numbers of the line, if each is one and in its range.
+/// Returns the numbers of the line, if each of them is a number in its range.
 fn numbers(draft: &Draft, form: Form, fields: &[&[u8]]) -> Option<ArrayVec<u64, 6>>
     ensures value { option_map (λ v. v.items) result ≡ numbers_in (so_far draft.now) form (texts fields.now) }
     ensures limits { IfSome result (λ v. AreInRange (pieces_of form) v.items) }
@@ -68,8 +68,8 @@ fn numbers(draft: &Draft, form: Form, fields: &[&[u8]]) -> Option<ArrayVec<u64, 
     Some(numbers)
 }
 
-/// The frame of the line, empty where its form has none, if its digits spell one that fits. Digits that are too many or too few are not
-/// read.
+/// Returns the frame of the line, if its digits spell one that fits. The frame is empty if the form
+/// has none. Digits of a wrong number are not read.
 fn frame(alloc: Global, form: Form, fields: &[&[u8]]) -> Result<Option<Frame>, NoMemory>
     ensures { IfOk result (λ o. o ≡ frame_in form (texts fields.now)) }
 {
@@ -85,7 +85,7 @@ fn frame(alloc: Global, form: Form, fields: &[&[u8]]) -> Result<Option<Frame>, N
 }
 
 impl Draft {
-    /// Adds what the line says.
+    /// Adds the value of the line to the draft.
     fn add(&mut self, form: Form, numbers: &[u64], frame: Frame) -> Result<(), NoMemory>
         requires limits { AreInRange (pieces_of form) numbers.now }
         requires port { IsTrue (is_frame form) → slice_index numbers.now 0 < 2 ^ 32 }

@@ -1,4 +1,4 @@
--- The rounds of an automatic peer keep its rule.
+-- The rounds of an automatic end choose the same calls as its rule.
 use Rattle.std.proofs.Common.{◌≡◌, ℕ, Bool, true, false, List, [], ◌∷◌, refl}
 use Rattle.std.specs.Prelude.{not, nat_le, if◌then◌else◌}
 use Rattle.link_handshake.specs.declared.Phase.{Phase}
@@ -6,7 +6,7 @@ use Rattle.link_handshake.specs.declared.Phase.TheVariants.{Reset, Init, Ready, 
 use Rattle.call_grammar.specs.Calls.{in_run}
 use Rattle.call_grammar.specs.Automatic.{Choice, ChoosesTick, ChoosesPoll, IsFinished, Anew, AfterOffer, AfterPoll, is_anew, was_offer, first_or_poll, in_round, in_phase, RoundsKeepTheRule}
 
--- a round in RUN
+-- A round in RUN.
 in_run_by : (anew offer : Bool) (frames : List (List ℕ)) →
     in_round (if anew then Anew else if offer then AfterOffer else AfterPoll) frames ≡ (if anew then first_or_poll frames else if offer then ChoosesPoll else ChoosesTick)
 in_run_by true offer [] = refl
@@ -14,7 +14,7 @@ in_run_by true offer (frame ∷ frames) = refl
 in_run_by false true frames = refl
 in_run_by false false frames = refl
 
--- a choice that isn't to finish
+-- A choice other than to finish.
 in_phase_by : (phase : Phase) (anew offer : Bool) (frames : List (List ℕ)) →
     in_phase phase (if anew then Anew else if offer then AfterOffer else AfterPoll) frames
     ≡ (if not (in_run phase) then ChoosesTick else if anew then first_or_poll frames else if offer then ChoosesPoll else ChoosesTick)

@@ -36,7 +36,7 @@ fill_length : (config : EndConfig) (pending : PendingOffer) (at count : ℕ) →
 fill_length config pending at zero = refl
 fill_length config pending at (suc more) = let e = fill_length config pending (at + 1) more in omega arith
 
--- what an offer tells has a step, or two in a link with events
+-- A notification has one step, or at most two in a link with events.
 abbrev tell_bound : Bool → ℕ
 tell_bound b = if b then 2 else 1
 
@@ -45,7 +45,7 @@ told_length config number value true true = omega arith
 told_length config number value true false = omega arith
 told_length config number value false asks = omega arith
 
--- an offer has so many steps but for what it tells
+-- The steps of an offer without its notification.
 abbrev offer_bound : Bool → ℕ
 offer_bound b = if b then 9 else 8
 
@@ -78,12 +78,12 @@ bytes_length (word ∷ words) = let e = bytes_length words in omega arith
 pub frame_length : (bytes : ℕ) (words : List ℕ) → length words ≡ words_for bytes → length (frame_in bytes words) ≡ bytes
 frame_length bytes words is = length-take-le bytes (flat_map word_bytes words) (let e = bytes_length words in omega arith)
 
--- the reads of so many words, of which the last delivers
+-- The reads of the frame's words, of which the last delivers.
 words_length : (config : EndConfig) (address at : ℕ) (words : List ℕ) (marks : List Mark) → length (word_steps config address at words marks) ≡ length words
 words_length config address at [] marks = refl
 words_length config address at (word ∷ words) marks = let e = words_length config address (at + 1) words marks in omega arith
 
--- a step that isn't the last has no marks
+-- A step that isn't the last has no marks.
 unmarked : (n : ℕ) (marks : List Mark) → 0 < n → marks_bound (if n == 0 then marks else []) ≡ 0
 unmarked n marks some = ap marks_bound (no (n == 0) marks [] (ne_eqb n 0 (λ e. omega arith)))
 
@@ -123,7 +123,7 @@ again_length : (config : EndConfig) (taken : ℕ) (steps : List Step) → LooksA
 again_length config taken steps r = let n = ap length r.steps_are in let b = ap items_bound r.steps_are in
     let rest = look_length config taken (FindsNothing config taken) r.rest 2 (omega arith) (nothing_length config taken r.rest) r.again in omega arith
 
--- a poll whose first look is not its last is one of a link with events
+-- A poll whose first read of the available index isn't its last is a poll in a link with events.
 poll_length : (config : EndConfig) (taken : ℕ) (events found_none : Bool) (steps : List Step) → IsPoll config taken (not events || found_none) steps → length steps ≤ (if events then 4 else 2) + items_bound steps
 poll_length config taken false found_none steps is = look_length config taken (FindsNothing config taken) steps 2 (omega arith) (nothing_length config taken steps) is
 poll_length config taken true true steps is = let n = look_length config taken (FindsNothing config taken) steps 2 (omega arith) (nothing_length config taken steps) is in omega arith
@@ -133,14 +133,14 @@ poll_some : (b : Bool) (n : ℕ) → 1 ≤ (if b then 4 else 2) + n
 poll_some true n = omega arith
 poll_some false n = omega arith
 
--- a call that is down has one step
+-- A call that is down has one step.
 by_phase : (phase : Phase) (Runs : Type 0) (steps : List Step) (bound : ℕ) → 1 ≤ bound → (Runs → length steps ≤ bound) → RunsOrIsDown phase Runs steps → length steps ≤ bound
 by_phase Reset Runs steps bound one runs is = let n = ap length is in omega arith
 by_phase Init Runs steps bound one runs is = let n = ap length is in omega arith
 by_phase Ready Runs steps bound one runs is = let n = ap length is in omega arith
 by_phase Run Runs steps bound one runs is = runs is
 
--- a call that is no offer
+-- A call other than an offer.
 pub others_bounding : OtherCallsMeetBounds
 others_bounding config end Tick steps no_offer is = let n = ap length is.1 in omega (arith, tick_length config is.0 (move_of end.handshake is.0))
 others_bounding config end Stop steps no_offer is = let n = ap length is in omega arith

@@ -21,7 +21,8 @@ use Rattle.call_grammar.proofs.Using.{indexes_lem}
 
 -- The words of an item
 
--- the places of a descriptor's words, of an entry and of the data area, in a queue of n whose data area begins at p
+-- The words of a descriptor, of an entry and of the data area differ, in a queue of n whose data
+-- area begins at p.
 descriptor_low : (n k e : ℕ) → e < n → (16 * e + 12) / 4 < (16 * n + 4 + 2 * k) / 4
 descriptor_low n k e lt = omega arith
 
@@ -80,7 +81,7 @@ ids_none : (config : EndConfig) (word freed count : ℕ) (marks : List Mark) (ta
 ids_none config word freed zero marks tail apart none = none
 ids_none config word freed (suc more) marks tail apart none = (apart freed (omega arith) (omega arith), ids_none config word (freed + 1) more marks tail (λ k low high. apart k (omega arith) (omega arith)) none)
 
--- two ids less than a turn of the ring apart stand in different words
+-- Two ids less than a queue size apart are in different words.
 ids_apart : (config : EndConfig) → HasSections config → (k a : ℕ) → k < a → a < k + size_of config.sizes → id_word config k ≢ id_word config a
 ids_apart config has k a lt far same = let least = (bounds config.sizes has.queue).size_least in ring_apart (size_of config.sizes) k a (omega arith) lt far (omega arith)
 
@@ -92,7 +93,7 @@ ids_distinct config has freed (suc more) total marks tail is few none others = (
   ids_distinct config has (freed + 1) more total marks tail (omega arith) (omega arith) (λ k low high. none k (omega arith) high) others,
 )
 
--- writes and the doorbell read nothing, and what an offer tells reads the other's event at most
+-- Writes and the doorbell read nothing, and a notification reads at most the other's avail_event.
 abbrev event_word : EndConfig → ℕ
 event_word config = config.theirs + word_offset config.sizes AvailEvent
 
@@ -116,7 +117,7 @@ told_distinct config number value false asks = tt
 used_low : (config : EndConfig) (k : ℕ) → config.theirs + word_offset config.sizes UsedIndex ≢ id_word config k
 used_low config k same = omega arith
 
--- the event stands after the index and the ids
+-- avail_event is after the index and the ids.
 event_high : (config : EndConfig) → HasSections config → (k : ℕ) → id_word config k ≢ event_word config
 event_high config has k same =
     let least = (bounds config.sizes has.queue).size_least in let low = mod_below k (size_of config.sizes) (omega arith) in omega arith

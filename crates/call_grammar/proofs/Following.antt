@@ -16,7 +16,7 @@ use Rattle.call_grammar.specs.Polls.{is_entry, is_address, is_length, read_words
 use Rattle.call_grammar.specs.Calls.{Call, Tick, Stop, Offer, Poll, in_run, pending_of, tree_of}
 use Rattle.call_grammar.specs.Places.{Place, Closed, ReadingOtherState, Clearing, WritingState, Refusing, NotInRun, ReadingUsedIndex, ReadingUsedId, WritingFrameWord, WritingDescAddressLow, WritingDescAddressHigh, WritingDescLength, WritingDescFlags, WritingAvailEntry, WritingAvailIndex, ReadingAvailEvent, RingingOffer, ReadingAvailIndex, WritingAvailEvent, ReadingAvailEntry, ReadingDescAddressLow, ReadingDescAddressHigh, ReadingDescLength, ReadingDescFlags, ReadingFrameWord, WritingUsedId, WritingUsedLength, WritingUsedIndex, RingingPoll, remaining, clear_place, tick_place, fill_place, ids_place, notify_place, none_place, items_place, words_place, first_place, next_place, step_at, is_open, PlacesFollowTrees}
 
--- what is left at a choice of places is the choice of what is left
+-- The rest of a call at a choice of places is the choice of the rests.
 chosen : (config : EndConfig) (b : Bool) (x y : Place) → remaining config (if b then x else y) ≡ (if b then remaining config x else remaining config y)
 chosen config true x y = refl
 chosen config false x y = refl
@@ -46,7 +46,7 @@ ids_left config pending freed (suc more) = refl
 tell_left : (config : EndConfig) (number : ℕ) → remaining config (notify_place config number) ≡ notify config number
 tell_left config number = chosen config (has_events config.sizes) (ReadingAvailEvent number) RingingOffer
 
--- what is left of a poll after a look that finds nothing
+-- The rest of a poll after a read of the available index that finds no frame.
 abbrev after_none : EndConfig → ℕ → (last : Bool) → CallTree
 after_none config taken true = Ended
 after_none config taken false = write_avail_event config taken (read_avail_index config taken true Ended)
@@ -67,11 +67,11 @@ words_left : (config : EndConfig) (number more entry address bytes : ℕ) (read 
 words_left config number more entry address bytes read zero = refl
 words_left config number more entry address bytes read (suc words) = refl
 
--- a choice between going on and a refusal
+-- A choice between the rest of a call and a refusal.
 going_on : (config : EndConfig) (b : Bool) (x : Place) (t : CallTree) → remaining config x ≡ t → (if b then t else set_state 0) ≡ remaining config (if b then x else Refusing)
 going_on config b x t e = sym (chosen config b x Refusing ∙ both b (remaining config x) t (set_state 0) (set_state 0) e refl)
 
--- what is left after a look whose value is in range
+-- The rest of a poll after a read of the available index in range.
 look_left : (config : EndConfig) (taken : ℕ) (last : Bool) (value : ℕ) → remaining config (if published_by taken value == 0 then none_place taken last else items_place taken (published_by taken value)) ≡
     (if published_by taken value == 0 then after_none config taken last else items config taken (published_by taken value))
 look_left config taken last value = chosen config (published_by taken value == 0) (none_place taken last) (items_place taken (published_by taken value)) ∙

@@ -10,11 +10,11 @@ use Rattle.call_grammar.specs.Offers.{avail_entry_of}
 use Rattle.call_grammar.specs.Polls.{item_entry, item_address, word_steps, return_steps}
 use Rattle.call_grammar.specs.ItemSpelling.{AllMatchWords, ReadItemsAreSpelled}
 
--- the word at a place after the first of the section
+-- The value read of the word at offset `place` of the section is the section's word.
 pub there : (words : ℕ → ℕ) (theirs place value : ℕ) → value ≡ words (theirs + place - theirs) → words place ≡ value
 there words theirs place value met = let e : theirs + place - theirs ≡ place = omega arith in sym (met ∙ ap words e)
 
--- a byte of a word, at a place by words and bytes
+-- A byte of a word, at an offset by words and bytes.
 byte_of : (words : ℕ → ℕ) (place at rest word : ℕ) → words at ≡ word → place ≡ 4 * at + rest → rest < 4 → byte_at words place ≡ word / 256 ^ rest % 256
 byte_of words place at rest word holds is small =
     let e : place / 4 ≡ at = omega arith in
@@ -33,7 +33,7 @@ byte_2 words place at word holds is = let e = byte_of words place at 2 word hold
 byte_3 : (words : ℕ → ℕ) (place at word : ℕ) → words at ≡ word → place ≡ 4 * at + 3 → byte_at words place ≡ word / 16777216 % 256
 byte_3 words place at word holds is = let e = byte_of words place at 3 word holds is (omega arith) in omega (arith, e)
 
--- the bytes of the words read are those of the section
+-- The bytes of the words read are the bytes of the section.
 pub words_spell : (config : EndConfig) (words : ℕ → ℕ) (address at place bytes : ℕ) (read : List ℕ) (marks : List Mark) (tail : List Step) →
     AllMatchWords config words (word_steps config address at read marks ++ tail) → place ≡ 4 * (address / 4 + at) → length read ≡ words_for bytes →
     take bytes (flat_map word_bytes read) ≡ bytes_from words place bytes

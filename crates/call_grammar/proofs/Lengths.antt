@@ -1,4 +1,4 @@
--- The lengths of the frames of a session, one more and the ones before it.
+-- The lengths of the frames of a session, with one more frame.
 use Rattle.std.proofs.Common.{◌≡◌, ℕ, ◌+◌, ◌*◌, ◌<◌, ◌≤◌, List, [], ◌∷◌, ◌++◌, length, ap, arith}
 use Rattle.std.proofs.Math.ListN.{get_or-append}
 use Rattle.std.proofs.Math.Seq.{get_or-append_seam}
@@ -16,7 +16,7 @@ last_length frames frame = ap length (get_or-append_seam frames frame [] [])
 pub length_before : (frames : List (List ℕ)) (frame : List ℕ) (k : ℕ) → k < length frames → lengths_of (frames ++ frame ∷ []) k ≡ lengths_of frames k
 length_before frames frame k low = ap length (get_or-append frames (frame ∷ []) [] k low)
 
--- the words of an offered frame lie in the section
+-- The words of an offered frame are in the section.
 pub words_fit : (config : EndConfig) (end : End) (frame : List ℕ) → HasSections config → length frame ≤ config.sizes.mtu + 18 →
     start_at config (pending_of config end frame) + 4 * words_for (length frame) ≤ config.sizes.out
 words_fit config end frame has fits =

@@ -19,7 +19,7 @@ down_listed : (steps : List Step) → Makes down steps → steps ≡ down_step �
 down_listed [] makes = absurd makes
 down_listed (step ∷ steps) makes = let first = makes.0 in let none = makes.1 in cc
 
--- by the phase: what runs in RUN, or the one step that is down
+-- By the phase: the steps in RUN, or the only step of a call that is down.
 by_phase : (phase : Phase) (tree : CallTree) (Runs : Type 0) (steps : List Step) → (Makes tree steps → Runs) → Makes (if in_run phase then tree else down) steps → RunsOrIsDown phase Runs steps
 by_phase Reset tree Runs steps listed makes = down_listed steps makes
 by_phase Init tree Runs steps listed makes = down_listed steps makes
@@ -49,7 +49,7 @@ made_lem config end Poll steps is = from_phase end.handshake.phase (poll config 
 pub lists : CallsAreLists
 lists = record { listed = listed_lem; made = made_lem }
 
--- either of two calls takes a step
+-- Either of two calls has a step.
 either_steps : (b : Bool) (tree other : CallTree) → tree ≢ Ended → other ≢ Ended → (if b then tree else other) ≢ Ended
 either_steps true tree other more more' = more
 either_steps false tree other more more' = more'

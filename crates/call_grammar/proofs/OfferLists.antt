@@ -14,7 +14,7 @@ use Rattle.call_grammar.specs.Words.{words_for}
 use Rattle.call_grammar.specs.Offers.{PendingOffer, frame_fits, descriptor_of, refusal, full_marks, ring_doorbell, wants_doorbell, read_avail_event, write_desc_address_low, write_frame_words, after_ids, read_used_ids, returned_by, reclaim_marks, offer, used_index_step, used_id_step, used_id_steps, refused_steps, frame_write_steps, publish_steps, doorbell_step, avail_event_read_step, notify_steps, IsOffer}
 use Rattle.call_grammar.proofs.TickLists.{set_listed}
 
--- a test that holds or fails chooses
+-- A test chooses by its value.
 pub yes : {A : Type 0} → (b : Bool) (x y : A) → b ≡ true → (if b then x else y) ≡ x
 yes true x y is = refl
 yes false x y is = let f : false ≡ true = is in cc
@@ -27,7 +27,7 @@ pub decide : (b : Bool) → (b ≡ true) ⊎ (b ≡ false)
 decide true = inl refl
 decide false = inr refl
 
--- the doorbell, and the read of the other's event before it
+-- The doorbell, and the read of the other's avail_event before it.
 ring_listed : (config : EndConfig) (steps : List Step) → Makes (ring_doorbell config) steps → steps ≡ doorbell_step config (Over ∷ []) ∷ []
 ring_listed config [] m = absurd m
 ring_listed config (step ∷ steps) m = let first = m.0 in let none = m.1 in cc
@@ -54,7 +54,7 @@ tell_made : (config : EndConfig) (number value : ℕ) (b : Bool) →
 tell_made config number value true = (value, refl, event_makes config (wants_doorbell (low_half value) number))
 tell_made config number value false = (refl, refl)
 
--- what an offer makes from its descriptor on, and from its words on
+-- The steps of an offer from its descriptor on, and from its words on.
 abbrev Published : EndConfig → PendingOffer → (before : List Step) → List Step → Type 0
 Published config pending before steps = (event : ℕ) × (steps ≡ before ++ (publish_steps config pending ++ notify_steps config pending.number event))
 
@@ -81,11 +81,11 @@ fill_made : (config : EndConfig) (pending : PendingOffer) (at more event : ℕ) 
 fill_made config pending at zero event = publish_made config pending event
 fill_made config pending at (suc more) event = (refl, fill_made config pending (at + 1) more event)
 
--- what an offer makes after its ids
+-- The steps of an offer after its ids.
 abbrev IsEnding : EndConfig → PendingOffer → ℕ → List Step → Type 0
 IsEnding config pending freed steps = ((frame_fits config pending freed ≡ false) × (steps ≡ [])) ⊎ ((frame_fits config pending freed ≡ true) × Published config pending (frame_write_steps config pending 0 (words_for (length pending.frame))) steps)
 
--- what an offer makes from so many ids on: the rest of a good offer, or the ids up to one that is wrong
+-- The steps of an offer from an id on: the rest of a valid offer, or the ids up to a wrong one.
 abbrev IdsListed : EndConfig → PendingOffer → (freed count total : ℕ) → List Step → Type 0
 IdsListed config pending freed count total steps =
     ((after : List Step) × (IsEnding config pending total after) × (steps ≡ used_id_steps config freed count (full_marks config pending total) ++ after)) ⊎
@@ -95,7 +95,7 @@ ending : (config : EndConfig) (pending : PendingOffer) (freed : ℕ) (b : Bool) 
 ending config pending freed true steps is m = inr (is, fill_listed config pending 0 (words_for (length pending.frame)) steps m)
 ending config pending freed false steps is m = inl (is, m)
 
--- the marks of an id, where the count of freed frames after the last one is known
+-- The marks of an id, from the number of frames freed after the last id.
 last_marks : (config : EndConfig) (pending : PendingOffer) (freed more total : ℕ) → total ≡ freed + suc more → (if more == 0 then full_marks config pending (freed + 1) else []) ≡ (if more == 0 then full_marks config pending total else [])
 last_marks config pending freed more total is = marks_by config pending freed more total is (more == 0) refl
   where
@@ -107,7 +107,7 @@ no_marks : (b : Bool) → (let none : List Mark = [] in (if b then none else non
 no_marks true = refl
 no_marks false = refl
 
--- one good id before a wrong one
+-- A right id before a wrong one.
 id_before : (config : EndConfig) (pending : PendingOffer) (freed more total : ℕ) (step : Step) (steps : List Step) (value : ℕ) → value ≡ descriptor_of config freed →
     step ≡ used_id_step config freed value (if more == 0 then full_marks config pending (freed + 1) else []) →
     ((passed : ℕ) × (at : ℕ) × (id : ℕ) × (at ≡ freed + 1 + passed) × (passed < more) × (id ≢ descriptor_of config at) × (steps ≡ used_id_steps config (freed + 1) passed [] ++ refused_steps (used_id_step config at id (refusal field_name.UsedId id)))) →
@@ -119,7 +119,7 @@ id_before config pending freed more total step steps value same first bad =
     ap (used_id_step config freed (descriptor_of config freed)) (no (more == 0) (full_marks config pending (freed + 1)) [] some ∙ sym (no_marks (bad.0 == 0)))) in
     let tail = bad.6 in inr (suc bad.0, bad.1, bad.2, (let e = bad.3 in omega arith), (let lt = bad.4 in omega arith), bad.5, (cc))
 
--- one id, and the others
+-- One id, and the rest.
 id_listed : (config : EndConfig) (pending : PendingOffer) (freed more total value : ℕ) (step : Step) (steps : List Step) → total ≡ freed + suc more → (b : Bool) → (value == descriptor_of config freed) ≡ b →
     step ≡ used_id_step config freed value (if b then (if more == 0 then full_marks config pending (freed + 1) else []) else refusal field_name.UsedId value) →
     Makes (if b then read_used_ids config pending (freed + 1) more else set_state 0) steps →
@@ -180,7 +180,7 @@ pub offer_listed : (config : EndConfig) (pending : PendingOffer) (freed : ℕ) (
 offer_listed config pending freed [] m = absurd m
 offer_listed config pending freed (step ∷ steps) m = offer_by config pending freed m.0 step steps (nat_le (returned_by freed m.0) (pending.number - freed)) refl m.1 m.2
 
--- an id and what follows it make the ids, by the test of the id
+-- An id and the steps after it make the rest of the ids, by the test of the id.
 id_from : (config : EndConfig) (pending : PendingOffer) (freed more value : ℕ) (step : Step) (steps : List Step) (b : Bool) → (value == descriptor_of config freed) ≡ b →
     step ≡ used_id_step config freed value (if b then (if more == 0 then full_marks config pending (freed + 1) else []) else refusal field_name.UsedId value) →
     Makes (if b then read_used_ids config pending (freed + 1) more else set_state 0) steps → Makes (read_used_ids config pending freed (suc more)) (step ∷ steps)
@@ -208,7 +208,7 @@ ids_bad config pending freed (suc more) (suc passed) at id is lt wrong = let som
     (ap (used_id_step config freed (descriptor_of config freed)) (no_marks (passed == 0) ∙ sym (no (more == 0) (full_marks config pending (freed + 1)) [] some)))
     (ids_bad config pending (freed + 1) more passed at id (omega arith) (omega arith) wrong)
 
--- the used index and what follows it make an offer, by the test of the index
+-- The used index and the steps after it make an offer, by the test of the index.
 offer_from : (config : EndConfig) (pending : PendingOffer) (freed value : ℕ) (step : Step) (steps : List Step) (b : Bool) → nat_le (returned_by freed value) (pending.number - freed) ≡ b →
     step ≡ used_index_step config value (if b then reclaim_marks config pending freed (returned_by freed value) else refusal field_name.UsedIndex (high_half value)) →
     Makes (if b then read_used_ids config pending freed (returned_by freed value) else set_state 0) steps → Makes (offer config pending freed) (step ∷ steps)

@@ -1,4 +1,4 @@
--- What is played is a call, and a call is played.
+-- A list of steps that replays is a call, and a call replays.
 use Rattle.std.proofs.Common.{◌≡◌, ℕ, Bool, true, false, List, [], ◌∷◌, refl, sym, ap, ◌∙◌, subst}
 use Rattle.call_grammar.specs.Steps.{Step, value_given}
 use Rattle.call_grammar.specs.Trees.{CallTree, Ended, Does, Reads, Goes, Makes}
@@ -8,7 +8,7 @@ use Rattle.call_grammar.proofs.Following.{following}
 use Rattle.call_grammar.proofs.Lists.{lists}
 use Rattle.call_grammar.specs.Replays.{IsReplayed, ReplaysAreCalls}
 
--- a list that a tree makes begins with a step of the tree
+-- The first step of a list that a tree makes is a step of the tree.
 makes_first : (tree : CallTree) (step : Step) (steps : List Step) → Makes tree (step ∷ steps) → (left : CallTree) × Goes tree step left × Makes left steps
 makes_first Ended step steps m = absurd (cc)
 makes_first (Does access marks rest) step steps m = (rest, (m.0, refl), m.1)
@@ -19,7 +19,7 @@ makes_more Ended left step steps g m = absurd g
 makes_more (Does access marks rest) left step steps g m = (g.0, subst (λ (t : CallTree). Makes t steps) g.1 m)
 makes_more (Reads word marks rest) left step steps g m = (g.0, g.1, subst (λ (t : CallTree). Makes t steps) g.2 m)
 
--- an open place has steps left
+-- An open place has steps left.
 open_more : (config : EndConfig) (place : Place) → is_open place ≡ true → Makes (remaining config place) [] → ⊥
 open_more config place opened m = by_tree (remaining config place) _ _ (following.comes config place 0 opened) m
   where
@@ -38,7 +38,7 @@ call_lem config place (step ∷ steps) p = makes_more (remaining config place) (
     (subst (λ (s : Step). Goes (remaining config place) s (remaining config (next_place config place step.value))) (sym p.1) (following.comes config place step.value p.0))
     (call_lem config (next_place config place step.value) steps p.2)
 
--- a step that gives no value goes on in one way
+-- A step without a read has one next place.
 given : (config : EndConfig) (place : Place) (v : ℕ) → (step_at config place (value_given (access_at config place) v) ≡ step_at config place v) × (next_place config place (value_given (access_at config place) v) ≡ next_place config place v)
 given config Closed v = (refl, refl)
 given config place v = (refl, refl)

@@ -18,7 +18,7 @@ use Rattle.call_grammar.specs.Polls.{is_entry, is_address, is_length, write_used
 use Rattle.call_grammar.proofs.TickLists.{set_listed}
 use Rattle.call_grammar.proofs.OfferLists.{yes, no, within_test, beyond_test}
 
--- A read that is tested: its value passed, and others follow; or it was refused
+-- A read with a test: its value passes and the rest follows, or it is refused
 
 abbrev tested_tree : ℕ → (ℕ → Bool) → (ℕ → List Mark) → (ℕ → CallTree) → CallTree
 tested_tree word ok marks rest = Reads word (λ value. if ok value then [] else marks value) (λ value. if ok value then rest value else set_state 0)
@@ -103,7 +103,7 @@ flags_tells f test = grind (arith, nat_tests)
 flags_denies : (f : ℕ) → (f == 0) ≡ false → ¬ IsDescFlags f
 flags_denies f test is = grind (arith, nat_tests)
 
--- The words of a frame, and what follows them
+-- The words of a frame, and the steps after them
 
 abbrev WordsListed : EndConfig → (number entry address bytes : ℕ) → List ℕ → (more at : ℕ) → CallTree → List Step → Type 0
 WordsListed config number entry address bytes read more at after steps = (words : List ℕ) × (tail : List Step) × Makes after tail × (length words ≡ more) ×
@@ -118,7 +118,7 @@ return_listed config number entry after (a ∷ (b ∷ (c ∷ steps))) m = (steps
 longer : (xs : List ℕ) (x : ℕ) → length (xs ++ x ∷ []) ≡ length xs + 1
 longer xs x = length-append xs (x ∷ [])
 
--- the marks of a word: a frame is delivered on its last
+-- The marks of a word: the last word delivers the frame.
 word_marks : (bytes more value : ℕ) (read words : List ℕ) → length words ≡ more →
     (if more == 0 then Deliver (frame_in bytes (read ++ value ∷ [])) ∷ [] else []) ≡ (if length words == 0 then Deliver (frame_in bytes (read ++ value ∷ words)) ∷ [] else [])
 word_marks bytes more value read [] is = ap (λ n. if n == 0 then Deliver (frame_in bytes (read ++ value ∷ [])) ∷ [] else []) (sym is)
@@ -164,7 +164,7 @@ item_of entry_word low high bytes flags_word words = record { entry_word = entry
 abbrev entry_name : EndConfig → ℕ → ℕ → ℕ
 entry_name config number ew = entry_half (avail_entry_of config number) ew
 
--- what stands before the read of the flags, of the length, and of the address's high word
+-- The steps before the read of the flags, of the length, and of the address's high word.
 abbrev three : EndConfig → (number ew lo hi : ℕ) → List Step → List Step
 three config number ew lo hi steps = entry_step config number (item_of ew lo hi 0 0 []) [] ∷ low_step config number (item_of ew lo hi 0 0 []) ∷ high_step config number (item_of ew lo hi 0 0 []) [] ∷ steps
 
@@ -252,7 +252,7 @@ look_by config taken last none FindsNone value step steps true false test zero_t
       | inr bad ↦ inr (inr (inr record { value = value; within = within; reads = bad.0; before = bad.2; good = bad.1; last = bad.5; last_steps = bad.6; refused = subst (λ k. IsRefusedItem config k bad.5 bad.6) bad.4 bad.7; steps_are = let rest = bad.8 in cc }))
     ]
 
--- the last look of a poll finds nothing
+-- The last read of the available index in a poll finds no frame.
 nothing_listed : (config : EndConfig) (taken value : ℕ) (step : Step) (steps : List Step) → published_by taken value ≡ 0 → step ≡ avail_index_step config value (Look 0 ∷ Done ∷ []) → Makes Ended steps → FindsNothing config taken (step ∷ steps)
 nothing_listed config taken value step steps none first later = record { value = value; none = none; steps_are = cc }
 
@@ -260,7 +260,7 @@ last_listed : (config : EndConfig) (taken : ℕ) (steps : List Step) → Makes (
 last_listed config taken [] m = absurd m
 last_listed config taken (step ∷ steps) m = look_by config taken true Ended (FindsNothing config taken) m.0 step steps (nat_le (published_by taken m.0) (size_of config.sizes)) (published_by taken m.0 == 0) refl refl (nothing_listed config taken m.0 step steps) m.1 m.2
 
--- a look before the last one finds nothing
+-- A read of the available index before the last one finds no frame.
 again_listed : (config : EndConfig) (taken value : ℕ) (step : Step) (steps : List Step) → published_by taken value ≡ 0 → step ≡ avail_index_step config value (Look 0 ∷ []) → Makes (write_avail_event config taken (poll config taken true)) steps → LooksAgain config taken (step ∷ steps)
 again_listed config taken value step [] none first later = absurd later
 again_listed config taken value step (asks ∷ steps) none first later = record { value = value; none = none; rest = steps; again = last_listed config taken steps later.1; steps_are = let second = later.0 in cc }
@@ -270,7 +270,7 @@ poll_listed config taken true steps m = last_listed config taken steps m
 poll_listed config taken false [] m = absurd m
 poll_listed config taken false (step ∷ steps) m = look_by config taken false (write_avail_event config taken (poll config taken true)) (LooksAgain config taken) m.0 step steps (nat_le (published_by taken m.0) (size_of config.sizes)) (published_by taken m.0 == 0) refl refl (again_listed config taken m.0 step steps) m.1 m.2
 
--- And back
+-- The converse
 
 length_made : (config : EndConfig) (number : ℕ) (after : CallTree) (read : Item) (steps : List Step) → IsDescLength config.sizes (item_address read) read.bytes → Makes (read_flags config number (item_entry config number read) (item_address read) read.bytes after) steps →
     Makes (read_length config number (item_entry config number read) (item_address read) after) (length_step config number read [] ∷ steps)

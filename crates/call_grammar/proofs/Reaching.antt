@@ -1,4 +1,4 @@
--- Every call stays in reach.
+-- Every call has permitted accesses only.
 use Rattle.std.proofs.Common.{◌≡◌, ℕ, zero, suc, ◌+◌, ◌-◌, ◌*◌, ◌%◌, ◌<◌, ◌≤◌, Bool, true, false, List, [], ◌∷◌, ◌++◌, length, refl, sym, subst, arith, inl, inr, All, length-append}
 use Rattle.std.specs.Prelude.{◌==◌, nat_le, if◌then◌else◌}
 use Rattle.std.proofs.lemmas.Nat.{mod_below}
@@ -33,7 +33,7 @@ after_tick_stays config Stay = tt
 after_tick_stays config (Set state) = (tt, tt)
 after_tick_stays config (ClearThenSet state) = clear_stays config config.own config.words (set_state state) (omega arith) (omega arith) (tt, tt)
 
--- The words of a field stand in the section
+-- The words of a field are in the section
 
 within : (config : EndConfig) → HasSections config → (f : Field) (more : ℕ) → IsField config.sizes f → 4 * more < width_of config.sizes f → word_offset config.sizes f + more < config.words
 within config has f more is room = let inside = (places_lem config.sizes has.queue).inside f is in let words = has.words in omega arith
@@ -59,7 +59,7 @@ in_slots config has number = mod_below number (limit_of config.sizes) (bounds co
 in_table : (config : EndConfig) → HasSections config → (number : ℕ) → descriptor_of config number < size_of config.sizes
 in_table config has number = let low = in_slots config has number in let most = (bounds config.sizes has.queue).limit_most in omega arith
 
--- a choice, where the test is known in each part
+-- A choice, if the test is known in each part.
 choice : (config : EndConfig) (b : Bool) (t u : CallTree) → (b ≡ true → StaysInReach config t) → StaysInReach config u → StaysInReach config (if b then t else u)
 choice config true t u first second = first refl
 choice config false t u first second = second

@@ -1,4 +1,4 @@
--- How a poll ends.
+-- The end of a poll.
 use Rattle.std.proofs.Common.{◌≡◌, ◌≢◌, ℕ, ◌⊎◌, inl, inr, Bool, true, false, List, [], ◌∷◌, ◌++◌, refl, sym, ap, ◌∙◌, subst, append_assoc}
 use Rattle.std.specs.List.{AllByRecursion}
 use Rattle.call_grammar.specs.Steps.{Mark, Look, Return, Done, Step}
@@ -10,7 +10,7 @@ use Rattle.call_grammar.specs.Returning.{ReturnsNone, EndsWith, PollsThatReturnR
 abbrev Ends : EndConfig → List Step → Type 0
 Ends config steps = AllByRecursion ReturnsNone steps ⊎ (EndsWith (doorbell_step config (Done ∷ [])) steps ⊎ EndsWith (state_step 0) steps)
 
--- a refusal ends with State 0
+-- A refusal ends with State 0.
 refused_ends : (step : Step) (before steps : List Step) → steps ≡ before ++ refused_steps step → EndsWith (state_step 0) steps
 refused_ends step before steps is = (before ++ step ∷ [], is ∙ sym (append_assoc before (step ∷ []) (state_step 0 ∷ [])))
 
@@ -26,7 +26,7 @@ item_ends config number read before last steps (inr (inr (inr r))) is =
     let front = entry_step config number read [] ∷ low_step config number read ∷ high_step config number read [] ∷ length_step config number read [] ∷ [] in
     refused_ends _ (before ++ front) steps (is ∙ (ap (λ (l : List Step). before ++ l) r.4 ∙ sym (append_assoc before front _)))
 
--- a look ends so, where one that finds nothing does
+-- A read of the available index and the rest end in this way if a read that finds no frame does.
 look_ends : (config : EndConfig) (taken : ℕ) (FindsNone : List Step → Type 0) (steps : List Step) → ((steps : List Step) → FindsNone steps → Ends config steps) → IsLook config taken FindsNone steps → Ends config steps
 look_ends config taken FindsNone steps none (inl r) = inr (inr (refused_ends _ [] steps r.steps_are))
 look_ends config taken FindsNone steps none (inr (inl r)) = none steps r
@@ -36,7 +36,7 @@ look_ends config taken FindsNone steps none (inr (inr (inr r))) = inr (inr (item
 done_ends : (config : EndConfig) (taken : ℕ) (steps : List Step) → FindsNothing config taken steps → Ends config steps
 done_ends config taken steps r = inl (subst (AllByRecursion ReturnsNone) (sym r.steps_are) (((λ e. cc), ((λ e. cc), tt)), tt))
 
--- two steps that give nothing back, before others
+-- Two steps that return no frame, before others.
 after_two : (config : EndConfig) (first second : Step) (rest steps : List Step) → ReturnsNone first → ReturnsNone second → steps ≡ first ∷ second ∷ rest → Ends config rest → Ends config steps
 after_two config first second rest steps one two is (inl none) = inl (subst (AllByRecursion ReturnsNone) (sym is) (one, (two, none)))
 after_two config first second rest steps one two is (inr (inl rings)) = inr (inl (first ∷ second ∷ rings.0, is ∙ ap (λ (l : List Step). first ∷ second ∷ l) rings.1))

@@ -1,4 +1,4 @@
--- Every call keeps the state rows.
+-- Every call has its State rows.
 use Rattle.std.proofs.Common.{◌≡◌, ℕ, zero, suc, ◌+◌, ◌-◌, true, false, Bool, List, [], ◌∷◌, ◌++◌, length, refl, sym, subst, inl, inr}
 use Rattle.std.specs.Prelude.{◌==◌, nat_le, if◌then◌else◌}
 use Rattle.split_ring.specs.declared.ranges.FieldName.TheVariants as field_name
@@ -21,7 +21,7 @@ use Rattle.call_grammar.specs.Polls.{is_entry, is_address, is_length, read_words
 use Rattle.call_grammar.specs.Calls.{Call, Tick, Stop, Offer, Poll, in_run, pending_of, down, tree_of}
 use Rattle.call_grammar.specs.Rows.{MovesTo, phase_with, seen_with, SeesTheOther, RowHolds, KeepsRows, CallsKeepRows}
 
--- the move of an end is none, or that of the table
+-- The move of an end is none, or the table's.
 abbrev IsMove : Phase → ℕ → Move → Type 0
 IsMove phase value Stay = Unit {0}
 IsMove phase value (Set state) = MovesTo phase value state
@@ -46,12 +46,12 @@ tick_keeps config phase value Stay seen is = ((refl, refl, tt), tt)
 tick_keeps config phase value (Set state) seen is = ((refl, refl, tt), ((inr is, tt), tt))
 tick_keeps config phase value (ClearThenSet state) seen is = ((refl, refl, tt), clear_keeps config phase value config.own config.words state is)
 
--- a choice of two parts
+-- A choice of two parts.
 either : (config : EndConfig) (phase : Phase) (seen : ℕ) (b : Bool) (t u : CallTree) → KeepsRows config phase seen t → KeepsRows config phase seen u → KeepsRows config phase seen (if b then t else u)
 either config phase seen true t u first second = first
 either config phase seen false t u first second = second
 
--- a choice of marks that see nothing
+-- A choice of marks without `Saw`.
 blind : (config : EndConfig) (word value : ℕ) (b : Bool) (m n : List Mark) → SeesTheOther config word value m → SeesTheOther config word value n → SeesTheOther config word value (if b then m else n)
 blind config word value true m n first second = first
 blind config word value false m n first second = second
@@ -139,7 +139,7 @@ call_keeps config end seen Stop = back_off config end.handshake.phase seen
 call_keeps config end seen (Offer frame) = either config end.handshake.phase seen (in_run end.handshake.phase) (offer config (pending_of config end frame) end.freed) down (offer_keeps config end.handshake.phase seen (pending_of config end frame) end.freed) (tt, tt)
 call_keeps config end seen Poll = either config end.handshake.phase seen (in_run end.handshake.phase) (poll config (length end.delivered) (is_last config end.found_none)) down (poll_keeps config end.handshake.phase seen (length end.delivered) (is_last config end.found_none)) (tt, tt)
 
--- the row of a step that gives its own value
+-- The row of a step with its own value.
 row_of : (config : EndConfig) (phase : Phase) (seen : ℕ) (a : Access) (value : ℕ) (marks : List Mark) → RowHolds config phase seen a 0 marks → RowHolds config phase seen a (value_given a 0) marks
 row_of config phase seen (access.Read word) value marks row = row
 row_of config phase seen (access.Write word written) value marks row = row

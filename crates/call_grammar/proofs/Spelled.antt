@@ -1,11 +1,11 @@
--- The words that bytes spell.
+-- The words of bytes.
 use Rattle.std.proofs.Common.{◌≡◌, ℕ, suc, ◌+◌, ◌-◌, ◌*◌, ◌/◌, ◌%◌, ◌<◌, ◌≤◌, List, [], ◌∷◌, ◌++◌, length, take, drop, slice_index, refl, ap, ◌∙◌, arith}
 use Rattle.std.proofs.lemmas.List.{drop-take, take-take}
 use Rattle.std.specs.List.{flat_map}
 use Rattle.ivs_base.specs.Numbers.{word_of}
 use Rattle.call_grammar.specs.Words.{word_bytes}
 
--- four bytes are those of a word
+-- Four bytes are the bytes of a word.
 four : (a b c d : ℕ) → a < 256 → b < 256 → c < 256 → d < 256 → a ∷ b ∷ c ∷ d ∷ [] ≡ word_bytes (a + 256 * b + 65536 * c + 16777216 * d)
 four a b c d a_fits b_fits c_fits d_fits =
     let word = a + 256 * b + 65536 * c + 16777216 * d in
@@ -15,7 +15,7 @@ four a b c d a_fits b_fits c_fits d_fits =
     let fourth : d ≡ word / 16777216 % 256 = omega (arith, a_fits, b_fits, c_fits, d_fits) in
     ap (λ n. n ∷ b ∷ c ∷ d ∷ []) first ∙ ap (λ n. word % 256 ∷ n ∷ c ∷ d ∷ []) second ∙ ap (λ n. word % 256 ∷ word / 256 % 256 ∷ n ∷ d ∷ []) third ∙ ap (λ n. word % 256 ∷ word / 256 % 256 ∷ word / 65536 % 256 ∷ n ∷ []) fourth
 
--- whole words of bytes spell some words
+-- Bytes in whole words are the bytes of a list of words.
 pub spelled : (bytes : List ℕ) → length bytes % 4 ≡ 0 → ((i : ℕ) → slice_index bytes i < 256) → (values : List ℕ) × (bytes ≡ flat_map word_bytes values)
 spelled [] whole fit = ([], refl)
 spelled (a ∷ []) whole fit = absurd (omega (arith, whole))
@@ -26,11 +26,11 @@ spelled (a ∷ b ∷ c ∷ d ∷ bytes) whole fit =
     let word = a + 256 * b + 65536 * c + 16777216 * d in
     (word ∷ rest.0, ap (λ l. a ∷ b ∷ c ∷ d ∷ l) rest.1 ∙ ap (λ l. l ++ flat_map word_bytes rest.0) (four a b c d (fit 0) (fit 1) (fit 2) (fit 3)))
 
--- the word that the four bytes of a word spell
+-- The word of the four bytes of a word.
 pub word_again : (word : ℕ) → word < 4294967296 → word_of (word_bytes word) ≡ word
 word_again word fits = omega (arith, fits)
 
--- a word of the first n bytes of these is that of all of them
+-- A word of the first n bytes is the same word of all bytes.
 pub front_word : (bytes : List ℕ) (n start : ℕ) → start + 4 ≤ n → take 4 (drop start (take n bytes)) ≡ take 4 (drop start bytes)
 front_word bytes n start within =
     let m = n - start in

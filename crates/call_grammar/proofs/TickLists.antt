@@ -29,7 +29,7 @@ tick_listed config value Stay step steps is makes = let none = makes in cc
 tick_listed config value (Set state) step steps is makes = let last = set_listed state steps makes in cc
 tick_listed config value (ClearThenSet state) step steps is makes = let others = clear_listed config.own config.words state steps makes in cc
 
--- these steps are a Tick that read this value and makes this move
+-- These steps are a Tick that read `value` and makes this move.
 abbrev pub TicksBy : EndConfig → ℕ → Move → List Step → Type 0
 TicksBy config value move [] = ⊥
 TicksBy config value move (step ∷ steps) = (step ≡ step_of (Read config.other) value (tick_marks value move)) × Makes (after_tick config move) steps

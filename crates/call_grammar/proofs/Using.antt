@@ -23,7 +23,7 @@ use Rattle.call_grammar.specs.ReadsOnce.{used_index_word, avail_index_word, inde
 use Rattle.call_grammar.proofs.OfferLists.{yes, no}
 use Rattle.call_grammar.proofs.PollLists.{entry_tells, address_tells}
 
--- each step of the call reads for use, whatever its reads give
+-- Each step of the call reads an index exactly for its uses, for all values read.
 abbrev UsesReads : EndConfig → CallTree → Type 0
 UsesReads config Ended = Unit {0}
 UsesReads config (Does access marks rest) = (indexes_read config access ≡ indexes_used config marks) × UsesReads config rest
@@ -133,7 +133,7 @@ offer_uses config has pending freed = λ value. (
   choice config (nat_le (returned_by freed value) (pending.number - freed)) (read_used_ids config pending freed (returned_by freed value)) (set_state 0) (λ _. ids_use config has pending freed (returned_by freed value)) (refl, tt),
 )
 
--- the words of a frame stand after those of the indexes
+-- The words of a frame are after the words of the indices.
 frame_apart : (config : EndConfig) (address at : ℕ) → data_area_start config.sizes ≤ address → index_at config (config.theirs + (address / 4 + at)) ≡ []
 frame_apart config address at above = at_no_index config _ (λ e. omega (arith, e)) (λ e. omega (arith, e))
 

@@ -1,10 +1,11 @@
--- The automatic peer: which call comes next (profile).
+-- The automatic end: the choice of its next call (profile).
 use Rattle.std.specs.Prelude.{ℕ, ◌≡◌, Bool, true, false, ◌&&◌, ◌||◌, not, nat_le, if◌then◌else◌, Option, Some, None, List, [], ◌∷◌}
 use Rattle.link_handshake.specs.declared.Phase.{Phase}
 use Rattle.link_handshake.specs.declared.Phase.TheVariants.{Reset, Init, Ready, Run}
 use Rattle.call_grammar.specs.Calls.{Call, Tick, Offer, in_run}
 
--- what is chosen: a call, of which an Offer is of the first frame that was not accepted yet; or that the peer is finished
+-- A choice: a call (an Offer is of the first frame that isn't accepted yet), or that the end is
+-- finished.
 pub data Choice : Type 0 where
   ChoosesTick : Choice
   ChoosesOffer : (frame : List ℕ) → Choice
@@ -13,7 +14,8 @@ pub data Choice : Type 0 where
 
 -- The rule
 
--- a call that a peer chose: which it was, the phase in which it began, and whether its device was reset since then
+-- A call that an end chose: the call, the phase in which it began, and whether the device was reset
+-- since then.
 pub record Chosen : Type 0 where
   pub call : Call
   pub phase : Phase
@@ -27,12 +29,12 @@ abbrev pub is_offer : Call → Bool
 is_offer (Offer frame) = true
 is_offer _ = false
 
--- the call before was cut by a reset, or it was a Tick, or it began outside RUN; or there was none
+-- There was no call before, or it was a Tick, or it began outside RUN, or a reset cut it.
 abbrev pub is_anew : Option Chosen → Bool
 is_anew None = true
 is_anew (Some before) = before.was_reset || (is_tick before.call || not (in_run before.phase))
 
--- the call before was an Offer
+-- The call before was an Offer.
 abbrev pub was_offer : Option Chosen → Bool
 was_offer None = false
 was_offer (Some before) = is_offer before.call
@@ -45,10 +47,16 @@ abbrev pub first_or_poll : List (List ℕ) → Choice
 first_or_poll [] = ChoosesPoll
 first_or_poll (frame ∷ frames) = ChoosesOffer frame
 
--- the choice of a peer in this phase, by the call that it chose before, the frames that were not accepted yet, and the numbers of frames that it
--- delivered in the whole run and that it expects. Of five rules the first that applies decides:
--- no frame is left, and as many were delivered as it expects: it is finished; it isn't in RUN: a Tick; the call before was a Tick, or began outside
--- RUN, or was cut: an Offer where a frame is left, else a Poll; the call before was an Offer: a Poll; it was a Poll: a Tick
+-- The choice of an end in phase `phase`. It depends on the call that the end chose before, the
+-- frames that aren't accepted yet, and the numbers of frames delivered in the whole run and
+-- expected. The first of five rules that applies decides:
+-- - no frame is left, and the number delivered is at least the number expected: the end is
+--   finished;
+-- - the end isn't in RUN: a Tick;
+-- - there was no call before, or it was a Tick, began outside RUN or was cut: an Offer if a frame
+--   is left, else a Poll;
+-- - the call before was an Offer: a Poll;
+-- - the call before was a Poll: a Tick.
 abbrev pub choice_by_rule : Phase → Option Chosen → List (List ℕ) → (delivered expected : ℕ) → Choice
 choice_by_rule phase before frames delivered expected =
     if is_empty frames && nat_le expected delivered then IsFinished
@@ -57,40 +65,41 @@ choice_by_rule phase before frames delivered expected =
     else if was_offer before then ChoosesPoll
     else ChoosesTick
 
--- The same in rounds, as it is computed
+-- The same in rounds, as the program computes it
 
--- where a round is: it begins anew after a Tick, and after a call that began outside RUN or was cut; an Offer or a Poll in RUN goes on with it
+-- The position in the round. A round begins after a Tick, and after a call that began outside RUN
+-- or was cut. An Offer or a Poll in RUN advances it.
 pub data Round : Type 0 where
   Anew : Round
   AfterOffer : Round
   AfterPoll : Round
 
--- in RUN a round is an Offer where a frame is left, then a Poll, then a Tick
+-- In RUN a round is an Offer (if a frame is left), then a Poll, then a Tick.
 abbrev pub in_round : Round → List (List ℕ) → Choice
 in_round Anew [] = ChoosesPoll
 in_round Anew (frame ∷ frames) = ChoosesOffer frame
 in_round AfterOffer frames = ChoosesPoll
 in_round AfterPoll frames = ChoosesTick
 
--- outside RUN it is a Tick
+-- Outside RUN the choice is a Tick.
 abbrev pub in_phase : Phase → Round → List (List ℕ) → Choice
 in_phase Reset round frames = ChoosesTick
 in_phase Init round frames = ChoosesTick
 in_phase Ready round frames = ChoosesTick
 in_phase Run round frames = in_round round frames
 
--- the next call of a peer in this phase, whose frames that are not accepted yet are these, that delivered so many in the whole run and expects so
--- many: the peer is
--- finished where no frame is left and as many were delivered as it expects
+-- The choice of an end in phase `phase`. It depends on the position in the round, the frames that
+-- aren't accepted yet, and the numbers of frames delivered in the whole run and expected. The end
+-- is finished if no frame is left and the number delivered is at least the number expected.
 abbrev pub choice_of : Phase → Round → List (List ℕ) → (delivered expected : ℕ) → Choice
 choice_of phase round [] delivered expected = if nat_le expected delivered then IsFinished else in_phase phase round []
 choice_of phase round (frame ∷ frames) delivered expected = in_phase phase round (frame ∷ frames)
 
--- the round that the call before leads to
+-- The position in the round after the call before.
 abbrev pub round_since : Option Chosen → Round
 round_since before = if is_anew before then Anew else if was_offer before then AfterOffer else AfterPoll
 
--- the rounds keep the rule
+-- The rounds choose the same calls as the rule.
 abbrev pub RoundsKeepTheRule : Type 0
 RoundsKeepTheRule = (phase : Phase) (before : Option Chosen) (frames : List (List ℕ)) (delivered expected : ℕ) →
     choice_of phase (round_since before) frames delivered expected ≡ choice_by_rule phase before frames delivered expected

@@ -1,4 +1,5 @@
--- What a poll delivers, by the words of the other's section: the values read for an item spell a frame as the words of a section do.
+-- The frames that a poll delivers, in terms of the words of the other's section: the values read
+-- for an item hold a frame as the words of a section do.
 use Rattle.std.specs.Prelude.{ℕ, ◌≡◌, ◌-◌, List, [], ◌∷◌}
 use Rattle.split_ring.specs.declared.steps.Access.{Access}
 use Rattle.split_ring.specs.declared.steps.Access.TheVariants as access
@@ -8,20 +9,22 @@ use Rattle.call_grammar.specs.Ticks.{EndConfig}
 use Rattle.call_grammar.specs.Words.{frame_in}
 use Rattle.call_grammar.specs.Polls.{Item, item_entry, IsValidItem, item_steps}
 
--- Below, words gives the value of each word of the other's section, by its number from the start of the section
+-- In the following definitions, `words` gives the value of each word of the other's section, by its
+-- number from the start of the section.
 
--- an access that met this value met what those words hold, if it is a read
+-- If the access is a read, the value that it met is the word's value.
 abbrev pub MatchesWords : EndConfig → (ℕ → ℕ) → Access → ℕ → Type 0
 MatchesWords config words (access.Read word) value = value ≡ words (word - config.theirs)
 MatchesWords config words _ value = Unit {0}
 
--- each read of these steps met what the words hold
+-- Each read of these steps met the word's value.
 abbrev pub AllMatchWords : EndConfig → (ℕ → ℕ) → List Step → Type 0
 AllMatchWords config words [] = Unit {0}
 AllMatchWords config words (step ∷ steps) = MatchesWords config words step.access step.value × AllMatchWords config words steps
 
--- the frame that the reads of a good item deliver is spelled at its position by every section that holds what they met: the fields and the
--- bytes of a frame are the same in values that were read, one after the other, as in words that stand together
+-- Every section that holds the values read for a valid item holds the delivered frame at its
+-- position. So the fields and the bytes of a frame are the same in values that were read one after
+-- another as in the words of a section.
 abbrev pub ReadItemsAreSpelled : Type 0
 ReadItemsAreSpelled = (config : EndConfig) (number : ℕ) (read : Item) (words : ℕ → ℕ) → IsValidItem config number read →
     AllMatchWords config words (item_steps config number read) → Spells config.sizes words number (item_entry config number read) (frame_in read.bytes read.words)

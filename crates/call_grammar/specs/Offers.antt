@@ -1,5 +1,8 @@
--- An offer in RUN: how a peer frees what was returned and publishes a frame (VIRTIO 1.1, section 2.6.13: supplying buffers to the device;
--- the order of accesses, one each step, and the limit in flight: profile), as a tree and as a table of lists.
+-- An offer in RUN, as a tree and as a table of lists: a peer frees the frames that were returned,
+-- and publishes a frame.
+--
+-- Source: VIRTIO 1.1, section 2.6.13 (supplying buffers to the device); profile for the order of
+-- accesses, one each step, and the limit of frames in flight.
 use Rattle.std.specs.Prelude.{ℕ, zero, suc, ◌≡◌, ◌+◌, ◌-◌, ◌/◌, ◌%◌, ◌<◌, ◌==◌, nat_le, Bool, true, false, ◌⊎◌, if◌then◌else◌, List, [], ◌∷◌, ◌++◌, length}
 use Rattle.ivs_base.specs.Numbers.{distance}
 use Rattle.split_ring.specs.declared.ranges.FieldName.{FieldName}
@@ -14,76 +17,79 @@ use Rattle.call_grammar.specs.Trees.{CallTree, Ended, Does, Reads}
 use Rattle.call_grammar.specs.Ticks.{EndConfig, set_state, state_step}
 use Rattle.call_grammar.specs.Words.{index_word, with_entry, words_for, frame_word}
 
--- what an offer is to publish: the frame, its number in the session, the lengths of the session's frames up to it, by their numbers, and the word
--- that holds the frame's entry as the end wrote it last
+-- A pending offer: the frame and its number in the session; the lengths of the session's frames up
+-- to it, by their numbers; and the last value that the end wrote to the word of the frame's entry.
 pub record PendingOffer : Type 0 where
   pub frame : List ℕ
   pub number : ℕ
   pub lengths : ℕ → ℕ
   pub neighbour_word : ℕ
 
--- the descriptor of the frame with this number, and the place of its entry in the ring
+-- The descriptor of the frame with this number, and the position of its entry in the available
+-- ring.
 abbrev pub descriptor_of : EndConfig → ℕ → ℕ
 descriptor_of config number = number % limit_of config.sizes
 
 abbrev pub avail_entry_of : EndConfig → ℕ → ℕ
 avail_entry_of config number = number % size_of config.sizes
 
--- a value outside its field's range is marked by the field and the value
+-- A value outside its field's range is marked with the field and the value.
 abbrev pub refusal : FieldName → ℕ → List Mark
 refusal field value = Refuse record { field = field; value = value } ∷ []
 
--- the byte of the section at which the frame starts
+-- The byte of the section at which the frame starts.
 abbrev pub start_at : EndConfig → PendingOffer → ℕ
 start_at config pending = start_of config.sizes pending.lengths pending.number
 
--- the frame has room where so many frames were freed
+-- The frame fits after `freed` frames were freed.
 abbrev pub frame_fits : EndConfig → PendingOffer → ℕ → Bool
 frame_fits config pending freed = has_room config.sizes pending.lengths freed pending.number
 
--- an offer that finds no room is over
+-- An offer is over if its frame doesn't fit.
 abbrev pub full_marks : EndConfig → PendingOffer → ℕ → List Mark
 full_marks config pending freed = if frame_fits config pending freed then [] else Full ∷ []
 
--- The tree of an offer, from its end on
+-- The tree of an offer, from its end backwards
 
--- the doorbell of the other peer
+-- The doorbell of the other peer.
 abbrev pub ring_doorbell : EndConfig → CallTree
 ring_doorbell config = Does (Ring config.other config.vector) (Over ∷ []) Ended
 
--- an event asks for a doorbell as the index goes past the frame with this number
+-- An event index wants a doorbell for the frame with this number.
 abbrev pub wants_doorbell : (event number : ℕ) → Bool
 wants_doorbell event number = needs_event event ((number + 1) % 65536) (number % 65536)
 
--- the marks of the read of the other's event, in the low half of its word: the offer is over where it doesn't ask
+-- The marks of the read of the other's avail_event, in the low half of its word: the offer is over
+-- if it wants no doorbell.
 abbrev pub avail_event_marks : (number value : ℕ) → List Mark
 avail_event_marks number value = if wants_doorbell (low_half value) number then [] else Over ∷ []
 
--- the other's event, and the doorbell where it asks for this frame
+-- The read of the other's avail_event, and the doorbell if it wants one for this frame.
 abbrev pub read_avail_event : EndConfig → ℕ → CallTree
 read_avail_event config number =
     Reads (config.theirs + word_offset config.sizes AvailEvent)
     (λ value. avail_event_marks number value)
     (λ value. if wants_doorbell (low_half value) number then ring_doorbell config else Ended)
 
--- the doorbell for this frame, in a link with events where the other asks for it
+-- The notification of the other peer for this frame: in a link with events the doorbell rings only
+-- if the other's avail_event wants it.
 abbrev pub notify : EndConfig → ℕ → CallTree
 notify config number = if has_events config.sizes then read_avail_event config number else ring_doorbell config
 
--- the index word, with which the frame is accepted
+-- The write of the available index, which accepts the frame.
 abbrev pub write_avail_index : EndConfig → PendingOffer → CallTree
 write_avail_index config pending =
     Does (Write (config.own + word_offset config.sizes AvailIndex) (index_word (pending.number + 1))) (Accept pending.frame ∷ []) (notify config pending.number)
 
--- the word with the entry, which names the descriptor, and what stands beside it
+-- The word with the available entry, which names the descriptor, and the neighbouring entry.
 abbrev pub avail_entry_value : EndConfig → PendingOffer → ℕ
 avail_entry_value config pending = with_entry (avail_entry_of config pending.number) pending.neighbour_word (descriptor_of config pending.number)
 
--- the entry
+-- The write of the available entry.
 abbrev pub write_avail_entry : EndConfig → PendingOffer → CallTree
 write_avail_entry config pending = Does (Write (config.own + word_offset config.sizes (AvailEntry (avail_entry_of config pending.number))) (avail_entry_value config pending)) [] (write_avail_index config pending)
 
--- the descriptor's four words: the address, low and high, the length, and no flags
+-- The writes of the descriptor's four words: the address, low and high, the length, and flags 0.
 abbrev pub write_desc_flags : EndConfig → PendingOffer → CallTree
 write_desc_flags config pending = Does (Write (config.own + word_offset config.sizes (DescFlags (descriptor_of config pending.number))) 0) [] (write_avail_entry config pending)
 
@@ -100,25 +106,26 @@ write_desc_address_low config pending =
     Does (Write (config.own + word_offset config.sizes (DescAddress (descriptor_of config pending.number))) (start_at config pending))
     [] (write_desc_address_high config pending)
 
--- so many words of the frame from this one on, each to its place in the data area
+-- The writes of the next words of the frame, from word `at` on, each to its place in the data area.
 abbrev pub write_frame_words : EndConfig → PendingOffer → ℕ → ℕ → CallTree
 write_frame_words config pending at zero = write_desc_address_low config pending
 write_frame_words config pending at (suc more) =
     Does (Write (config.own + start_at config pending / 4 + at) (frame_word pending.frame at))
     [] (write_frame_words config pending (at + 1) more)
 
--- the end of the reads: the offer is over where the frame has no room
+-- The offer after its reads: it is over if the frame doesn't fit.
 abbrev pub after_ids : EndConfig → PendingOffer → ℕ → CallTree
 after_ids config pending freed = if frame_fits config pending freed then write_frame_words config pending 0 (words_for (length pending.frame)) else Ended
 
--- the marks of the read of an id, with so many more to come
+-- The marks of the read of an id, with `more` ids left after it.
 abbrev pub used_id_marks : EndConfig → PendingOffer → (freed more : ℕ) → ℕ → List Mark
 used_id_marks config pending freed more value =
     if value == descriptor_of config freed
     then (if more == 0 then full_marks config pending (freed + 1) else [])
     else refusal field_name.UsedId value
 
--- so many ids of used elements, where so many frames were freed: each is the descriptor of the oldest frame in flight, which is freed then
+-- The reads of the next ids of used elements, after `freed` frames were freed. Each id is the
+-- descriptor of the oldest frame in flight, which the read frees.
 abbrev pub read_used_ids : EndConfig → PendingOffer → ℕ → ℕ → CallTree
 read_used_ids config pending freed zero = after_ids config pending freed
 read_used_ids config pending freed (suc more) =
@@ -126,22 +133,22 @@ read_used_ids config pending freed (suc more) =
     (λ value. used_id_marks config pending freed more value)
     (λ value. if value == descriptor_of config freed then read_used_ids config pending (freed + 1) more else set_state 0)
 
--- how many frames a used index returns
+-- The number of frames that a used index returns.
 abbrev pub returned_by : ℕ → ℕ → ℕ
 returned_by freed value = distance (freed % 65536) (high_half value)
 
--- the marks of a used index that is so far from the frames freed
+-- The marks of a used index that is `count` after the frames freed.
 abbrev pub reclaim_marks : EndConfig → PendingOffer → ℕ → ℕ → List Mark
 reclaim_marks config pending freed count = if count == 0 then Reclaim 0 ∷ full_marks config pending freed else Reclaim count ∷ []
 
--- the marks of the read of the used index
+-- The marks of the read of the used index.
 abbrev pub used_index_marks : EndConfig → PendingOffer → ℕ → ℕ → List Mark
 used_index_marks config pending freed value =
     if nat_le (returned_by freed value) (pending.number - freed)
     then reclaim_marks config pending freed (returned_by freed value)
     else refusal field_name.UsedIndex (high_half value)
 
--- an offer of this job, where so many frames were freed
+-- An offer of this pending frame, after `freed` frames were freed.
 abbrev pub offer : EndConfig → PendingOffer → ℕ → CallTree
 offer config pending freed =
     Reads (config.theirs + word_offset config.sizes UsedIndex)
@@ -150,34 +157,34 @@ offer config pending freed =
 
 -- The table of finished offers
 
--- the read of the used index, with its marks
+-- The read of the used index, with its marks.
 abbrev pub used_index_step : EndConfig → ℕ → List Mark → Step
 used_index_step config value marks = step_of (Read (config.theirs + word_offset config.sizes UsedIndex)) value marks
 
--- the read of the id of the element with this number
+-- The read of the id of the used element with this number.
 abbrev pub used_id_step : EndConfig → ℕ → ℕ → List Mark → Step
 used_id_step config number value marks = step_of (Read (config.theirs + word_offset config.sizes (UsedId (avail_entry_of config number)))) value marks
 
--- so many ids in order from this number on, the last of them with these marks
+-- The reads of the ids in order, from number `freed` on, the last with these marks.
 abbrev pub used_id_steps : EndConfig → ℕ → ℕ → List Mark → List Step
 used_id_steps config freed zero marks = []
 used_id_steps config freed (suc more) marks = used_id_step config freed (descriptor_of config freed) (if more == 0 then marks else []) ∷ used_id_steps config (freed + 1) more marks
 
--- a refusal is marked on its step, and after it stand State 0 and the end
+-- A refusal is a mark on its step. State 0 follows, and then the end of the call.
 abbrev pub refused_steps : Step → List Step
 refused_steps step = step ∷ state_step 0 ∷ []
 
 abbrev pub write_step : ℕ → ℕ → List Mark → Step
 write_step word written marks = step_of (Write word written) 0 marks
 
--- the words of the frame
+-- The writes of the words of the frame.
 abbrev pub frame_write_steps : EndConfig → PendingOffer → ℕ → ℕ → List Step
 frame_write_steps config pending at zero = []
 frame_write_steps config pending at (suc more) =
     write_step (config.own + start_at config pending / 4 + at) (frame_word pending.frame at) [] ∷
     frame_write_steps config pending (at + 1) more
 
--- the descriptor, the entry and the index
+-- The writes of the descriptor, the available entry and the available index.
 abbrev pub publish_steps : EndConfig → PendingOffer → List Step
 publish_steps config pending =
     write_step (config.own + word_offset config.sizes (DescAddress (descriptor_of config pending.number))) (start_at config pending) [] ∷
@@ -190,31 +197,32 @@ publish_steps config pending =
 abbrev pub doorbell_step : EndConfig → List Mark → Step
 doorbell_step config marks = step_of (Ring config.other config.vector) 0 marks
 
--- the read of the word with the other's event
+-- The read of the other's avail_event.
 abbrev pub avail_event_read_step : EndConfig → (number value : ℕ) → Step
 avail_event_read_step config number value = step_of (Read (config.theirs + word_offset config.sizes AvailEvent)) value (avail_event_marks number value)
 
--- the doorbell for this frame: in a link with events the read of the other's event, which gave this value, and the doorbell where that asks for it
+-- The notification for this frame. In a link with events it is the read of the other's avail_event,
+-- which met `value`, and the doorbell if that value wants one.
 abbrev pub notify_steps : EndConfig → (number value : ℕ) → List Step
 notify_steps config number value =
     if has_events config.sizes
     then avail_event_read_step config number value ∷ (if wants_doorbell (low_half value) number then doorbell_step config (Over ∷ []) ∷ [] else [])
     else doorbell_step config (Over ∷ []) ∷ []
 
--- the reads of an offer that finds so many returned frames: the used index, then their ids in order, with `full` on the last where the
--- frame has no room then
+-- The reads of an offer: the used index, and then the ids of the returned frames in order, with
+-- `full` on the last read if the frame doesn't fit then.
 abbrev pub reclaim_steps : EndConfig → PendingOffer → ℕ → ℕ → List Step
 reclaim_steps config pending freed value =
     used_index_step config value (reclaim_marks config pending freed (returned_by freed value)) ∷
     used_id_steps config freed (returned_by freed value) (full_marks config pending (freed + returned_by freed value))
 
--- the used index is out of range
+-- The used index is out of range.
 pub record RefusesUsedIndex (config : EndConfig) (pending : PendingOffer) (freed : ℕ) (steps : List Step) : Type 0 where
   pub value : ℕ
   pub beyond : ¬ IsUsedIndex (freed % 65536) (high_half value) (pending.number - freed)
   pub steps_are : steps ≡ refused_steps (used_index_step config value (refusal field_name.UsedIndex (high_half value)))
 
--- the ids are in order up to one that isn't the oldest descriptor in flight
+-- The ids are in order up to one that isn't the oldest descriptor in flight.
 pub record RefusesUsedId (config : EndConfig) (pending : PendingOffer) (freed : ℕ) (steps : List Step) : Type 0 where
   pub value : ℕ
   pub within : IsUsedIndex (freed % 65536) (high_half value) (pending.number - freed)
@@ -225,14 +233,14 @@ pub record RefusesUsedId (config : EndConfig) (pending : PendingOffer) (freed : 
   pub steps_are : steps ≡ used_index_step config value (reclaim_marks config pending freed (returned_by freed value)) ∷
       (used_id_steps config freed passed [] ++ refused_steps (used_id_step config (freed + passed) id (refusal field_name.UsedId id)))
 
--- the frame has no room
+-- The frame doesn't fit.
 pub record FindsFull (config : EndConfig) (pending : PendingOffer) (freed : ℕ) (steps : List Step) : Type 0 where
   pub value : ℕ
   pub within : IsUsedIndex (freed % 65536) (high_half value) (pending.number - freed)
   pub full : frame_fits config pending (freed + returned_by freed value) ≡ false
   pub steps_are : steps ≡ reclaim_steps config pending freed value
 
--- the frame is accepted
+-- The frame is accepted.
 pub record IsAccepted (config : EndConfig) (pending : PendingOffer) (freed : ℕ) (steps : List Step) : Type 0 where
   pub value : ℕ
   pub within : IsUsedIndex (freed % 65536) (high_half value) (pending.number - freed)
@@ -241,7 +249,7 @@ pub record IsAccepted (config : EndConfig) (pending : PendingOffer) (freed : ℕ
   pub steps_are : steps ≡ reclaim_steps config pending freed value ++
       (frame_write_steps config pending 0 (words_for (length pending.frame)) ++ (publish_steps config pending ++ notify_steps config pending.number event))
 
--- a finished offer is one of these four lists
+-- A finished offer is one of these four lists.
 abbrev pub IsOffer : EndConfig → PendingOffer → ℕ → List Step → Type 0
 IsOffer config pending freed steps =
     RefusesUsedIndex config pending freed steps ⊎ (RefusesUsedId config pending freed steps ⊎ (FindsFull config pending freed steps ⊎ IsAccepted config pending freed steps))

@@ -1,4 +1,5 @@
--- What the word of an access is to the order of memory: an index publishes what was written before it, and an event is set against an index.
+-- The kind of an access's word, which determines its memory order. An index publishes the writes
+-- before it, and an event index is compared with an index.
 use Rattle.split_ring.specs.declared.steps.WordKind.{WordKind}
 use Rattle.split_ring.specs.declared.steps.WordKind.TheVariants.{Plain, IndexRead, IndexWrite, EventRead, EventWrite}
 use Rattle.call_grammar.specs.Places.{Place, ReadingUsedIndex, WritingAvailIndex, ReadingAvailEvent, ReadingAvailIndex, WritingAvailEvent, WritingUsedIndex}

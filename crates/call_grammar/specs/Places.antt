@@ -1,4 +1,5 @@
--- The places of a call: what its end holds between two steps, as data, and which part of the call is left there.
+-- The places of a call: the state of an end between two steps, as data, and the part of the call
+-- that is left there.
 use Rattle.std.specs.Prelude.{ℕ, zero, suc, ◌≡◌, ◌+◌, ◌-◌, ◌/◌, ◌%◌, ◌==◌, nat_le, Bool, true, false, if◌then◌else◌, List, [], ◌∷◌, ◌++◌, length}
 use Rattle.link_handshake.specs.declared.Move.{Move}
 use Rattle.link_handshake.specs.declared.Move.TheVariants.{Stay, Set, ClearThenSet}
@@ -16,12 +17,21 @@ use Rattle.call_grammar.specs.Offers.{PendingOffer, start_at, frame_fits, descri
 use Rattle.call_grammar.specs.Polls.{is_entry, is_address, is_length, entry_in, entry_marks, address_marks, length_marks, flags_marks, write_used_index, write_used_length, write_used_id, read_words, read_flags, read_length, read_high, read_low, item, ring_after_poll, items, published_by, is_last, avail_index_marks, write_avail_event, read_avail_index, poll}
 use Rattle.call_grammar.specs.Calls.{Call, Tick, Stop, Offer, Poll, in_run, pending_of, down, tree_of}
 
--- Where a call is: none is open; before the read of a tick, a write of 0 with so many more to come, a State step, the State step of a
--- refusal, or the step of a call that is down; before an offer's read of the used index or of an id with so many more to come, its write
--- of a frame's word with so many more to come, of each word of the descriptor, of the entry, of the index, its read of the other's event, or
--- its doorbell; before a poll's read of the available index, which is its last look or not, its write of the own event, its read of an
--- item's entry, address, length, flags or word, each with so many more items to come, or its
--- write of the used element or the used index, or its doorbell
+-- The place of a call, named after its next access:
+-- - `Closed`: no call is open;
+-- - of a Tick or a Stop: the read of the other's State, a write of 0 with `more` left, or a State
+--   step;
+-- - the State step of a refusal, or the step of a call that is down;
+-- - of an Offer in the used ring: the read of the used index, or of an id with `more` left;
+-- - of an Offer before the index: the write of a word of the frame with `more` left, of each word
+--   of the descriptor, or of the available entry;
+-- - of an Offer from the index on: the write of the available index, the read of the other's
+--   avail_event, or the doorbell;
+-- - of a Poll before an item: the read of the available index, which is the last one or not, or the
+--   write of the own avail_event;
+-- - of an item, with `more` items left: the read of its entry, address, length, flags or word, or
+--   the write of the used element or of the used index;
+-- - of a Poll at its end: the doorbell.
 pub data Place : Type 0 where
   Closed : Place
   ReadingOtherState : (handshake : HandshakeState) → Place
@@ -53,7 +63,7 @@ pub data Place : Type 0 where
   WritingUsedIndex : (number more : ℕ) → Place
   RingingPoll : Place
 
--- what is left of a call at its place
+-- The part of a call that is left at its place.
 abbrev pub remaining : EndConfig → Place → CallTree
 remaining config Closed = Ended
 remaining config (ReadingOtherState handshake) =
@@ -86,7 +96,7 @@ remaining config (WritingUsedLength number more) = write_used_length config numb
 remaining config (WritingUsedIndex number more) = write_used_index config number (items config (number + 1) more)
 remaining config RingingPoll = ring_after_poll config
 
--- Where a call goes on
+-- The next places
 
 abbrev pub clear_place : (at count state : ℕ) → Place
 clear_place at zero state = WritingState state
@@ -105,11 +115,11 @@ abbrev pub ids_place : EndConfig → PendingOffer → (freed count : ℕ) → Pl
 ids_place config pending freed zero = if frame_fits config pending freed then fill_place pending 0 (words_for (length pending.frame)) else Closed
 ids_place config pending freed (suc more) = ReadingUsedId pending freed more
 
--- after its index a frame is told to the other
+-- The place after the write of the index: the notification of the other peer.
 abbrev pub notify_place : EndConfig → ℕ → Place
 notify_place config number = if has_events config.sizes then ReadingAvailEvent number else RingingOffer
 
--- a look that finds nothing ends the poll where it is the last
+-- A read of the available index that finds no frame ends the poll if it is the last one.
 abbrev pub none_place : (taken : ℕ) (last : Bool) → Place
 none_place taken last = if last then Closed else WritingAvailEvent taken
 
@@ -121,14 +131,14 @@ abbrev pub words_place : (number more entry address bytes : ℕ) → List ℕ �
 words_place number more entry address bytes read zero = WritingUsedId number more entry
 words_place number more entry address bytes read (suc words) = ReadingFrameWord number more entry address bytes read words
 
--- the place at which an end begins a call
+-- The place at which an end begins a call.
 abbrev pub first_place : EndConfig → End → Call → Place
 first_place config end Tick = ReadingOtherState end.handshake
 first_place config end Stop = WritingState 0
 first_place config end (Offer frame) = if in_run end.handshake.phase then ReadingUsedIndex (pending_of config end frame) end.freed else NotInRun
 first_place config end Poll = if in_run end.handshake.phase then ReadingAvailIndex (length end.delivered) (is_last config end.found_none) else NotInRun
 
--- the access of the step at a place
+-- The access of the step at a place.
 abbrev pub access_at : EndConfig → Place → Access
 access_at config Closed = access.Nothing
 access_at config (ReadingOtherState handshake) = access.Read (other_state config)
@@ -162,7 +172,7 @@ access_at config (WritingUsedLength number more) = access.Write (config.own + wo
 access_at config (WritingUsedIndex number more) = access.Write (config.own + word_offset config.sizes UsedIndex) (index_word (number + 1))
 access_at config RingingPoll = access.Ring config.other config.vector
 
--- the marks of the step at a place, where its read gave this value
+-- The marks of the step at a place, if its read met `value`.
 abbrev pub marks_at : EndConfig → Place → ℕ → List Mark
 marks_at config (ReadingOtherState handshake) value = tick_marks value (move_of handshake value)
 marks_at config (WritingState state) value = Over ∷ []
@@ -183,7 +193,7 @@ marks_at config (WritingUsedIndex number more) value = Return ∷ []
 marks_at config RingingPoll value = Done ∷ []
 marks_at config place value = []
 
--- the next place, where the read at this one gave this value
+-- The next place, if the read at this place met `value`.
 abbrev pub next_place : EndConfig → Place → ℕ → Place
 next_place config Closed value = Closed
 next_place config (ReadingOtherState handshake) value = tick_place config (move_of handshake value)
@@ -223,16 +233,17 @@ next_place config (WritingUsedLength number more) value = WritingUsedIndex numbe
 next_place config (WritingUsedIndex number more) value = items_place (number + 1) more
 next_place config RingingPoll value = Closed
 
--- the step at a place that meets this value
+-- The step at a place that meets `value`.
 abbrev pub step_at : EndConfig → Place → ℕ → Step
 step_at config place value = step_of (access_at config place) value (marks_at config place value)
 
--- a call is open at each place but one
+-- A call is open at every place except `Closed`.
 abbrev pub is_open : Place → Bool
 is_open Closed = false
 is_open _ = true
 
--- a call begins at its first place, and goes on by the step at its place, which meets some value, to the next place; and by each such step
+-- A call begins at its first place. Its next steps are exactly the steps at its place, for any
+-- value met, and each leads to the next place.
 pub record PlacesFollowTrees : Type 0 where
   pub begins : (config : EndConfig) (end : End) (call : Call) → remaining config (first_place config end call) ≡ tree_of config end call
   pub goes : (config : EndConfig) (place : Place) (step : Step) (left : CallTree) → Goes (remaining config place) step left →

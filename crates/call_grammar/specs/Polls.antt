@@ -1,5 +1,8 @@
--- A poll in RUN: how a peer takes the frames that the other published, each once, and returns them (VIRTIO 1.1, section 2.6.8: the used ring;
--- the order of accesses, one each step, and the tests: profile), as a tree and as a table of lists.
+-- A poll in RUN, as a tree and as a table of lists: a peer delivers each frame that the other
+-- published, once, and returns it.
+--
+-- Source: VIRTIO 1.1, section 2.6.8 (the used ring); profile for the order of accesses, one each
+-- step, and the tests.
 use Rattle.std.specs.Prelude.{ℕ, zero, suc, ◌≡◌, ◌≢◌, ◌+◌, ◌/◌, ◌%◌, ◌<◌, ◌==◌, nat_lt, nat_le, Bool, true, false, ◌&&◌, ◌||◌, not, ◌⊎◌, if◌then◌else◌, List, [], ◌∷◌, ◌++◌, length}
 use Rattle.ivs_base.specs.Numbers.{distance}
 use Rattle.split_ring.specs.declared.ranges.FieldName.TheVariants as field_name
@@ -24,9 +27,9 @@ is_address q address = (address % 4 == 0) && (nat_le (data_area_start q) address
 abbrev pub is_length : Sizes → ℕ → ℕ → Bool
 is_length q address length = nat_le 14 length && (nat_le length 65553 && nat_le (address + length) q.out)
 
--- The marks of those reads: none, or the refusal
+-- The marks of these reads: none, or the refusal
 
--- the entry of the item with this number, in the word that was read
+-- The available entry of the item with this number, from the word read.
 abbrev pub entry_in : EndConfig → (number value : ℕ) → ℕ
 entry_in config number value = entry_half (avail_entry_of config number) value
 
@@ -42,10 +45,10 @@ length_marks config address value = if is_length config.sizes address value then
 abbrev pub flags_marks : ℕ → List Mark
 flags_marks value = if low_half value == 0 then [] else refusal field_name.DescFlags (low_half value)
 
--- The tree of a poll. Each part has what comes after it as its last argument; items and frames are numbered in the session, and the item of a number has its
--- entry at the number modulo the queue's size
+-- The tree of a poll. Each part has its continuation as its last argument. Items and frames are
+-- numbered in the session, and the entry of an item is at its number modulo the queue size.
 
--- the used element and then the used index, with which the item is returned
+-- The writes of the used element and then of the used index, which returns the item.
 abbrev pub write_used_index : EndConfig → ℕ → CallTree → CallTree
 write_used_index config number after = Does (Write (config.own + word_offset config.sizes UsedIndex) (index_word (number + 1))) (Return ∷ []) after
 
@@ -55,7 +58,7 @@ write_used_length config number after = Does (Write (config.own + word_offset co
 abbrev pub write_used_id : EndConfig → (number entry : ℕ) → CallTree → CallTree
 write_used_id config number entry after = Does (Write (config.own + word_offset config.sizes (UsedId (avail_entry_of config number))) entry) [] (write_used_length config number after)
 
--- so many words of the frame after those that were read; the frame is delivered on the last one
+-- The reads of the frame's next words after the words `read`. The last one delivers the frame.
 abbrev pub read_words : EndConfig → (number entry address bytes : ℕ) → List ℕ → ℕ → CallTree → CallTree
 read_words config number entry address bytes read zero after = write_used_id config number entry after
 read_words config number entry address bytes read (suc more) after =
@@ -63,7 +66,8 @@ read_words config number entry address bytes read (suc more) after =
     (λ value. if more == 0 then Deliver (frame_in bytes (read ++ value ∷ [])) ∷ [] else [])
     (λ value. read_words config number entry address bytes (read ++ value ∷ []) more after)
 
--- the flags of the descriptor, its length, its address and the entry: each is tested on its read
+-- The reads of the descriptor's flags, its length, its address and of the available entry, each
+-- with its test.
 abbrev pub read_flags : EndConfig → (number entry address bytes : ℕ) → CallTree → CallTree
 read_flags config number entry address bytes after =
     Reads (config.theirs + word_offset config.sizes (DescFlags entry))
@@ -92,58 +96,63 @@ item config number after =
     (λ value. entry_marks config number value)
     (λ value. if is_entry config.sizes (entry_in config number value) then read_low config number (entry_in config number value) after else set_state 0)
 
--- the doorbell of the other peer
+-- The doorbell of the other peer.
 abbrev pub ring_after_poll : EndConfig → CallTree
 ring_after_poll config = Does (Ring config.other config.vector) (Done ∷ []) Ended
 
--- so many items from this number on, and then the doorbell
+-- The items from number `number` on, and then the doorbell.
 abbrev pub items : EndConfig → ℕ → ℕ → CallTree
 items config number zero = ring_after_poll config
 items config number (suc more) = item config number (items config (number + 1) more)
 
--- how many frames an available index publishes
+-- The number of frames that an available index publishes.
 abbrev pub published_by : ℕ → ℕ → ℕ
 published_by taken value = distance (taken % 65536) (high_half value)
 
--- the first look of a poll is its last where it finds nothing and no event is to be written: the link has none, or the last look of the session found
--- nothing either, and so the event stands at the next frame
+-- The first read of the available index is the poll's last if it finds no frame and avail_event
+-- needs no write. The link has no events, or the session's last read also found no frame, so
+-- avail_event already wants a doorbell for the next one.
 abbrev pub is_last : EndConfig → (found_none : Bool) → Bool
 is_last config found_none = not (has_events config.sizes) || found_none
 
--- the marks of an available index that is so far from the frames taken
+-- The marks of an available index that is `count` after the frames delivered.
 abbrev pub look_marks : (last : Bool) → ℕ → List Mark
 look_marks last count = if count == 0 then (if last then Look 0 ∷ Done ∷ [] else Look 0 ∷ []) else Look count ∷ []
 
--- the marks of the read of the available index
+-- The marks of the read of the available index.
 abbrev pub avail_index_marks : EndConfig → ℕ → (last : Bool) → ℕ → List Mark
 avail_index_marks config taken last value =
     if nat_le (published_by taken value) (size_of config.sizes)
     then look_marks last (published_by taken value)
     else refusal field_name.AvailIndex (high_half value)
 
--- what comes after the read of the available index, where it is in range; and where nothing was published
+-- The continuation of a read of the available index in range, with the continuation `none` if no
+-- frame was published.
 abbrev pub after_look : EndConfig → (taken value : ℕ) → CallTree → CallTree
 after_look config taken value none = if published_by taken value == 0 then none else items config taken (published_by taken value)
 
--- a look at the available index, where so many frames were taken, and what comes after it; and where nothing was published
+-- A read of the available index after `taken` frames were delivered, and its continuation, which is
+-- `none` if no frame was published.
 abbrev pub read_avail_index : EndConfig → ℕ → (last : Bool) → CallTree → CallTree
 read_avail_index config taken last none =
     Reads (config.theirs + word_offset config.sizes AvailIndex)
     (λ value. avail_index_marks config taken last value)
     (λ value. if nat_le (published_by taken value) (size_of config.sizes) then after_look config taken value none else set_state 0)
 
--- the own event, which asks for a doorbell at the next frame
+-- The write of the own avail_event, which wants a doorbell for the next frame.
 abbrev pub write_avail_event : EndConfig → ℕ → CallTree → CallTree
 write_avail_event config taken after = Does (Write (config.own + word_offset config.sizes AvailEvent) (taken % 65536)) [] after
 
--- a poll, where so many frames were taken; where its first look isn't its last and finds nothing, it writes the event and looks again
+-- A poll after `taken` frames were delivered. If its first read of the available index isn't its
+-- last and finds no frame, it writes avail_event and reads the index again.
 abbrev pub poll : EndConfig → ℕ → (last : Bool) → CallTree
 poll config taken true = read_avail_index config taken true Ended
 poll config taken false = read_avail_index config taken false (write_avail_event config taken (read_avail_index config taken true Ended))
 
 -- The table of finished polls
 
--- what the reads of one item gave: the words of the entry, of the address, low and high, of the length and the flags, and those of the frame
+-- The values read for one item: the words of the entry, of the address (low and high), of the
+-- length and of the flags, and the words of the frame.
 pub record Item : Type 0 where
   pub entry_word : ℕ
   pub low : ℕ
@@ -152,14 +161,14 @@ pub record Item : Type 0 where
   pub flags_word : ℕ
   pub words : List ℕ
 
--- the entry that an item names, and the address
+-- The available entry of an item, and its address.
 abbrev pub item_entry : EndConfig → ℕ → Item → ℕ
 item_entry config number read = entry_in config number read.entry_word
 
 abbrev pub item_address : Item → ℕ
 item_address read = address_of read.low read.high
 
--- the reads of an item up to each of its tests, the last with these marks
+-- The reads of an item up to each of its tests, the last with these marks.
 abbrev pub entry_step : EndConfig → ℕ → Item → List Mark → Step
 entry_step config number read marks = step_of (Read (config.theirs + word_offset config.sizes (AvailEntry (avail_entry_of config number)))) read.entry_word marks
 
@@ -175,7 +184,7 @@ length_step config number read marks = step_of (Read (config.theirs + word_offse
 abbrev pub flags_step : EndConfig → ℕ → Item → List Mark → Step
 flags_step config number read marks = step_of (Read (config.theirs + word_offset config.sizes (DescFlags (item_entry config number read)))) read.flags_word marks
 
--- the reads of these words of a frame from this place on, the last of them with these marks
+-- The reads of these words of a frame from word `at` on, the last with these marks.
 abbrev pub word_steps : EndConfig → (address at : ℕ) → List ℕ → List Mark → List Step
 word_steps config address at [] marks = []
 word_steps config address at (word ∷ words) marks =
@@ -187,7 +196,7 @@ return_steps config number entry =
     write_step (config.own + word_offset config.sizes (UsedLength (avail_entry_of config number))) 1 [] ∷
     write_step (config.own + word_offset config.sizes UsedIndex) (index_word (number + 1)) (Return ∷ []) ∷ []
 
--- an item whose every field is in range, and all of whose frame's words were read
+-- A valid item: each field is in range, and all words of its frame were read.
 pub record IsValidItem (config : EndConfig) (number : ℕ) (read : Item) : Type 0 where
   pub entry : IsAvailEntry config.sizes (item_entry config number read)
   pub address : IsDescAddress config.sizes (item_address read)
@@ -195,14 +204,14 @@ pub record IsValidItem (config : EndConfig) (number : ℕ) (read : Item) : Type 
   pub flags : IsDescFlags (low_half read.flags_word)
   pub words : length read.words ≡ words_for read.bytes
 
--- the steps of such an item: each field is read once
+-- The steps of a valid item: each field is read once.
 abbrev pub item_steps : EndConfig → ℕ → Item → List Step
 item_steps config number read =
     entry_step config number read [] ∷ low_step config number read ∷ high_step config number read [] ∷ length_step config number read [] ∷
     flags_step config number read [] ∷
     (word_steps config (item_address read) 0 read.words (Deliver (frame_in read.bytes read.words) ∷ []) ++ return_steps config number (item_entry config number read))
 
--- the items from this number on are good
+-- The items from this number on are valid.
 abbrev pub AreValidItems : EndConfig → ℕ → List Item → Type 0
 AreValidItems config number [] = Unit {0}
 AreValidItems config number (read ∷ reads) = IsValidItem config number read × AreValidItems config (number + 1) reads
@@ -211,9 +220,10 @@ abbrev pub items_steps : EndConfig → ℕ → List Item → List Step
 items_steps config number [] = []
 items_steps config number (read ∷ reads) = item_steps config number read ++ items_steps config (number + 1) reads
 
--- An item that is refused at one of its four tests, the tests before it passed; what it reads after that test doesn't count
+-- An item that is refused at one of its four tests, after the tests before it passed. Its later
+-- values don't matter.
 
--- the steps up to each test, the last one with the refusal
+-- The steps up to each test, the last one with the refusal.
 abbrev pub entry_refused : EndConfig → ℕ → Item → List Step
 entry_refused config number read = refused_steps (entry_step config number read (refusal field_name.AvailEntry (item_entry config number read)))
 
@@ -243,23 +253,23 @@ IsRefusedItem config number read steps =
     IsDescLength config.sizes (item_address read) read.bytes × (¬ IsDescFlags (low_half read.flags_word)) ×
     (steps ≡ flags_refused config number read))))
 
--- the read of the available index, with its marks
+-- The read of the available index, with its marks.
 abbrev pub avail_index_step : EndConfig → ℕ → List Mark → Step
 avail_index_step config value marks = step_of (Read (config.theirs + word_offset config.sizes AvailIndex)) value marks
 
--- the available index is out of range
+-- The available index is out of range.
 pub record RefusesAvailIndex (config : EndConfig) (taken : ℕ) (steps : List Step) : Type 0 where
   pub value : ℕ
   pub beyond : ¬ IsAvailIndex config.sizes (taken % 65536) (high_half value)
   pub steps_are : steps ≡ refused_steps (avail_index_step config value (refusal field_name.AvailIndex (high_half value)))
 
--- nothing was published, and the poll is done
+-- No frame was published, and the poll is done.
 pub record FindsNothing (config : EndConfig) (taken : ℕ) (steps : List Step) : Type 0 where
   pub value : ℕ
   pub none : published_by taken value ≡ 0
   pub steps_are : steps ≡ avail_index_step config value (Look 0 ∷ Done ∷ []) ∷ []
 
--- as many good items as were published, and then the doorbell
+-- All published items are valid, and the doorbell follows.
 pub record TakesAll (config : EndConfig) (taken : ℕ) (steps : List Step) : Type 0 where
   pub value : ℕ
   pub within : IsAvailIndex config.sizes (taken % 65536) (high_half value)
@@ -270,7 +280,7 @@ pub record TakesAll (config : EndConfig) (taken : ℕ) (steps : List Step) : Typ
   pub steps_are : steps ≡ avail_index_step config value (Look (published_by taken value) ∷ []) ∷
       (items_steps config taken reads ++ doorbell_step config (Done ∷ []) ∷ [])
 
--- good items, and then one that is refused
+-- Valid items, and then an item that is refused.
 pub record RefusesItem (config : EndConfig) (taken : ℕ) (steps : List Step) : Type 0 where
   pub value : ℕ
   pub within : IsAvailIndex config.sizes (taken % 65536) (high_half value)
@@ -282,15 +292,16 @@ pub record RefusesItem (config : EndConfig) (taken : ℕ) (steps : List Step) : 
   pub refused : IsRefusedItem config (taken + length reads) last last_steps
   pub steps_are : steps ≡ avail_index_step config value (Look (published_by taken value) ∷ []) ∷ (items_steps config taken reads ++ last_steps)
 
--- a look and what comes after it is one of these four lists, of which one is that of a look that finds nothing
+-- A read of the available index and the steps after it are one of these four lists. One of them is
+-- the list of a read that finds no frame.
 abbrev pub IsLook : EndConfig → ℕ → (FindsNone : List Step → Type 0) → List Step → Type 0
 IsLook config taken FindsNone steps = RefusesAvailIndex config taken steps ⊎ (FindsNone steps ⊎ (TakesAll config taken steps ⊎ RefusesItem config taken steps))
 
--- the write of the own event
+-- The write of the own avail_event.
 abbrev pub avail_event_write_step : EndConfig → ℕ → Step
 avail_event_write_step config taken = write_step (config.own + word_offset config.sizes AvailEvent) (taken % 65536) []
 
--- nothing was published, the event is written, and a last look is taken
+-- No frame was published, avail_event is written, and the available index is read a last time.
 pub record LooksAgain (config : EndConfig) (taken : ℕ) (steps : List Step) : Type 0 where
   pub value : ℕ
   pub none : published_by taken value ≡ 0
@@ -298,7 +309,8 @@ pub record LooksAgain (config : EndConfig) (taken : ℕ) (steps : List Step) : T
   pub again : IsLook config taken (FindsNothing config taken) rest
   pub steps_are : steps ≡ avail_index_step config value (Look 0 ∷ []) ∷ avail_event_write_step config taken ∷ rest
 
--- a finished poll, whose first look is its last where it finds nothing, or isn't
+-- A finished poll. `last` says whether its first read of the available index is its last if it
+-- finds no frame.
 abbrev pub IsPoll : EndConfig → ℕ → (last : Bool) → List Step → Type 0
 IsPoll config taken true steps = IsLook config taken (FindsNothing config taken) steps
 IsPoll config taken false steps = IsLook config taken (LooksAgain config taken) steps

@@ -1,4 +1,5 @@
--- What a call touches: it writes its own section and its own state alone, and rings nobody but the other end.
+-- The words that a call accesses: it writes only its own section and its own State, and rings only
+-- the other end.
 use Rattle.std.specs.Prelude.{ℕ, ◌≡◌, ◌+◌, ◌*◌, ◌<◌, ◌≤◌, ◌⊎◌, List, length, All}
 use Rattle.split_ring.specs.Layout.{IsQueue}
 use Rattle.split_ring.specs.declared.steps.Access.{Access}
@@ -9,45 +10,49 @@ use Rattle.call_grammar.specs.Ends.{End}
 use Rattle.call_grammar.specs.Ticks.{EndConfig, other_state}
 use Rattle.call_grammar.specs.Calls.{Call, Offer, tree_of}
 
--- a word that an end reads: the state of the other, or a word of the other's section
+-- A word that an end may read: the other's State, or a word of the other's section.
 abbrev pub MayRead : EndConfig → ℕ → Type 0
 MayRead config word = (word ≡ other_state config) ⊎ ((config.theirs ≤ word) × (word < config.theirs + config.words))
 
--- a word that an end writes: one of its own section
+-- A word that an end may write: a word of its own section.
 abbrev pub MayStore : EndConfig → ℕ → Type 0
 MayStore config word = (config.own ≤ word) × (word < config.own + config.words)
 
--- an access that gives no value: a write in the own section, a write of the own state, a doorbell to the other, or nothing
+-- An access that returns no value is permitted if it is a write to the own section, a write of the
+-- own State, a doorbell of the other end, or none.
 abbrev pub MayDo : EndConfig → Access → Type 0
 MayDo config (access.Read word) = ⊥
 MayDo config (access.Write word written) = MayStore config word
 MayDo config (access.Ring target vector) = target ≡ config.other
 MayDo config _ = Unit {0}
 
--- an access of an end: one of those, or a read of the other's words
+-- An access of an end is permitted if it is one of these, or a read of a word that the end may
+-- read.
 abbrev pub IsPermittedAccess : EndConfig → Access → Type 0
 IsPermittedAccess config (access.Read word) = MayRead config word
 IsPermittedAccess config (access.Write word written) = MayStore config word
 IsPermittedAccess config (access.Ring target vector) = target ≡ config.other
 IsPermittedAccess config _ = Unit {0}
 
--- each access of the call is in reach, whatever its reads give
+-- Each access of the call is permitted, for all values read.
 abbrev pub StaysInReach : EndConfig → CallTree → Type 0
 StaysInReach config Ended = Unit {0}
 StaysInReach config (Does access marks rest) = MayDo config access × StaysInReach config rest
 StaysInReach config (Reads word marks rest) = MayRead config word × ((value : ℕ) → StaysInReach config (rest value))
 
--- the two sections hold the queue: its sizes fit, and a section has a quarter as many words as bytes
+-- The two sections hold the queue: its sizes fit, and the number of words of a section is a quarter
+-- of its bytes.
 pub record HasSections (config : EndConfig) : Type 0 where
   pub queue : IsQueue config.sizes
   pub words : config.sizes.out ≡ 4 * config.words
 
--- a call that an end may be given: an offered frame is an Ethernet frame of at most MTU + 18 bytes (profile)
+-- A permitted call: an offered frame is an Ethernet frame of at most MTU + 18 bytes (profile).
 abbrev pub IsPermittedCall : EndConfig → Call → Type 0
 IsPermittedCall config (Offer frame) = (14 ≤ length frame) × (length frame ≤ config.sizes.mtu + 18)
 IsPermittedCall config _ = Unit {0}
 
--- every call stays in reach, and so does what a step leaves of it; each of its steps is then in reach
+-- Every call has permitted accesses only, and so has the rest of a call after a step. Each of its
+-- steps is permitted.
 pub record CallsStayInReach : Type 0 where
   pub calls : (config : EndConfig) (end : End) (call : Call) → HasSections config → IsPermittedCall config call → StaysInReach config (tree_of config end call)
   pub step : (config : EndConfig) (tree new : CallTree) (step : Step) → StaysInReach config tree → Goes tree step new →

@@ -1,4 +1,4 @@
--- The plain program of a call: one step after the other, each compared with the step at its place.
+-- The replay of a call: each step is compared with the step at its place.
 use Rattle.std.specs.Prelude.{◌≡◌, true, List, [], ◌∷◌}
 use Rattle.call_grammar.specs.Steps.{Step}
 use Rattle.call_grammar.specs.Ends.{End}
@@ -6,14 +6,14 @@ use Rattle.call_grammar.specs.Ticks.{EndConfig}
 use Rattle.call_grammar.specs.Calls.{Call, IsCall}
 use Rattle.call_grammar.specs.Places.{Place, Closed, first_place, next_place, step_at, is_open}
 
--- from this place the steps are played to the end of the call: each is the one at its place for the value that it met, and after the
--- last one no call is open
+-- The steps replay the call from this place to its end: each is the step at its place for the value
+-- that it met, and after the last one no call is open.
 abbrev pub IsReplayed : EndConfig → Place → List Step → Type 0
 IsReplayed config place [] = place ≡ Closed
 IsReplayed config place (step ∷ steps) =
     (is_open place ≡ true) × (step ≡ step_at config place step.value) × IsReplayed config (next_place config place step.value) steps
 
--- a list of steps is a call exactly where it is played from the call's first place
+-- A list of steps is a call exactly if it replays from the call's first place.
 pub record ReplaysAreCalls : Type 0 where
   pub call : (config : EndConfig) (end : End) (call : Call) (steps : List Step) →
       IsReplayed config (first_place config end call) steps → IsCall config end call steps

@@ -1,5 +1,5 @@
--- A Tick and a Stop (profile: the phase table and the order of accesses), as a tree and as a table of lists. A part of a tree has what
--- comes after it as its last argument.
+-- A Tick and a Stop (profile: the phase table and the order of accesses), as a tree and as a table
+-- of lists. A part of a tree has its continuation as its last argument.
 use Rattle.std.specs.Prelude.{ℕ, zero, suc, ◌+◌, List, [], ◌∷◌, ◌++◌}
 use Rattle.link_handshake.specs.declared.Move.{Move}
 use Rattle.link_handshake.specs.declared.Move.TheVariants.{Stay, Set, ClearThenSet}
@@ -10,8 +10,8 @@ use Rattle.call_grammar.specs.Steps.{Mark, Saw, Over, Step, step_of}
 use Rattle.call_grammar.specs.Trees.{CallTree, Ended, Does, Reads}
 use Rattle.call_grammar.specs.Ends.{End}
 
--- who makes the calls: a peer and its partner, the first words of their sections and the words of each, the sizes of the queue in them,
--- and the vector of the traffic doorbell
+-- The configuration of an end: the peer and the other peer; the first words of their sections and
+-- the number of words of each; the sizes of the queue in them; and the vector of its doorbells.
 pub record EndConfig : Type 0 where
   pub me : ℕ
   pub other : ℕ
@@ -23,12 +23,12 @@ pub record EndConfig : Type 0 where
 
 -- The tree
 
--- writes of 0 to so many words from this one on, ascending, and then what comes after
+-- Writes of 0 to consecutive words from `at` on, and then `after`.
 abbrev pub clear : ℕ → ℕ → CallTree → CallTree
 clear at zero after = after
 clear at (suc more) after = Does (Write at 0) [] (clear (at + 1) more after)
 
--- a write of State, which ends the call
+-- A write of State, which ends the call.
 abbrev pub set_state : ℕ → CallTree
 set_state state = Does (State state) (Over ∷ []) Ended
 
@@ -42,11 +42,12 @@ after_tick config Stay = Ended
 after_tick config (Set state) = set_state state
 after_tick config (ClearThenSet state) = clear config.own config.words (set_state state)
 
--- the word with the other's state: the State Table begins at word 0, and has a word for each peer (profile)
+-- The word with the other's State: the State Table begins at word 0, and has a word for each peer
+-- (profile).
 abbrev pub other_state : EndConfig → ℕ
 other_state config = config.other
 
--- a Tick that this end begins
+-- A Tick that this end begins.
 abbrev pub tick : EndConfig → End → CallTree
 tick config end =
     Reads (other_state config) (λ value. tick_marks value (move_of end.handshake value)) (λ value. after_tick config (move_of end.handshake value))
@@ -60,11 +61,12 @@ clear_steps at (suc more) = step_of (Write at 0) 0 [] ∷ clear_steps (at + 1) m
 abbrev pub state_step : ℕ → Step
 state_step state = step_of (State state) 0 (Over ∷ [])
 
--- the read of the other's state
+-- The read of the other's State.
 abbrev pub saw_step : EndConfig → ℕ → List Mark → Step
 saw_step config value marks = step_of (Read (other_state config)) value marks
 
--- a Tick that read this value, by the move that it makes: no more; the State step; or 0 to each own word ascending and then the State step
+-- A Tick that read `value`, by its move: nothing more; the State step; or writes of 0 to all own
+-- words in order and then the State step.
 abbrev pub tick_steps : EndConfig → ℕ → Move → List Step
 tick_steps config value Stay = saw_step config value (Saw value ∷ Over ∷ []) ∷ []
 tick_steps config value (Set state) = saw_step config value (Saw value ∷ []) ∷ state_step state ∷ []

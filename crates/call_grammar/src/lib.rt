@@ -1,23 +1,29 @@
-//! The call grammar that engines, simulator, checker and running peers share: which steps a Tick, a Stop, an Offer and a Poll take, as a
-//! tree, as lists and from place to place, and what a call touches. It stands on `split_ring` for accesses and notes and on
-//! `link_handshake` for the phases. It holds no code: each law about the definitions of `specs/` is the contract of a function with an
-//! empty body.
+//! The call grammar that engines, simulator, checker and running peers share. It defines the steps
+//! of a Tick, a Stop, an Offer and a Poll as a tree, as lists and from place to place. It also
+//! defines the words that a call accesses. The crate uses `split_ring` for accesses and notes and
+//! `link_handshake` for the phases. It has no code: each law about the definitions of `specs/` is
+//! the contract of a function with an empty body.
 //!
 //! # Design
 //!
-//! - A place carries its own numbers (the frame's, the frames freed, the item's), so what is left of a call needs no other data. The job of
-//!   an offer has the lengths of its session's frames; that they come from the frames accepted and the one offered is said where an end
-//!   begins the call (`pending_of`).
-//! - `freed` of an end rises by the whole distance at `reclaim`, before the ids are read; a place in the middle of the ids tells how many
-//!   are left.
-//! - An end keeps one bit for its event: whether its last look of the session found nothing. Where it did, the event stands at the next
-//!   frame, since every look that finds nothing and is the last of its poll comes after the event was written there, and a frame that is
-//!   delivered since was found by a later look. It is said of the look, not of the event, so that it can be read off the marks of a
-//!   history, and costs an engine no number. In version 1 nobody asks for it.
-//! - The second look of a poll is a look like any other: the place `ReadingAvailIndex` says whether it is the last one, and a poll of version 1
-//!   is one whose first look is its last. So events add one place to a poll, the write of the own event, and one to an offer, the read of
-//!   the other's.
-//! - The bound of a poll depends on what it reads, so it is told by its marks (`specs/StepBounds`).
+//! - A place has its own numbers (the frame's, the frames freed, the item's), so the rest of a call
+//!   needs no other data. The pending offer has the lengths of its session's frames. `pending_of`
+//!   says, at the start of the call, that they are the lengths of the frames accepted and of the
+//!   one offered.
+//! - `freed` of an end rises by the whole distance at `reclaim`, before the ids are read. A place
+//!   between the ids has the number of ids left.
+//! - An end stores one bit for its avail_event: whether its last read of the available index in the
+//!   session found no frame. If it did, avail_event wants a doorbell for the next frame. A poll's
+//!   last read that finds no frame comes after the write of avail_event, and a later read finds
+//!   each frame that is delivered since. The bit describes the read, not avail_event, so that the
+//!   marks of a history determine it and an engine stores no further number. In version 1 nothing
+//!   depends on it.
+//! - The second read of the available index in a poll is like the first: the place
+//!   `ReadingAvailIndex` says whether it is the last one. In version 1 the first read is the last.
+//!   So events add one place to a poll, the write of the own avail_event, and one to an offer, the
+//!   read of the other's.
+//! - The bound of a poll depends on the values read, so it is a function of its marks
+//!   (`specs/StepBounds`).
 #![tactic(auto)]
 
 ghost use Rattle.call_grammar.specs.Trees.{CutsBegin};
@@ -33,69 +39,97 @@ ghost use Rattle.call_grammar.specs.StepBounds.{CallsMeetBounds, OtherCallsMeetB
 ghost use Rattle.call_grammar.specs.ReadsOnce.{FieldsAreReadOnce};
 ghost use Rattle.call_grammar.specs.ItemSpelling.{ReadItemsAreSpelled};
 
-/// A call that is cut has the first steps of a whole one.
+/// Law: the steps of a call that is cut are the first steps of a whole call.
 pub fn cuts_begin()
     ensures { CutsBegin }
 {}
 
-/// A list of steps runs the tree of a call to its end exactly where the table of calls has it.
+/// Law: a list of steps runs the tree of a call to its end exactly if the table of calls has the
+/// list.
+// claim with cuts_begin, calls_take_a_step, phase_follows_state: A list of steps runs a call's tree
+//    to its end exactly if it is one of the call's lists. A cut call is the beginning of one; each
+//    call takes a step; its phase is that of its State writes.
 pub fn calls_are_lists()
     ensures { CallsAreLists }
 {}
 
-/// Every call takes a step.
+/// Law: every call has at least one step.
 pub fn calls_take_a_step()
     ensures { CallsTakeAStep }
 {}
 
-/// The phase of an end changes at a State step alone.
+/// Law: the phase of an end changes only at a State step.
 pub fn phase_follows_state()
     ensures { PhaseFollowsState }
 {}
 
-/// The rounds in which an automatic peer chooses its calls keep its rule, which speaks of the call before.
+/// Law: the rounds of an automatic end choose the same calls as its rule, which depends on the call
+/// before.
+// claim: The rounds in which an automatic peer chooses its calls keep its rule, which depends on
+//    the call before.
 pub fn rounds_keep_the_rule()
     ensures { RoundsKeepTheRule }
 {}
 
-/// A call writes its own section and its own state word alone, and reads the other's words alone, whatever it reads.
+/// Law: for all values read, a call writes only its own section and its own State word, and reads
+/// only the other's words.
+// claim: A call writes its own section and State, reads the other's, and rings the other.
 pub fn calls_stay_in_reach()
     ensures { CallsStayInReach }
 {}
 
-/// An end writes 0, or the state to which the phase table moves on from what it saw last, which is the other's state.
+/// Law: an end sets State 0, or the State of the phase table's move for the value that it read
+/// last, which is the other's State.
+// claim: State steps follow the phase table from the value read.
 pub fn calls_keep_rows()
     ensures { CallsKeepRows }
 {}
 
-/// A call begins at its first place and goes on from place to place: by the step at its place, and by that alone.
+/// Law: a call begins at its first place, and each step is the step at its place and leads to the
+/// next place.
+// claim: A call begins at its first place, and continues by the step at its place alone.
 pub fn places_follow_trees()
     ensures { PlacesFollowTrees }
 {}
 
-/// A list of steps is a call exactly where it is played, step by step, from the call's first place to its end.
+/// Law: a list of steps is a call exactly if it replays, step by step, from the call's first place
+/// to its end.
+// claim: A list of steps is a call exactly if it is played from the call's first place.
 pub fn played_are_calls()
     ensures { ReplaysAreCalls }
 {}
 
-/// A finished call has no more steps than its bound: an Offer where no more frames are in flight than may be, and any other call at all times.
+/// Law: the number of steps of a finished call is at most its bound. An Offer needs a number of
+/// frames in flight of at most the limit; any other call needs nothing.
+// claim calls, others: A finished call meets its step bound: an offer if the frames in flight are
+//    within the limit, a tick, a stop and a poll always.
 pub fn calls_meet_bounds()
     ensures calls { CallsMeetBounds }
     ensures others { OtherCallsMeetBounds }
 {}
 
-/// Each foreign field is read once for each item of a poll, each word once in an offer, and each index once for each use of it.
+/// Law: each foreign field is read once for each item of a poll, each word once in an offer, and
+/// each index once for each use of it.
+// claim: Each foreign field is read once for each item, and each word once in an offer. An index is
+//    read once for each use, whole call or cut: the step with the mark of the use is the read. A
+//    call may use an index more than once.
 pub fn fields_are_read_once()
     ensures { FieldsAreReadOnce }
 {}
 
-/// A finished poll that gave a frame back has the other peer's doorbell as its last step, unless it refused the link: so a peer whose offer found no
-/// room needs no event of its own to hear of it.
+/// Law: the last step of a finished poll that returned a frame is the other peer's doorbell, unless
+/// the poll refused the link. So a peer whose offer was full needs no event index for returned
+/// frames.
+// claim: The last step of a finished poll that returned a frame is the other's doorbell, unless the
+//    poll refused the link. So a sender whose offer found no room needs no event.
 pub fn polls_that_return_ring()
     ensures { PollsThatReturnRing }
 {}
 
-/// The values read for one item of a poll spell the frame that it delivers, by the same definition as the words of a section.
+/// Law: the values read for one item of a poll hold the frame that the poll delivers, by the same
+/// definition as the words of a section.
+// claim: The values that a poll reads for an item spell the frame that it delivers, by the
+//    definition by which the words of a section do.
 pub fn read_items_are_spelled()
     ensures { ReadItemsAreSpelled }
 {}

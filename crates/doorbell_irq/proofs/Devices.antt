@@ -3,7 +3,7 @@ use Rattle.std.proofs.Common.{◌≡◌, ◌≢◌, ℕ, zero, suc, ◌<◌, ◌
 use Rattle.std.specs.Prelude.{Bool, false, Option, slice_get, ◌⊎◌}
 use Rattle.std.proofs.lemmas.Option.{slice_get-get_or}
 use Rattle.doorbell_irq.specs.DeviceView.{DeviceView, IsDeviceView}
-use Rattle.doorbell_irq.specs.declared.registers.Registers.{Registers}
+use Rattle.doorbell_irq.specs.Peer.{Registers}
 use Rattle.doorbell_irq.specs.Events.{Devices, Event, Part, vector_count}
 use Rattle.doorbell_irq.specs.DeviceRules.{vector_of, resets, write_of, delivery_by, delivery_of, deliveries_below, delivery_to, connected_after, is_connected, bytes_after}
 use Rattle.doorbell_irq.specs.Registers.{IsPeer, Takes, delivery_at}
@@ -24,7 +24,15 @@ pub peer_at : (w : Devices) (events : List Event) (device : DeviceView) → IsDe
     IsPeer w events peer (get_or device.registers peer d)
 peer_at w events device sound refines peer d inside =
     refines.registers peer (get_or device.registers peer d) (omega (arith, refines.peers))
-    (slice_get-get_or device.registers peer d (omega (arith, refines.seats, sound.few)))
+    (slice_get-get_or device.registers peer d (omega (arith, refines.count, refines.peers)))
+
+-- The same of registers that were read there.
+pub peer_read : (w : Devices) (events : List Event) (device : DeviceView) → Refines w events device → (peer : ℕ) (r : Registers) → peer < device.peers →
+    r ≡ get_or device.registers peer r → IsPeer w events peer r
+peer_read w events device refines peer r inside is =
+    subst (λ x. IsPeer w events peer x) (sym is)
+    (refines.registers peer (get_or device.registers peer r) (omega (arith, refines.peers))
+    (slice_get-get_or device.registers peer r (omega (arith, refines.count, refines.peers))))
 
 -- The event leaves the other peers alone, but for what it triggers.
 pub record Spares (w : Devices) (event : Event) (peer : ℕ) : Type 0 where
@@ -34,13 +42,10 @@ pub record Spares (w : Devices) (event : Event) (peer : ℕ) : Type 0 where
 
 module _ (w : Devices) (events : List Event) (event : Event) (old : DeviceView) (sound : IsDeviceView old) (refines : Refines w events old) (source : ℕ) (inside : source < old.peers)
     (spares : (peer : ℕ) → peer ≢ source → Spares w event peer) where
-  entries_few : vector_count w.wiring ≤ 64
-  entries_few = subst (λ wiring. vector_count wiring ≤ 64) refines.wiring sound.entries
-
   -- A peer that isn't triggered stays as it is.
   spared : (peer : ℕ) (r : Registers) → peer ≢ source → vector_of (bytes_after w events) event peer ≡ None → IsPeer w events peer r → IsPeer w (event ∷ events) peer r
   spared peer r other quiet is =
-      peer_taken w events peer event None r r entries_few (spares peer other).registers ((spares peer other).connection (is_connected events peer))
+      peer_taken w events peer event None r r (spares peer other).registers ((spares peer other).connection (is_connected events peer))
       quiet (spares peer other).writes is (keeps r)
 
   -- An event that triggers nobody: the source's registers alone go on.
@@ -49,11 +54,11 @@ module _ (w : Devices) (events : List Event) (event : Event) (old : DeviceView) 
   moved new own peers wiring registers quiet is = record {
     peers = peers ∙ refines.peers;
     wiring = wiring ∙ refines.wiring;
-    seats = ap length registers ∙ length-set old.registers source own ∙ refines.seats;
+    count = omega (arith, ap length registers, length-set old.registers source own, refines.count);
     registers = λ peer r here at. elim (nat_cases peer source) [
       | inl same ↦ (
           let found : own ≡ r = slice_get-same (set old.registers source own) source own r
-          (slice_get-set_same old.registers source own (omega (arith, refines.seats, sound.few)))
+          (slice_get-set_same old.registers source own (omega (arith, refines.count, refines.peers)))
           (ap (slice_get (set old.registers source own)) (sym same) ∙ ap (λ rs. slice_get rs peer) (sym registers) ∙ at) in
           subst (λ p. IsPeer w (event ∷ events) p r) (sym same) (subst (λ x. IsPeer w (event ∷ events) source x) found is)
           )
@@ -62,8 +67,8 @@ module _ (w : Devices) (events : List Event) (event : Event) (old : DeviceView) 
     ];
   }
 
-  -- The source's registers after its own write or reset: they stand as before the event, which may trigger the source too, or as after
-  -- it, and then the source isn't triggered.
+  -- The source's registers after its own write or reset: they stand as before the event, which may
+  -- trigger the source too, or as after it, and then the source isn't triggered.
   abbrev pub Own : Registers → Type 0
   Own own = (IsPeer w events source own × Spares w event source)
       ⊎ (IsPeer w (event ∷ events) source own × (vector_of (bytes_after w events) event source ≡ None))
@@ -72,7 +77,7 @@ module _ (w : Devices) (events : List Event) (event : Event) (old : DeviceView) 
       (triggered : (peer : ℕ) → vector_at trigger peer ≡ vector_of (bytes_after w events) event peer) where
     -- The registers of a peer before it is triggered.
     before_of : (peer : ℕ) → peer < old.peers → (r : Registers) × (slice_get (set old.registers source own) peer ≡ Some r)
-    before_of peer here = slice_get-within (set old.registers source own) peer (omega (arith, length-set old.registers source own, refines.seats, sound.few))
+    before_of peer here = slice_get-within (set old.registers source own) peer (omega (arith, length-set old.registers source own, refines.count, refines.peers))
 
     others_are : (peer : ℕ) (r : Registers) → peer < old.peers → peer ≢ source → slice_get (set old.registers source own) peer ≡ Some r → IsPeer w events peer r
     others_are peer r here other at =
@@ -80,7 +85,7 @@ module _ (w : Devices) (events : List Event) (event : Event) (old : DeviceView) 
 
     own_is : (peer : ℕ) (r : Registers) → peer ≡ source → slice_get (set old.registers source own) peer ≡ Some r → own ≡ r
     own_is peer r same at = slice_get-same (set old.registers source own) source own r
-        (slice_get-set_same old.registers source own (omega (arith, refines.seats, sound.few)))
+        (slice_get-set_same old.registers source own (omega (arith, refines.count, refines.peers)))
         (ap (slice_get (set old.registers source own)) (sym same) ∙ at)
 
     -- A peer after the event and its triggers.
@@ -93,7 +98,7 @@ module _ (w : Devices) (events : List Event) (event : Event) (old : DeviceView) 
           | inl same ↦ (
               let found = own_is peer before same at in
               subst (λ p. IsPeer w (event ∷ events) p after) (sym same) (elim goes [
-                | inl was ↦ peer_taken w events source event (vector_at trigger source) own after entries_few was.1.registers
+                | inl was ↦ peer_taken w events source event (vector_at trigger source) own after was.1.registers
                     (was.1.connection (is_connected events source)) (sym (triggered source)) was.1.writes was.0
                     (subst (λ b. Takes w.wiring (vector_at trigger source) b after) (sym found)
                     (subst (λ p. Takes w.wiring (vector_at trigger p) before after) same takes))
@@ -103,7 +108,7 @@ module _ (w : Devices) (events : List Event) (event : Event) (old : DeviceView) 
                     (subst (λ p. Takes w.wiring (vector_at trigger p) before after) same takes)))
               ])
               )
-          | inr other ↦ peer_taken w events peer event (vector_at trigger peer) before after entries_few (spares peer other).registers
+          | inr other ↦ peer_taken w events peer event (vector_at trigger peer) before after (spares peer other).registers
               ((spares peer other).connection (is_connected events peer)) (sym (triggered peer)) (spares peer other).writes
               (others_are peer before here other at) takes
         ]
@@ -113,10 +118,10 @@ module _ (w : Devices) (events : List Event) (event : Event) (old : DeviceView) 
         ((peer : ℕ) (before after : Registers) → peer < old.peers → slice_get (set old.registers source own) peer ≡ Some before →
         slice_get new.registers peer ≡ Some after → Takes old.wiring (vector_at trigger peer) before after) →
         Refines w (event ∷ events) new
-    led new peers wiring seats takes = record {
+    led new peers wiring count takes = record {
       peers = peers ∙ refines.peers;
       wiring = wiring ∙ refines.wiring;
-      seats = seats ∙ length-set old.registers source own ∙ refines.seats;
+      count = omega (arith, count, length-set old.registers source own, refines.count);
       registers = λ peer r here at.
           let inside : peer < old.peers = omega (arith, refines.peers) in
           let before = before_of peer inside in
@@ -130,7 +135,7 @@ module _ (w : Devices) (events : List Event) (event : Event) (old : DeviceView) 
         let before = before_of peer here in
         let by_peer : IsPeer w events peer before.0 → delivery_at old.wiring before.0 (vector_at trigger peer)
         ≡ delivery_of w.wiring (is_connected events) (bytes_after w events) event peer =
-        λ is. delivery_same w events peer before.0 is old.wiring sound.entries (vector_at trigger peer)
+        λ is. delivery_same w events peer before.0 is old.wiring (subst (λ wiring. vector_count wiring ≤ length before.0.entries) (sym refines.wiring) is.count) (vector_at trigger peer)
         ∙ ap₂ (λ wiring v. delivery_by wiring (is_connected events peer) (bytes_after w events peer) v) refines.wiring (triggered peer) in
         ap (delivery_if old.wiring (vector_at trigger peer)) before.1 ∙ elim (nat_cases peer source) [
           | inl same ↦ elim goes [

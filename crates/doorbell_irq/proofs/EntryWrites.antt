@@ -1,14 +1,11 @@
 -- A write to an entry of the MSI-X table.
-use Rattle.std.proofs.Common.{◌≡◌, ◌≢◌, ℕ, ◌/◌, ◌%◌, ◌<◌, length, get_or, set, length-set, Some, None, refl, sym, ◌∙◌, ap, inl, inr, eq-eqb}
-use Rattle.std.specs.Prelude.{◌&&◌, ◌==◌, nat_lt, if◌then◌else◌, Result, Ok, Err, IsOk, OnOk, slice_index, slice_get}
-use Rattle.std.proofs.lemmas.Bool.{ne_eqb, lt-ltb}
-use Rattle.std.proofs.lemmas.Option.{slice_get-get_or}
+use Rattle.std.proofs.Common.{◌≡◌, ◌≢◌, ℕ, ◌<◌, ◌≤◌, List, length, get_or, set, Some, None, sym, ◌∙◌, ap, subst, inl, inr, eq-eqb, arith}
+use Rattle.std.specs.Prelude.{◌==◌, if◌then◌else◌, Result, Ok, Err, IsOk, OnOk, Option, slice_index, slice_get}
+use Rattle.std.proofs.lemmas.Bool.{ne_eqb}
+use Rattle.std.proofs.lemmas.Option.{slice_get-get_or, slice_get_within}
 use Rattle.pci_space.specs.Fields.{Contents, merged_byte}
-use Rattle.pci_space.specs.declared.wiring.Wiring.{Wiring}
-use Rattle.doorbell_irq.specs.declared.registers.Registers.{Registers}
-use Rattle.doorbell_irq.specs.Events.{vector_count}
-use Rattle.doorbell_irq.specs.DeviceRules.{entry_write, byte_after}
-use Rattle.doorbell_irq.specs.Registers.{Writes}
+use Rattle.doorbell_irq.specs.DeviceRules.{Write}
+use Rattle.doorbell_irq.specs.Registers.{IsWritten}
 use Rattle.doorbell_irq.proofs.Lists.{slice_get-same, slice_get-set_same, slice_get-set_other, nat_cases}
 
 -- What holds on Ok, where it is Ok.
@@ -16,51 +13,41 @@ pub on_ok : {T E P : Type 0} (r : Result T E) → IsOk r → OnOk r P → P
 on_ok (Ok x) ok holds = holds
 on_ok (Err e) ok holds = cc
 
-module _ (wiring : Wiring) (offset value : ℕ) (aligned : offset % 4 ≡ 0) (has : offset / 16 < vector_count wiring) where
-  -- The entry that is written.
-  here : entry_write wiring offset value (offset / 16) ≡ Some (record { offset = offset % 16; width = 4; value = value })
-  here = ap (λ b. if b && (offset % 4 == 0 && nat_lt (offset / 16) (vector_count wiring)) then Some (record { offset = offset % 16; width = 4; value = value }) else None)
-      (eq-eqb (offset / 16) (offset / 16) refl)
-      ∙ ap (λ b. if b && nat_lt (offset / 16) (vector_count wiring) then Some (record { offset = offset % 16; width = 4; value = value }) else None) (eq-eqb (offset % 4) 0 aligned)
-      ∙ ap (λ b. if b then Some (record { offset = offset % 16; width = 4; value = value }) else None) (lt-ltb (offset / 16) (vector_count wiring) has)
+module _ (entries : List Contents) (n : ℕ) where
+  -- A space that is left alone.
+  same_space : (offset value k : ℕ) (before after : Contents) → k ≢ n → slice_get entries k ≡ Some before → slice_get entries k ≡ Some after →
+      IsWritten (if n == k then Some (record { offset = offset; width = 4; value = value }) else None) before after
+  same_space offset value k before after apart one other =
+      let is : before ≡ after = slice_get-same entries k before after one other in
+      subst (λ (write : Option Write). IsWritten write before after)
+      (sym (ap (λ b. if b then Some (record { offset = offset; width = 4; value = value }) else None) (ne_eqb n k (λ same. apart (sym same)))))
+      (record { rows = ap (λ (s : Contents). s.rows) (sym is); bytes = λ i. ap (λ (s : Contents). slice_index s.bytes i) (sym is) })
 
-  -- Every other entry.
-  elsewhere : (n : ℕ) → n ≢ offset / 16 → entry_write wiring offset value n ≡ None
-  elsewhere n other =
-      ap (λ b. if b && (offset % 4 == 0 && nat_lt n (vector_count wiring)) then Some (record { offset = offset % 16; width = 4; value = value }) else None)
-      (ne_eqb (offset / 16) n (λ same. other (sym same)))
+  -- The entries, where none has the number.
+  pub entry_left : (offset value : ℕ) → length entries ≤ n → (k : ℕ) (before after : Contents) → slice_get entries k ≡ Some before → slice_get entries k ≡ Some after →
+      IsWritten (if n == k then Some (record { offset = offset; width = 4; value = value }) else None) before after
+  entry_left offset value past k before after one other =
+      let inside = slice_get_within entries k before one in
+      same_space offset value k before after (λ same. absurd (omega arith)) one other
 
-  -- The registers after the write.
-  pub entry_written : (r : Registers) (d entry : Contents) → offset / 16 < length r.entries → entry.rows ≡ (get_or r.entries (offset / 16) d).rows →
-      ((k : ℕ) → slice_index entry.bytes k ≡ merged_byte (get_or r.entries (offset / 16) d).rows (offset % 16) 4 value k (slice_index (get_or r.entries (offset / 16) d).bytes k)) →
-      Writes None None (entry_write wiring offset value) r (record r { entries = set r.entries (offset / 16) entry })
-  entry_written r d entry inside rows bytes = record {
-    connected = refl;
-    in_config = record { rows = refl; bytes = λ k. refl };
-    in_page = record { rows = refl; bytes = λ k. refl };
-    count = length-set r.entries (offset / 16) entry;
-    in_entries = λ n before after one other. elim (nat_cases n (offset / 16)) [
-      | inl same ↦ (
-          let was : get_or r.entries (offset / 16) d ≡ before =
-          slice_get-same r.entries (offset / 16) (get_or r.entries (offset / 16) d) before (slice_get-get_or r.entries (offset / 16) d inside)
-          (ap (slice_get r.entries) (sym same) ∙ one) in
-          let is : entry ≡ after =
-          slice_get-same (set r.entries (offset / 16) entry) (offset / 16) entry after (slice_get-set_same r.entries (offset / 16) entry inside)
-          (ap (slice_get (set r.entries (offset / 16) entry)) (sym same) ∙ other) in
-          record {
-            rows = ap (λ (s : Contents). s.rows) (sym is) ∙ rows ∙ ap (λ (s : Contents). s.rows) was;
-            bytes = λ k. ap (λ (s : Contents). slice_index s.bytes k) (sym is) ∙ bytes k
-                ∙ ap (λ (s : Contents). merged_byte s.rows (offset % 16) 4 value k (slice_index s.bytes k)) was
-                ∙ sym (ap (λ a. byte_after before.rows a k (slice_index before.bytes k)) (ap (entry_write wiring offset value) same ∙ here));
-          }
-          )
-      | inr apart ↦ (
-          let is : before ≡ after = slice_get-same r.entries n before after one (sym (slice_get-set_other r.entries (offset / 16) n entry apart) ∙ other) in
-          record {
-            rows = ap (λ (s : Contents). s.rows) (sym is);
-            bytes = λ k. ap (λ (s : Contents). slice_index s.bytes k) (sym is)
-                ∙ sym (ap (λ a. byte_after before.rows a k (slice_index before.bytes k)) (elsewhere n apart));
-          }
-          )
-    ];
-  }
+  -- The entries after the write.
+  pub entry_set : (d entry : Contents) (offset value : ℕ) → n < length entries → entry.rows ≡ (get_or entries n d).rows →
+      ((i : ℕ) → slice_index entry.bytes i ≡ merged_byte (get_or entries n d).rows offset 4 value i (slice_index (get_or entries n d).bytes i)) →
+      (k : ℕ) (before after : Contents) → slice_get entries k ≡ Some before → slice_get (set entries n entry) k ≡ Some after →
+      IsWritten (if n == k then Some (record { offset = offset; width = 4; value = value }) else None) before after
+  entry_set d entry offset value inside rows bytes k before after one other = elim (nat_cases k n) [
+    | inl same ↦ (
+        let was : get_or entries n d ≡ before =
+        slice_get-same entries n (get_or entries n d) before (slice_get-get_or entries n d inside) (ap (slice_get entries) (sym same) ∙ one) in
+        let is : entry ≡ after =
+        slice_get-same (set entries n entry) n entry after (slice_get-set_same entries n entry inside) (ap (slice_get (set entries n entry)) (sym same) ∙ other) in
+        subst (λ (write : Option Write). IsWritten write before after)
+        (sym (ap (λ b. if b then Some (record { offset = offset; width = 4; value = value }) else None) (eq-eqb n k (sym same))))
+        (record {
+          rows = ap (λ (s : Contents). s.rows) (sym is) ∙ rows ∙ ap (λ (s : Contents). s.rows) was;
+          bytes = λ i. ap (λ (s : Contents). slice_index s.bytes i) (sym is) ∙ bytes i
+              ∙ ap (λ (s : Contents). merged_byte s.rows offset 4 value i (slice_index s.bytes i)) was;
+        })
+        )
+    | inr apart ↦ same_space offset value k before after apart one (sym (slice_get-set_other entries n k entry apart) ∙ other)
+  ]

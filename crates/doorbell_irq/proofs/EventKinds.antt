@@ -3,7 +3,7 @@ use Rattle.std.proofs.Common.{◌≡◌, ◌≢◌, ℕ, ◌/◌, ◌%◌, List,
 use Rattle.std.specs.Prelude.{Bool, true, false, ◌&&◌, not, ◌==◌, if◌then◌else◌, ◌⊎◌}
 use Rattle.std.proofs.lemmas.Bool.{ne_eqb, eqb-true}
 use Rattle.pci_space.specs.declared.wiring.Wiring.{Wiring}
-use Rattle.doorbell_irq.specs.declared.registers.Registers.{Registers}
+use Rattle.doorbell_irq.specs.Peer.{Registers}
 use Rattle.doorbell_irq.specs.Events.{Devices, Event, ConfigWritten, RegisterWritten, MsixWritten, WasReset, WasDisconnected, WasConnected, Part, Config, Page, Entry}
 use Rattle.doorbell_irq.specs.DeviceRules.{state_in, vector_by, vector_of, reset_event, page_write, entry_write, write_of, is_connected, bytes_after}
 use Rattle.doorbell_irq.specs.Registers.{IsPeer, Writes, IsReset}
@@ -89,7 +89,8 @@ module _ (w : Devices) (events : List Event) where
         refl refl refl refl refl (λ n. ap (λ b. if b then entry_write w.wiring offset value n else None) (same_eqb source)) is
         (subst (λ v. Writes None None (entry_write v offset value) old new) wired written)
 
-    -- A write to a register: a doorbell writes nothing, and any other write doesn't trigger its own peer.
+    -- A write to a register: a doorbell writes nothing, and any other write doesn't trigger its own
+    -- peer.
     pub register_written : (offset value : ℕ) → Writes None (page_write offset value) (λ n. None) old new →
         (IsPeer w events source new × Spares w (RegisterWritten source offset value) source)
         ⊎ (IsPeer w (RegisterWritten source offset value ∷ events) source new × (vector_of (bytes_after w events) (RegisterWritten source offset value) source ≡ None))

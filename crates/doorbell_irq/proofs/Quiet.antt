@@ -5,7 +5,7 @@ use Rattle.std.proofs.lemmas.Bool.{cases_lt}
 use Rattle.std.proofs.lemmas.List.{append-nil}
 use Rattle.pci_space.specs.Fields.{Contents}
 use Rattle.pci_space.specs.declared.wiring.Wiring.{Wiring}
-use Rattle.doorbell_irq.specs.declared.registers.Registers.{Registers}
+use Rattle.doorbell_irq.specs.Peer.{Registers}
 use Rattle.doorbell_irq.specs.declared.trigger.Trigger.{Trigger}
 use Rattle.doorbell_irq.specs.DeviceRules.{deliveries_below, delivery_to}
 use Rattle.doorbell_irq.specs.Registers.{IsWritten, Takes}

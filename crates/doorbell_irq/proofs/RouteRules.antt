@@ -1,9 +1,9 @@
 -- A route by the rule of delivery.
-use Rattle.std.proofs.Common.{◌≡◌, ℕ, ◌≤◌, List, Bool, true, false, Some, None, refl, sym, ◌∙◌, ap₂}
+use Rattle.std.proofs.Common.{◌≡◌, ℕ, ◌≤◌, List, length, Bool, true, false, Some, None, refl, sym, ◌∙◌, ap₂}
 use Rattle.std.specs.Prelude.{◌&&◌, if◌then◌else◌, is_some}
 use Rattle.pci_space.specs.declared.wiring.Wiring.{Wiring}
 use Rattle.pci_space.specs.declared.wiring.Wiring.TheVariants.{Msix, Intx}
-use Rattle.doorbell_irq.specs.declared.registers.Registers.{Registers}
+use Rattle.doorbell_irq.specs.Peer.{Registers}
 use Rattle.doorbell_irq.specs.Events.{Devices, Event, vector_count}
 use Rattle.doorbell_irq.specs.DeviceRules.{Bytes, lets_through, is_connected, bytes_after}
 use Rattle.doorbell_irq.specs.Registers.{IsPeer, register_bytes}
@@ -19,8 +19,8 @@ pub comes_if : (wiring : Wiring) (connected : Bool) (byte : Bytes) (n : ℕ) →
 comes_if (Msix vectors) connected byte n = some_if (connected && lets_through (Msix vectors) byte n) n
 comes_if Intx connected byte n = some_if (connected && lets_through Intx byte n) 0
 
--- Registers that are those of a peer tell what would come to it.
-pub comes_same : (w : Devices) (events : List Event) (peer : ℕ) (r : Registers) → IsPeer w events peer r → (wiring : Wiring) → vector_count wiring ≤ 64 → (n : ℕ) →
+-- The registers of a peer determine what would be delivered to it.
+pub comes_same : (w : Devices) (events : List Event) (peer : ℕ) (r : Registers) → IsPeer w events peer r → (wiring : Wiring) → vector_count wiring ≤ length r.entries → (n : ℕ) →
     would_come wiring r.connected (register_bytes r) n ≡ would_come wiring (is_connected events peer) (bytes_after w events peer) n
 comes_same w events peer r is wiring few n =
     comes_if wiring r.connected (register_bytes r) n

@@ -1,11 +1,11 @@
 -- Registers that are those of a peer give what the rules say of that peer.
-use Rattle.std.proofs.Common.{◌≡◌, ℕ, zero, suc, ◌+◌, ◌*◌, ◌/◌, ◌%◌, ◌<◌, ◌≤◌, List, Some, None, refl, sym, ◌∙◌, ap, ap₂, inl, inr, arith}
+use Rattle.std.proofs.Common.{◌≡◌, ℕ, zero, suc, ◌+◌, ◌*◌, ◌/◌, ◌%◌, ◌<◌, ◌≤◌, List, length, Some, None, refl, sym, ◌∙◌, ap, ap₂, inl, inr, arith}
 use Rattle.std.specs.Prelude.{Bool, true, false, ◌&&◌, ◌||◌, not, ◌==◌, nat_lt, if◌then◌else◌, Option}
 use Rattle.std.proofs.lemmas.Bool.{cases_lt, le-ltb}
 use Rattle.pci_space.specs.Numbers.{number_from}
 use Rattle.pci_space.specs.declared.wiring.Wiring.{Wiring}
 use Rattle.pci_space.specs.declared.wiring.Wiring.TheVariants.{Msix, Intx}
-use Rattle.doorbell_irq.specs.declared.registers.Registers.{Registers}
+use Rattle.doorbell_irq.specs.Peer.{Registers}
 use Rattle.doorbell_irq.specs.Events.{Devices, Event, Config, Page, Entry, vector_count}
 use Rattle.doorbell_irq.specs.DeviceRules.{bit, state_in, is_enabled, is_one_shot, lets_through, reported, delivery_by, is_connected, bytes_after, register_at, msix_at}
 use Rattle.doorbell_irq.specs.Registers.{IsPeer, byte_in, register_bytes, delivery_at}
@@ -30,13 +30,13 @@ module _ (w : Devices) (events : List Event) (peer : ℕ) (r : Registers) (is : 
   one_shot_same = ap (λ b. bit b 0) (is.config.bytes 0x43)
 
   -- An entry of the table.
-  pub entry_same : (n : ℕ) → n < 64 → (k : ℕ) → register_bytes r (Entry n) k ≡ bytes_after w events peer (Entry n) k
+  pub entry_same : (n : ℕ) → n < length r.entries → (k : ℕ) → register_bytes r (Entry n) k ≡ bytes_after w events peer (Entry n) k
   entry_same n inside k =
-      let found = slice_get-within r.entries n (omega (arith, is.count)) in
+      let found = slice_get-within r.entries n inside in
       ap (λ e. byte_in e k) found.1 ∙ (is.entries n found.0 found.1).bytes k
 
   -- What lets a vector through.
-  pub lets_through_same : (wiring : Wiring) → vector_count wiring ≤ 64 → (n : ℕ) → lets_through wiring (register_bytes r) n ≡ lets_through wiring (bytes_after w events peer) n
+  pub lets_through_same : (wiring : Wiring) → vector_count wiring ≤ length r.entries → (n : ℕ) → lets_through wiring (register_bytes r) n ≡ lets_through wiring (bytes_after w events peer) n
   lets_through_same Intx few n = ap (λ b. not (bit b 2)) (is.config.bytes 0x05)
   lets_through_same (Msix vectors) few n =
       ap₂ (λ (a b : ℕ). (bit a 2 || bit a 3) && (bit b 7 && not (bit b 6)) && unmasked (register_bytes r (Entry n) 0x0C)) (is.config.bytes 0x04) (is.config.bytes 0x63)
@@ -52,7 +52,7 @@ module _ (w : Devices) (events : List Event) (peer : ℕ) (r : Registers) (is : 
         unmasked c = nat_lt n vectors && not (bit c 0)
 
   -- The delivery.
-  pub delivery_same : (wiring : Wiring) → vector_count wiring ≤ 64 → (vector : Option ℕ) →
+  pub delivery_same : (wiring : Wiring) → vector_count wiring ≤ length r.entries → (vector : Option ℕ) →
       delivery_at wiring r vector ≡ delivery_by wiring (is_connected events peer) (bytes_after w events peer) vector
   delivery_same wiring few None = refl
   delivery_same wiring few (Some n) =
@@ -65,7 +65,7 @@ module _ (w : Devices) (events : List Event) (peer : ℕ) (r : Registers) (is : 
       (number_from-same (register_bytes r Page) (bytes_after w events peer Page) offset 4 is.page.bytes)
 
   -- What the MSI-X region reads.
-  pub msix_same : (wiring : Wiring) → vector_count wiring ≤ 64 → (offset : ℕ) → msix_at wiring (register_bytes r) offset ≡ msix_at wiring (bytes_after w events peer) offset
+  pub msix_same : (wiring : Wiring) → vector_count wiring ≤ length r.entries → (offset : ℕ) → msix_at wiring (register_bytes r) offset ≡ msix_at wiring (bytes_after w events peer) offset
   msix_same wiring few offset = elim (cases_lt (offset / 16) (vector_count wiring)) [
     | inl inside ↦ ap (λ v. if offset % 4 == 0 && nat_lt (offset / 16) (vector_count wiring) then v else 0)
         (number_from-same (register_bytes r (Entry (offset / 16))) (bytes_after w events peer (Entry (offset / 16))) (offset % 16) 4

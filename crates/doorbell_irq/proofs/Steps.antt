@@ -1,9 +1,9 @@
 -- How one peer's registers go on with an event.
-use Rattle.std.proofs.Common.{◌≡◌, ℕ, ◌≤◌, List, ◌∷◌, Some, None, refl, sym, ◌∙◌, ap, ap₂, arith}
+use Rattle.std.proofs.Common.{◌≡◌, ℕ, List, ◌∷◌, Some, None, refl, sym, ◌∙◌, ap, ap₂, arith}
 use Rattle.std.specs.Prelude.{Bool, true, false, ◌&&◌, if◌then◌else◌, Option, is_some, slice_index}
 use Rattle.pci_space.specs.Fields.{Contents, reset_byte}
-use Rattle.doorbell_irq.specs.declared.registers.Registers.{Registers}
-use Rattle.doorbell_irq.specs.Events.{Devices, Event, Part, Config, Page, Entry, rows_of, vector_count}
+use Rattle.doorbell_irq.specs.Peer.{Registers}
+use Rattle.doorbell_irq.specs.Events.{Devices, Event, Part, Config, Page, Entry, rows_of}
 use Rattle.doorbell_irq.specs.DeviceRules.{Write, is_one_shot, vector_of, resets, write_of, clear_of, write_or, byte_after, delivery_of, delivery_by, whole_write_of, connected_after, is_connected, bytes_after}
 use Rattle.doorbell_irq.specs.Registers.{register_bytes, delivery_at, Writes, Takes, IsPart, IsPeer, IsWritten, IsSpaceReset, IsReset}
 use Rattle.std.proofs.lemmas.Option.{slice_get_within}
@@ -37,7 +37,7 @@ module _ (w : Devices) (events : List Event) (peer : ℕ) where
     connected = kept.connected ∙ was.connected;
     config = part_kept Config old.config new.config was.config kept.in_config;
     page = part_kept Page old.page new.page was.page kept.in_page;
-    count = kept.count ∙ was.count;
+    count = omega (arith, kept.count, was.count);
     entries = λ n after at.
         let found = slice_get-within old.entries n (omega (arith, kept.count, slice_get_within new.entries n after at)) in
         part_kept (Entry n) found.0 after (was.entries n found.0 found.1) (kept.in_entries n found.0 after found.1 at);
@@ -67,7 +67,7 @@ module _ (w : Devices) (events : List Event) (peer : ℕ) where
       connected = written.connected ∙ was.connected ∙ sym linked;
       config = part_written Config config old.config new.config kept in_config was.config written.in_config;
       page = part_written Page page old.page new.page kept in_page was.page written.in_page;
-      count = written.count ∙ was.count;
+      count = omega (arith, written.count, was.count);
       entries = λ n after at.
           let found = slice_get-within old.entries n (omega (arith, written.count, slice_get_within new.entries n after at)) in
           part_written (Entry n) (entry n) found.0 after kept (in_entry n) (was.entries n found.0 found.1) (written.in_entries n found.0 after found.1 at);
@@ -93,14 +93,14 @@ module _ (w : Devices) (events : List Event) (peer : ℕ) where
         was written
 
     -- A trigger, or none, at a peer that is written nothing.
-    pub peer_taken : (vector : Option ℕ) (old new : Registers) → vector_count w.wiring ≤ 64 → resets event peer ≡ false →
+    pub peer_taken : (vector : Option ℕ) (old new : Registers) → resets event peer ≡ false →
         connected_after event peer (is_connected events peer) ≡ is_connected events peer →
         vector_of (bytes_after w events) event peer ≡ vector →
         ((part : Part) → write_of w.wiring event peer part ≡ None) →
         IsPeer w events peer old → Takes w.wiring vector old new → IsPeer w (event ∷ events) peer new
-    peer_taken vector old new few kept linked triggered nothing was taken =
+    peer_taken vector old new kept linked triggered nothing was taken =
         let delivered : delivery_at w.wiring old vector ≡ delivery_of w.wiring (is_connected events) (bytes_after w events) event peer =
-        delivery_same w events peer old was w.wiring few vector ∙ ap (delivery_by w.wiring (is_connected events peer) (bytes_after w events peer)) (sym triggered) in
+        delivery_same w events peer old was w.wiring was.count vector ∙ ap (delivery_by w.wiring (is_connected events peer) (bytes_after w events peer)) (sym triggered) in
         let clears : clear_of Page (is_some (delivery_at w.wiring old vector) && is_one_shot (register_bytes old))
         ≡ clear_of Page (is_some (delivery_of w.wiring (is_connected events) (bytes_after w events) event peer) && is_one_shot (bytes_after w events peer)) =
         ap₂ (λ d o. clear_of Page (is_some d && o)) delivered (one_shot_same w events peer old was) in
@@ -126,7 +126,7 @@ module _ (w : Devices) (events : List Event) (peer : ℕ) where
       connected = blank.connected ∙ sym linked;
       config = part_reset Config old.config new.config now was.config blank.config;
       page = part_reset Page old.page new.page now was.page blank.page;
-      count = blank.count ∙ was.count;
+      count = omega (arith, blank.count, was.count);
       entries = λ n after at.
           let found = slice_get-within old.entries n (omega (arith, blank.count, slice_get_within new.entries n after at)) in
           part_reset (Entry n) found.0 after now (was.entries n found.0 found.1) (blank.entries n found.0 after found.1 at);

@@ -1,5 +1,6 @@
--- The device's rules (the device's specification, and PCI 3.0 for MSI-X and INTx): what the registers of a world's peers are
--- after a list of events, the newest first, and what one more event does. A trigger that isn't delivered is dropped (profile).
+-- The device's rules (the device's specification, and PCI 3.0 for MSI-X and INTx): the registers of
+-- a world's peers after a list of events, the newest first, and the effect of one more event. A
+-- trigger that is not delivered is dropped (profile).
 use Rattle.std.specs.Prelude.{ℕ, zero, suc, ◌/◌, ◌%◌, ◌^◌, Bool, true, false, ◌&&◌, ◌||◌, not, ◌==◌, nat_lt, if◌then◌else◌, List, [], ◌∷◌, ◌++◌, Option, Some, None, is_some}
 use Rattle.pci_space.specs.declared.field.Field.{Field}
 use Rattle.pci_space.specs.declared.wiring.Wiring.{Wiring}
@@ -28,7 +29,7 @@ bit n i = n / 2 ^ i % 2 == 1
 abbrev pub state_in : Bytes → ℕ
 state_in byte = number_from (byte Page) state_register 4
 
--- Interrupt Control bit 0: the peer takes interrupts.
+-- Interrupts are enabled: Interrupt Control bit 0.
 abbrev pub is_enabled : Bytes → Bool
 is_enabled byte = bit (byte Page interrupt_control_register) 0
 
@@ -36,8 +37,9 @@ is_enabled byte = bit (byte Page interrupt_control_register) 0
 abbrev pub is_one_shot : Bytes → Bool
 is_one_shot byte = bit (byte Config 0x43) 0
 
--- The configuration space and the MSI-X table let vector n through. With MSI-X: Command bit 2 or bit 3 is set, MSI-X is enabled,
--- the function isn't masked, n is below the table's size, and entry n isn't masked. With INTx: Command bit 10 is clear.
+-- The configuration space and the MSI-X table let vector n through. With MSI-X: Command bit 2 or
+-- bit 3 is set, MSI-X is enabled, the function is not masked, n is below the size of the table, and
+-- entry n is not masked. With INTx: Command bit 10 is clear.
 abbrev pub lets_through : Wiring → Bytes → ℕ → Bool
 lets_through (Msix vectors) byte n =
     (bit (byte Config 0x04) 2 || bit (byte Config 0x04) 3)
@@ -50,25 +52,28 @@ abbrev pub reported : Wiring → ℕ → ℕ
 reported (Msix vectors) n = n
 reported Intx n = 0
 
--- The delivery to a peer, if it is triggered: it is connected, takes interrupts, and its registers let the vector through.
+-- The delivery to a triggered peer: it is connected, its interrupts are enabled, and its registers
+-- let the vector through.
 abbrev pub delivery_by : Wiring → Bool → Bytes → Option ℕ → Option ℕ
 delivery_by wiring connected byte None = None
 delivery_by wiring connected byte (Some n) =
     if connected && (is_enabled byte && lets_through wiring byte n) then Some (reported wiring n) else None
 
--- The vector that a new State of a source triggers at a peer: 0 at every other one, where it differs from the old one.
+-- The vector that a new State of a source triggers at a peer: 0 at every other peer, if the State
+-- changes.
 abbrev pub vector_by : ℕ → ℕ → ℕ → ℕ → Option ℕ
 vector_by old source value peer = if not (source == peer) && not (old == value) then Some 0 else None
 
--- The vector that a write to a register of a source, whose State is `old`, triggers at a peer. A peer may
--- ring itself (profile).
+-- The vector that a write to a register of a source, whose State is `old`, triggers at a peer. A
+-- peer may ring itself (profile).
 abbrev pub register_vector : ℕ → ℕ → ℕ → ℕ → ℕ → Option ℕ
 register_vector old source offset value peer =
     if offset == doorbell_register then (if doorbell_target value == peer then Some (doorbell_vector value) else None)
     else if offset == state_register then vector_by old source value peer
     else None
 
--- The vector that an event triggers at a peer, where `before` is how the peers stood.
+-- The vector that an event triggers at a peer; `before` has the bytes of all peers before the
+-- event.
 abbrev pub vector_of : (ℕ → Bytes) → Event → ℕ → Option ℕ
 vector_of before (RegisterWritten source offset value) peer = register_vector (state_in (before source)) source offset value peer
 vector_of before (WasReset source) peer = vector_by (state_in (before source)) source 0 peer
@@ -87,7 +92,8 @@ resets (WasDisconnected p) peer = p == peer
 resets (WasConnected p) peer = p == peer
 resets _ peer = false
 
--- What a write to the register page leaves there: Interrupt Control and State alone keep what is written.
+-- The bytes that a write to the register page stores: only Interrupt Control and State store a
+-- value.
 abbrev pub page_write : ℕ → ℕ → Option Write
 page_write offset value = if offset == interrupt_control_register || offset == state_register then Some (record {
   offset = offset;
@@ -95,13 +101,14 @@ page_write offset value = if offset == interrupt_control_register || offset == s
   value = value;
 }) else None
 
--- What a write to the MSI-X region leaves in entry n: an aligned word of an entry that the table has.
+-- The bytes that a write to the MSI-X region stores in entry n: an aligned word of an entry of the
+-- table.
 abbrev pub entry_write : Wiring → ℕ → ℕ → ℕ → Option Write
 entry_write wiring offset value n =
     if offset / 16 == n && (offset % 4 == 0 && nat_lt n (vector_count wiring)) then Some (record { offset = offset % 16; width = 4; value = value })
     else None
 
--- What the event's guest writes to a space of a peer.
+-- The write of the event's guest to a space of a peer.
 abbrev pub write_of : Wiring → Event → ℕ → Part → Option Write
 write_of wiring (ConfigWritten p offset width value) peer Config =
     if p == peer then Some (record { offset = offset; width = width; value = value }) else None
@@ -109,7 +116,7 @@ write_of wiring (RegisterWritten p offset value) peer Page = if p == peer then p
 write_of wiring (MsixWritten p offset value) peer (Entry n) = if p == peer then entry_write wiring offset value n else None
 write_of wiring _ peer part = None
 
--- What the device itself writes: on a delivery in one-shot mode it clears Interrupt Control.
+-- The write of the device itself: a delivery in one-shot mode clears Interrupt Control.
 abbrev pub clear_of : Part → Bool → Option Write
 clear_of Page true = Some (record { offset = interrupt_control_register; width = 4; value = 0 })
 clear_of Page false = None
@@ -126,7 +133,8 @@ abbrev pub byte_after : List Field → Option Write → ℕ → ℕ → ℕ
 byte_after rows None k old = old
 byte_after rows (Some write) k old = merged_byte rows write.offset write.width write.value k old
 
--- The delivery of an event to a peer, where `connected` and `before` are how the peers stood.
+-- The delivery of an event to a peer; `connected` and `before` are the state of all peers before
+-- the event.
 abbrev pub delivery_of : Wiring → (ℕ → Bool) → (ℕ → Bytes) → Event → ℕ → Option ℕ
 delivery_of wiring connected before event peer = delivery_by wiring (connected peer) (before peer) (vector_of before event peer)
 
@@ -142,12 +150,13 @@ connected_after (WasDisconnected p) peer before = if p == peer then false else b
 connected_after (WasConnected p) peer before = if p == peer then true else before
 connected_after _ peer before = before
 
--- Whether a peer is connected after a list of events: at the start all are.
+-- Whether a peer is connected after a list of events: initially all peers are.
 abbrev pub is_connected : List Event → ℕ → Bool
 is_connected [] peer = true
 is_connected (event ∷ events) peer = connected_after event peer (is_connected events peer)
 
--- The bytes of the peers' spaces after a list of events: those at reset, and then what each event wrote.
+-- The bytes of the peers' spaces after a list of events: the reset values, changed by the write of
+-- each event.
 abbrev pub bytes_after : Devices → List Event → ℕ → Bytes
 bytes_after w [] peer part k = reset_byte (rows_of w peer part) k
 bytes_after w (event ∷ events) peer part k =
@@ -172,18 +181,19 @@ state_of (WasReset p) = Some 0
 state_of (WasDisconnected p) = Some 0
 state_of _ = None
 
--- What one more event does, after a list of events.
+-- The effect of one more event after a list of events.
 abbrev pub effect_of : Devices → List Event → Event → Effect
 effect_of w events event = record {
   state = state_of event;
   deliveries = record { items = deliveries_below (delivery_of w.wiring (is_connected events) (bytes_after w events) event) w.shape.peers };
 }
 
--- What the register page of a peer reads: its aligned words, and 0 at every other offset.
+-- The value that the register page of a peer reads: its aligned words, and 0 at every other offset.
 abbrev pub register_at : Bytes → ℕ → ℕ
 register_at byte offset = if offset % 4 == 0 && nat_lt offset 20 then number_from (byte Page) offset 4 else 0
 
--- What the MSI-X region of a peer reads: the aligned words of its entries, and 0 at every other offset.
+-- The value that the MSI-X region of a peer reads: the aligned words of its entries, and 0 at every
+-- other offset.
 abbrev pub msix_at : Wiring → Bytes → ℕ → ℕ
 msix_at wiring byte offset =
     if offset % 4 == 0 && nat_lt (offset / 16) (vector_count wiring) then number_from (byte (Entry (offset / 16))) (offset % 16) 4 else 0

@@ -1,10 +1,10 @@
 -- The devices of a world as the code has them.
 use Rattle.std.specs.Prelude.{ℕ, ◌≤◌, List}
 use Rattle.pci_space.specs.declared.wiring.Wiring.{Wiring}
-use Rattle.doorbell_irq.specs.declared.registers.Registers.{Registers}
+use Rattle.doorbell_irq.specs.Peer.{Registers}
 use Rattle.doorbell_irq.specs.Events.{vector_count}
 
--- How many peers there are, how interrupts are raised, and each peer's registers.
+-- The number of peers, how interrupts are raised, and each peer's registers.
 pub record DeviceView : Type 0 where
   pub peers : ℕ
   pub wiring : Wiring

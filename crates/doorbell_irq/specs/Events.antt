@@ -1,4 +1,4 @@
--- What can happen to the devices of a world, and what they are made of.
+-- The events of the devices of a world, and the fields of the devices.
 use Rattle.std.specs.Prelude.{ℕ, ◌+◌, ◌*◌, ◌/◌, ◌%◌, List, [], ◌∷◌}
 use Rattle.section_map.specs.Geometry.{Shape}
 use Rattle.pci_space.specs.declared.field.Field.{Field}
@@ -6,13 +6,14 @@ use Rattle.pci_space.specs.declared.wiring.Wiring.{Wiring}
 use Rattle.pci_space.specs.declared.wiring.Wiring.TheVariants.{Msix, Intx}
 use Rattle.pci_space.specs.Device.{row, device_rows}
 
--- The devices of a world: the sizes of its region with the number of its peers, and how interrupts are raised.
+-- The devices of a world: the geometry of its region, with the number of peers, and how interrupts
+-- are raised.
 pub record Devices : Type 0 where
   pub shape : Shape
   pub wiring : Wiring
 
--- What can happen: a guest writes its configuration space, its register page or its MSI-X region, or a peer is reset,
--- disconnected or connected. Offsets and widths are in bytes.
+-- An event: a guest writes its configuration space, its register page or its MSI-X region, or a
+-- peer is reset, disconnected or connected. Offsets and widths are in bytes.
 pub data Event : Type 0 where
   ConfigWritten : (peer offset width value : ℕ) → Event
   RegisterWritten : (peer offset value : ℕ) → Event
@@ -21,7 +22,8 @@ pub data Event : Type 0 where
   WasDisconnected : (peer : ℕ) → Event
   WasConnected : (peer : ℕ) → Event
 
--- The spaces of one peer: its configuration space, its register page, and each entry of its MSI-X table.
+-- The spaces of one peer: its configuration space, its register page, and each entry of its MSI-X
+-- table.
 pub data Part : Type 0 where
   Config : Part
   Page : Part
@@ -37,7 +39,8 @@ doorbell_register = 0x0C
 abbrev pub state_register : ℕ
 state_register = 0x10
 
--- A word of the Doorbell: the vector stands in its low 16 bits, the target in its high ones (the device's specification).
+-- A doorbell word: the vector in its low 16 bits, the target in its high 16 bits (the device's
+-- specification).
 abbrev pub doorbell_word : (target vector : ℕ) → ℕ
 doorbell_word target vector = 65536 * target + vector
 
@@ -47,7 +50,8 @@ doorbell_target word = word / 65536
 abbrev pub doorbell_vector : ℕ → ℕ
 doorbell_vector word = word % 65536
 
--- The register page of a peer among so many (the device's specification; that the Doorbell reads 0 is profile).
+-- The register page of a peer among `peers` (the device's specification; that the Doorbell reads 0
+-- is profile).
 abbrev pub page_rows : ℕ → ℕ → List Field
 page_rows peers peer =
     row 0x00 4 peer 0  -- ID
@@ -72,7 +76,7 @@ rows_of w peer Config = device_rows w.shape 0x0001 w.wiring
 rows_of w peer Page = page_rows w.shape.peers peer
 rows_of w peer (Entry n) = entry_rows
 
--- How many entries the MSI-X table has: none with INTx.
+-- The number of MSI-X entries: none with INTx.
 abbrev pub vector_count : Wiring → ℕ
 vector_count (Msix vectors) = vectors
 vector_count Intx = 0

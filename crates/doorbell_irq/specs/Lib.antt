@@ -1,4 +1,5 @@
 pub mod Events
+pub mod Peer
 pub mod DeviceRules
 pub mod Registers
 pub mod Triggers

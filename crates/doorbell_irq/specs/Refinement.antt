@@ -1,17 +1,23 @@
--- A device stands where a list of events has led it.
-use Rattle.std.specs.Prelude.{ℕ, ◌≡◌, ◌<◌, List, Some, length, slice_get}
+-- A device and the lists of events that it refines.
+use Rattle.std.specs.Prelude.{ℕ, ◌≡◌, ◌<◌, ◌≤◌, List, Some, length, slice_get}
+use Rattle.pci_space.specs.declared.wiring.Wiring.{Wiring}
 use Rattle.doorbell_irq.specs.DeviceView.{DeviceView}
-use Rattle.doorbell_irq.specs.declared.registers.Registers.{Registers}
+use Rattle.doorbell_irq.specs.Peer.{Registers}
 use Rattle.doorbell_irq.specs.Events.{Devices, Event}
 use Rattle.doorbell_irq.specs.Registers.{IsPeer}
 
--- A device is that of the world after these events, the newest first.
+-- A device refines a list of events of a world, the newest first, if its registers are those after
+-- the events.
 pub record Refines (w : Devices) (events : List Event) (device : DeviceView) : Type 0 where
   pub peers : device.peers ≡ w.shape.peers
   pub wiring : device.wiring ≡ w.wiring
-  pub seats : length device.registers ≡ 8
+  pub count : w.shape.peers ≤ length device.registers
   pub registers : (peer : ℕ) (r : Registers) → peer < w.shape.peers → slice_get device.registers peer ≡ Some r → IsPeer w events peer r
 
--- How many peers a device has.
+-- The number of peers of a device.
 abbrev pub peer_count : DeviceView → ℕ
 peer_count device = device.peers
+
+-- The device of the first `peers` of these registers.
+abbrev pub among : (peers : ℕ) → Wiring → List Registers → DeviceView
+among peers wiring registers = record { peers = peers; wiring = wiring; registers = registers }

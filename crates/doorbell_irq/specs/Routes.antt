@@ -1,4 +1,4 @@
--- How a doorbell reaches a peer, by the rule of delivery.
+-- Which doorbells a peer's registers let through, by the rule of delivery.
 use Rattle.std.specs.Prelude.{ℕ, ◌≡◌, ◌<◌, ◌==◌, ◌&&◌, nat_lt, if◌then◌else◌, Bool, true, false, Option, Some, None, is_some, List}
 use Rattle.pci_space.specs.declared.wiring.Wiring.{Wiring}
 use Rattle.pci_space.specs.declared.wiring.Wiring.TheVariants.{Msix, Intx}
@@ -15,7 +15,7 @@ with_interrupts_on byte part k = byte part k
 abbrev pub would_come : Wiring → Bool → Bytes → ℕ → Bool
 would_come wiring connected byte n = is_some (delivery_by wiring connected (with_interrupts_on byte) (Some n))
 
--- All interrupts come by the one line.
+-- Interrupts are raised by INTx.
 abbrev pub is_intx : Wiring → Bool
 is_intx (Msix vectors) = false
 is_intx Intx = true
@@ -27,11 +27,12 @@ pub record IsRoute (w : Devices) (events : List Event) (peer : ℕ) (route : Rou
   pub one_shot : route.one_shot ≡ is_one_shot (bytes_after w events peer)
   pub enabled : route.enabled ≡ is_enabled (bytes_after w events peer)
 
--- The bit of a route that stands for a vector: bit 0 stands for all of them where they come by the one line.
+-- The bit of a route for a vector: bit 0 for all vectors with INTx.
 abbrev pub bit_for : Route → ℕ → ℕ
 bit_for route vector = if route.intx then 0 else vector
 
--- The bit that a doorbell with this vector sets at the end of a route, if it is delivered: the vector that is reported.
+-- The bit that a doorbell with this vector sets at the end of a route, if it is delivered: the
+-- reported vector.
 abbrev pub bit_rung : Route → ℕ → Option ℕ
 bit_rung route vector =
     if route.enabled && (nat_lt (bit_for route vector) 64 && bit route.vectors (bit_for route vector)) then Some (bit_for route vector) else None

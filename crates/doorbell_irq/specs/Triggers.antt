@@ -1,12 +1,12 @@
--- Which peers a call triggers, and what comes of it.
+-- Which peers a call triggers, and the deliveries that follow.
 use Rattle.std.specs.Prelude.{ℕ, ◌==◌, if◌then◌else◌, List, Option, Some, None, slice_get}
 use Rattle.pci_space.specs.declared.wiring.Wiring.{Wiring}
-use Rattle.doorbell_irq.specs.declared.registers.Registers.{Registers}
+use Rattle.doorbell_irq.specs.Peer.{Registers}
 use Rattle.doorbell_irq.specs.declared.trigger.Trigger.{Trigger}
 use Rattle.doorbell_irq.specs.declared.trigger.Trigger.TheVariants.{Nobody, At, Others}
 use Rattle.doorbell_irq.specs.Registers.{delivery_at}
 
--- The vector that comes to a peer.
+-- The vector with which a peer is triggered.
 abbrev pub vector_at : Trigger → ℕ → Option ℕ
 vector_at Nobody peer = None
 vector_at (At target vector) peer = if target == peer then Some vector else None

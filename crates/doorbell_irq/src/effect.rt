@@ -1,7 +1,8 @@
-//! What a call of a device does besides changing registers.
+//! The results of a call of a device, in addition to changed registers.
 use arrayvec::ArrayVec;
 
-/// An interrupt that came to a peer.
+/// An interrupt that reaches a peer.
+#[repr(C)]
 #[derive(Clone, Copy, Debug, Default, PartialEq, Eq)]
 pub struct Delivery {
     /// The peer.
@@ -10,11 +11,11 @@ pub struct Delivery {
     pub vector: u32,
 }
 
-/// What a call did besides changing registers.
+/// The State word and the interrupts of one call.
 #[derive(Debug, Drop)]
 pub struct Effect {
-    /// The new word of the peer in the State Table, where the call wrote it, changed or not.
+    /// The peer's word of the State Table, if the call writes it, changed or not.
     pub state: Option<u32>,
-    /// The interrupts that came, in ascending order of peer.
+    /// The deliveries, in ascending order of peer.
     pub deliveries: ArrayVec<Delivery, 8>,
 }

@@ -1,26 +1,36 @@
-//! The devices of a world's peers as a hypervisor emulates them: configuration spaces, register pages, MSI-X tables, and the
-//! interrupts that doorbells and State writes bring. It stands on `pci_space` for the spaces. Its contract promises that each
-//! call's effect is that of the device's rules after all the calls before it, for every peer, offset and state.
+//! The devices of a world's peers, as a hypervisor emulates them: configuration spaces, register
+//! pages, MSI-X tables, and the interrupts of doorbells and State writes. It stands on `pci_space`
+//! for the spaces. Its contracts promise that the effect of each call is that of the device's rules
+//! after all calls before it, for every peer, offset and state.
 //!
 //! # Design
 //!
-//! - A device stands after a list of events, the newest first (`Stands`). Each call promises two things for every list after which the
-//!   device stands: its answer is that of the rules there, and the device stands after the list with one more event. So a checker that has
-//!   the list needs no device, and callers need nothing but `Stands`.
-//! - The rules look back over that list: each byte of a peer's spaces is its reset value, or what the newest event that reached it left.
-//!   The code has arrays and looks nothing up.
-//! - The register page and an MSI-X entry are field tables, like the configuration space, and one rule serves all three.
-//! - The loop over the peers asks each whether it is meant. So one loop, with one proof, gives the deliveries of doorbells, State writes,
-//!   resets and disconnections, in ascending order.
-//! - `connect` is a reset that triggers nobody, also of a peer that never was disconnected: it is to be called after `disconnect`.
-//! - The public view of a device is the registers of its peers. It is there so that another crate can hold a device in a variable: without
-//!   it the check doesn't find the types inside.
+//! - A device refines a list of events, the newest first (`Refines`). For every list that the
+//!   device refines, each call promises two things. Its result is that of the rules, and the new
+//!   device refines the list with one more event. So a checker that has the list needs no device,
+//!   and callers need only `Refines`.
+//! - The rules are functions of that list: each byte of a peer's spaces has its reset value, or the
+//!   value of the newest event that wrote it. The code has arrays.
+//! - The register page and an MSI-X entry are field tables, like the configuration space. One rule
+//!   serves all three.
+//! - `PeerDevice` is the device of one peer, generic in where its MSI-X table is stored
+//!   (`MsixTable`). The calls of a whole device are functions over a slice of peer devices
+//!   (`peers`). `Device` has an array of 8 peer devices with 64 vectors each. `ivshm_device` stores
+//!   exactly the peers and vectors of its world.
+//! - One loop over the peers gives the deliveries of doorbells, State writes, resets and
+//!   disconnections, in ascending order.
+//! - `connect` is a reset that triggers no peer. Call it after `disconnect`.
+//! - The view of a device is the registers of its peers. It is public because another crate that
+//!   has a device in a variable needs the types of the view.
 #![tactic(auto)]
 
 mod device;
 mod doorbell;
 mod effect;
+mod entries;
 mod laws;
+mod msix_table;
+pub mod peers;
 mod registers;
 mod route;
 mod trigger;
@@ -30,8 +40,11 @@ pub use doorbell::{
     REGISTER_DOORBELL, REGISTER_STATE, doorbell_target, doorbell_vector, doorbell_word,
 };
 pub use effect::{Delivery, Effect};
+pub use entries::{reset_all, write_at};
 pub use laws::{
-    doorbell_words_have_two_halves, one_shot_turns_interrupts_off, routes_tell_deliveries,
-    state_is_what_was_written,
+    doorbell_words_have_two_halves, one_shot_turns_interrupts_off, peers_apart_are_the_device,
+    routes_tell_deliveries, state_is_what_was_written,
 };
+pub use msix_table::MsixTable;
+pub use registers::{PeerDevice, entry_at_reset};
 pub use route::Route;

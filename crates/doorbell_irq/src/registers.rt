@@ -1,21 +1,24 @@
 //! The registers of one peer.
-ghost use Rattle.std.specs.Prelude.{◌≡◌, ◌<◌, ◌≤◌, ◌^◌, ◌↔◌, if◌then◌else◌, ℕ, true, false, [], None, Some, slice_index, IsOk, IsTrue, OnOk, IfErr};
-ghost use Rattle.pci_space.specs.Fields.{is_access, reset_byte, table_fault};
+ghost use Rattle.std.specs.Prelude.{length, slice_get, ◌≡◌, ◌<◌, ◌≤◌, ◌^◌, ◌↔◌, if◌then◌else◌, ℕ, true, false, [], None, Some, slice_index, IsOk, IsTrue, OnOk, IfOk, IfErr};
+ghost use Rattle.pci_space.specs.Numbers.{number_from};
+ghost use Rattle.pci_space.specs.Fields.{Contents, is_access, reset_byte, table_fault};
 ghost use Rattle.pci_space.specs.Wiring.{IsWiring};
 ghost use Rattle.pci_space.specs.Device.{row};
 ghost use Rattle.doorbell_irq.specs.Events.{Entry, page_rows, entry_rows, vector_count};
 ghost use Rattle.doorbell_irq.specs.DeviceRules.{bit, state_in, is_enabled, is_one_shot, lets_through, vector_by, register_vector, page_write, entry_write, register_at, msix_at};
-ghost use Rattle.doorbell_irq.specs.Registers.{register_bytes, delivery_at, Writes, Takes, IsPeer, IsReset};
+ghost use Rattle.doorbell_irq.specs.Registers.{register_bytes, delivery_at, Writes, Takes, IsPeer, IsReset, IsEntryAtReset};
 ghost use Rattle.doorbell_irq.specs.Triggers.{vector_at};
 ghost use Rattle.doorbell_irq.specs.Routes.{would_come, is_intx};
 
 use crate::doorbell::{REGISTER_DOORBELL, REGISTER_STATE};
+use crate::msix_table::MsixTable;
 use crate::route::Route;
 use crate::trigger::Trigger;
 use pci_space::{BadAccess, ConfigSpace, Field, FieldTable, Space, Wiring, device_space};
 use section_map::Geometry;
+use std::marker::Model;
 
-/// The protocol that the device tells.
+/// The protocol number in the configuration space.
 const PROTOCOL: u16 = 0x0001;
 
 /// Offsets in the configuration space.
@@ -34,33 +37,46 @@ const DOORBELL: u16 = REGISTER_DOORBELL as u16;
 
 const STATE: u16 = REGISTER_STATE as u16;
 
-/// Offset of Vector Control in an entry of the MSI-X table.
+/// Offset of Vector Control in an MSI-X entry.
 const VECTOR_CONTROL: u16 = 0x0C;
 
-/// The registers of one peer: its configuration space, its register page and its MSI-X table.
-#[derive(Clone, Copy, Debug)]
-pub(crate) struct Registers {
+/// The device of one peer: its configuration space, its register page and its MSI-X table.
+#[derive(Debug, Drop)]
+pub struct PeerDevice<E: MsixTable + Drop> {
     pub(crate) connected: bool,
     pub(crate) config: ConfigSpace,
     pub(crate) page: Space<5, 20>,
-    pub(crate) entries: [Space<4, 16>; 64],
+    pub(crate) entries: E,
 }
 
-impl Registers {
-    /// The registers of a connected peer at reset.
-    pub(crate) fn new(geometry: &Geometry, wiring: Wiring, peer: u32) -> Registers
-        requires { IsWiring wiring }
+impl<E: MsixTable + Drop> Model for PeerDevice<E> {
+    ghost use Rattle.doorbell_irq.specs.Peer.{Registers};
+
+    ghost Value = { Registers };
+
+    ghost view = { λ r. record { connected = r.connected; config = r.config; page = r.page; entries = E.entries r.entries } };
+}
+
+impl<E: MsixTable + Drop> PeerDevice<E> {
+    /// Returns the device of a connected peer at reset. Requires that the MSI-X table is at reset.
+    // claim with Device::peers, entry_at_reset.rows, entry_at_reset.bytes: A new peer's device, and
+    //    a new MSI-X entry, is at reset. A device has the peers of its geometry.
+    pub fn new(geometry: &Geometry, wiring: Wiring, peer: u32, entries: E) -> PeerDevice<E>
+        requires wired { IsWiring wiring }
+        requires count { vector_count wiring ≤ length (E.entries entries) }
+        requires reset { (n : ℕ) (entry : Contents) → slice_get (E.entries entries) n ≡ Some entry → IsEntryAtReset entry }
         ensures { IsPeer (record { shape = geometry.now; wiring = wiring }) [] peer result }
     {
-        Registers {
+        PeerDevice {
             connected: true,
             config: device_space(geometry, PROTOCOL, wiring),
             page: page_at_reset(geometry.peers(), peer),
-            entries: [entry_at_reset(); 64],
+            entries,
         }
     }
 
-    /// Resets this peer, which disconnects it or leaves its connection as it is. The result is whom its new State triggers.
+    /// Resets this peer, and disconnects it if `disconnects` is set. Returns which peers its new
+    /// State triggers.
     pub(crate) fn reset(&mut self, peer: u32, disconnects: bool) -> Trigger
         ensures reset { IsReset self.old (if disconnects then false else self.old.connected) self.new }
         ensures triggers { (other : ℕ) → vector_at result other ≡ vector_by (state_in (register_bytes self.old)) peer 0 other }
@@ -73,7 +89,7 @@ impl Registers {
         Trigger::by_state(peer, old, 0)
     }
 
-    /// Connects this peer, at reset.
+    /// Resets this peer and connects it.
     pub(crate) fn connect(&mut self)
         ensures { IsReset self.old true self.new }
     {
@@ -87,19 +103,17 @@ impl Registers {
     {
         self.config.reset();
         self.page.reset();
-        for entry in self.entries.iter_mut() {
-            entry.reset();
-        }
+        self.entries.reset();
     }
 
-    /// The State register.
+    /// Returns the State register.
     pub(crate) fn state(&self) -> u32
         ensures { result ≡ state_in (register_bytes self.now) }
     {
         self.page.read(STATE, 4).unwrap_or(0)
     }
 
-    /// Reads a register.
+    /// Reads the register page.
     pub(crate) fn read_register(&self, offset: u32) -> u32
         ensures { result ≡ register_at (register_bytes self.now) offset }
     {
@@ -111,16 +125,22 @@ impl Registers {
 
     /// Reads the MSI-X region.
     pub(crate) fn read_entry(&self, wiring: Wiring, offset: u32) -> u32
-        requires { vector_count wiring ≤ 64 }
         ensures { result ≡ msix_at wiring (register_bytes self.now) offset }
     {
         let n = offset / 16;
         if offset % 4 != 0 || n >= entry_count(wiring) {
             return 0;
         }
-        self.entries[n as usize]
-            .read((offset % 16) as u16, 4)
-            .unwrap_or(0)
+        self.entries.word(n, (offset % 16) as u16)
+    }
+
+    /// Reads the configuration space.
+    pub(crate) fn read_config(&self, offset: u16, width: u16) -> Result<u32, BadAccess>
+        ensures allowed { IsOk result ↔ IsTrue (is_access 256 offset width) }
+        ensures value { IfOk result (λ v. v ≡ number_from (slice_index self.now.config.bytes) offset width) }
+        ensures refused { IfErr result (λ e. e ≡ record { offset = offset; width = width }) }
+    {
+        self.config.read(offset, width)
     }
 
     /// Writes the configuration space.
@@ -137,7 +157,7 @@ impl Registers {
         self.config.write(offset, width, value)
     }
 
-    /// Writes a register of this peer. The result is whom that triggers.
+    /// Writes the register page. Returns which peers the write triggers.
     pub(crate) fn write_register(&mut self, peer: u32, offset: u32, value: u32) -> Trigger
         ensures written { Writes None (page_write offset value) (λ n. None) self.old self.new }
         ensures triggers { (other : ℕ) → vector_at result other ≡ register_vector (state_in (register_bytes self.old)) peer offset value other }
@@ -159,19 +179,18 @@ impl Registers {
 
     /// Writes the MSI-X region.
     pub(crate) fn write_entry(&mut self, wiring: Wiring, offset: u32, value: u32)
-        requires { vector_count wiring ≤ 64 }
         ensures { Writes None None (entry_write wiring offset value) self.old self.new }
     {
         let n = offset / 16;
         if offset % 4 == 0 && n < entry_count(wiring) {
-            let _ = self.entries[n as usize].write((offset % 16) as u16, 4, value);
+            self.entries.write(n, (offset % 16) as u16, value);
         }
     }
 
-    /// Takes a trigger, if there is one. The result is the vector that came with it; a trigger that the registers don't let
-    /// through is dropped.
+    /// Processes a trigger, if there is one, and returns the vector that is delivered.
+    ///
+    /// A trigger that the registers do not let through is dropped.
     pub(crate) fn take(&mut self, wiring: Wiring, trigger: Option<u32>) -> Option<u32>
-        requires { vector_count wiring ≤ 64 }
         ensures gives { result ≡ delivery_at wiring self.old trigger }
         ensures takes { Takes wiring trigger self.old self.new }
     {
@@ -188,9 +207,8 @@ impl Registers {
         })
     }
 
-    /// How a doorbell reaches this peer.
+    /// Returns which doorbells this peer's registers let through.
     pub(crate) fn route(&self, wiring: Wiring) -> Route
-        requires { vector_count wiring ≤ 64 }
         ensures vectors { (n : ℕ) → n < 64 → bit result.vectors n ≡ would_come wiring self.now.connected (register_bytes self.now) n }
         ensures intx { result.intx ≡ is_intx wiring }
         ensures one_shot { result.one_shot ≡ is_one_shot (register_bytes self.now) }
@@ -204,9 +222,9 @@ impl Registers {
         }
     }
 
-    /// Bit N says that a trigger with vector N would be delivered to this peer if it took interrupts.
+    /// Returns one bit for each vector: whether a trigger with it would be delivered if interrupts
+    /// were enabled.
     fn vectors(&self, wiring: Wiring) -> u64
-        requires { vector_count wiring ≤ 64 }
         ensures { (n : ℕ) → n < 64 → bit result n ≡ would_come wiring self.now.connected (register_bytes self.now) n }
     {
         let mut vectors = 0;
@@ -218,31 +236,29 @@ impl Registers {
         vectors
     }
 
-    /// Would a trigger with this vector be delivered to this peer if it took interrupts?
+    /// Whether a trigger with this vector would be delivered if interrupts were enabled.
     fn would_take(&self, wiring: Wiring, vector: u32) -> bool
-        requires { vector_count wiring ≤ 64 }
         ensures { result ≡ would_come wiring self.now.connected (register_bytes self.now) vector }
     {
         self.connected && self.lets_through(wiring, vector)
     }
 
-    /// Does the peer take interrupts?
+    /// Whether interrupts are enabled at the peer.
     fn is_enabled(&self) -> bool
         ensures { result ≡ is_enabled (register_bytes self.now) }
     {
         has_bit(byte_at(&self.page, INTERRUPT_CONTROL), 0)
     }
 
-    /// Is it in one-shot mode?
+    /// Whether the peer is in one-shot mode.
     fn is_one_shot(&self) -> bool
         ensures { result ≡ is_one_shot (register_bytes self.now) }
     {
         has_bit(byte_at(&self.config, PRIVILEGED_CONTROL), 0)
     }
 
-    /// Do the configuration space and the MSI-X table let a vector through?
+    /// Whether the configuration space and the MSI-X table let a vector through.
     fn lets_through(&self, wiring: Wiring, vector: u32) -> bool
-        requires { vector_count wiring ≤ 64 }
         ensures { result ≡ lets_through wiring (register_bytes self.now) vector }
     {
         match wiring {
@@ -257,26 +273,26 @@ impl Registers {
         }
     }
 
-    /// Is the entry of a vector masked?
+    /// Whether the MSI-X entry of a vector is masked.
     fn is_masked(&self, vector: u32) -> bool
-        requires { vector < 64 }
         ensures { result ≡ bit (register_bytes self.now (Entry vector) 0x0C) 0 }
     {
-        has_bit(byte_at(&self.entries[vector as usize], VECTOR_CONTROL), 0)
+        self.entries.is_masked(vector)
     }
 }
 
-/// How many entries the MSI-X table has.
+/// Returns the number of MSI-X entries.
 fn entry_count(wiring: Wiring) -> u32
     ensures { result ≡ vector_count wiring }
 {
-    match wiring {
-        Wiring::Msix(vectors) => vectors,
-        Wiring::Intx => 0,
+    if let Wiring::Msix(vectors) = wiring {
+        vectors
+    } else {
+        0
     }
 }
 
-/// Bit i of a byte.
+/// Returns bit `i` of a byte.
 fn has_bit(byte: u32, i: u32) -> bool
     requires { i < 8 }
     ensures { result ≡ bit byte i }
@@ -284,7 +300,7 @@ fn has_bit(byte: u32, i: u32) -> bool
     byte >> i & 1 == 1
 }
 
-/// A byte of a space.
+/// Returns a byte of a space.
 fn byte_at<const N: usize, const B: usize>(space: &Space<N, B>, offset: u16) -> u32
     requires { offset < B }
     ensures { result ≡ slice_index space.now.bytes offset }
@@ -292,7 +308,7 @@ fn byte_at<const N: usize, const B: usize>(space: &Space<N, B>, offset: u16) -> 
     space.read(offset, 1).unwrap_or(0)
 }
 
-/// The register page of a peer at reset.
+/// Returns the register page of a peer at reset.
 fn page_at_reset(peers: u32, peer: u32) -> Space<5, 20>
     ensures rows { result.rows ≡ page_rows peers peer }
     ensures bytes { (k : ℕ) → slice_index result.bytes k ≡ reset_byte (page_rows peers peer) k }
@@ -310,8 +326,8 @@ fn page_at_reset(peers: u32, peer: u32) -> Space<5, 20>
     Space::new(table)
 }
 
-/// An entry of the MSI-X table at reset.
-fn entry_at_reset() -> Space<4, 16>
+/// Returns an MSI-X entry at reset.
+pub fn entry_at_reset() -> Space<4, 16>
     ensures rows { result.rows ≡ entry_rows }
     ensures bytes { (k : ℕ) → slice_index result.bytes k ≡ reset_byte entry_rows k }
 {
@@ -327,7 +343,7 @@ fn entry_at_reset() -> Space<4, 16>
     Space::new(table)
 }
 
-/// A field of 4 bytes.
+/// Returns a field of 4 bytes.
 fn word(place: u16, reset: u32, mask: u32) -> Field
     ensures { result ≡ row place 4 reset mask }
 {
@@ -339,7 +355,7 @@ fn word(place: u16, reset: u32, mask: u32) -> Field
     }
 }
 
-/// The table of rows that have no fault.
+/// Returns the field table of rows without a fault.
 fn table_of<const N: usize>(rows: [Field; N], bytes: u16) -> FieldTable<N>
     requires small { N < 2 ^ 32 }
     requires sound { table_fault rows bytes ≡ None }

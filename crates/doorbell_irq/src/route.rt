@@ -1,15 +1,15 @@
-//! How a doorbell reaches a peer.
+//! Which doorbells a peer's registers let through.
 
-/// How a doorbell reaches a peer, as its registers stand.
+/// Which doorbells a peer's registers let through.
 #[derive(Clone, Copy, Debug, Default, PartialEq, Eq)]
 pub struct Route {
-    /// Bit N says that a trigger with vector N would be delivered if the peer's Interrupt Control bit 0 were set. With INTx these
-    /// are all bits or none.
+    /// Bit n is set if a trigger with vector n would be delivered with Interrupt Control bit 0 set.
+    /// With INTx all bits are set, or none.
     pub vectors: u64,
-    /// Each interrupt comes by the one line, and is reported as vector 0.
+    /// Whether interrupts are raised by INTx. The reported vector is 0 then.
     pub intx: bool,
-    /// An interrupt that comes clears Interrupt Control.
+    /// Whether a delivery clears Interrupt Control.
     pub one_shot: bool,
-    /// Interrupt Control bit 0: the peer takes interrupts.
+    /// Whether interrupts are enabled: Interrupt Control bit 0.
     pub enabled: bool,
 }

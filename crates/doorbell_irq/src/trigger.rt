@@ -1,30 +1,31 @@
-//! Who is triggered by a call, and the interrupts that come of it.
+//! Which peers a call triggers, and the deliveries that follow.
 ghost use Rattle.std.specs.Prelude.{◌≡◌, ◌<◌, ◌≤◌, ℕ, not, ◌&&◌, ◌==◌, if◌then◌else◌, Some, None, length, slice_get};
-ghost use Rattle.doorbell_irq.specs.declared.registers.Registers.{Registers};
-ghost use Rattle.doorbell_irq.specs.Events.{doorbell_target, doorbell_vector, vector_count};
+ghost use Rattle.doorbell_irq.specs.Peer.{Registers};
+ghost use Rattle.doorbell_irq.specs.Events.{doorbell_target, doorbell_vector};
 ghost use Rattle.doorbell_irq.specs.DeviceRules.{deliveries_below};
 ghost use Rattle.doorbell_irq.specs.Registers.{Takes};
 ghost use Rattle.doorbell_irq.specs.Triggers.{vector_at, delivery_among};
 
 use crate::doorbell::{doorbell_target, doorbell_vector};
 use crate::effect::Delivery;
-use crate::registers::Registers;
+use crate::msix_table::MsixTable;
+use crate::registers::PeerDevice;
 use arrayvec::ArrayVec;
 use pci_space::Wiring;
 
-/// Who is triggered.
+/// Which peers are triggered.
 #[derive(Clone, Copy, Debug)]
 pub(crate) enum Trigger {
     /// No peer.
     Nobody,
-    /// The target of a doorbell, which may be no peer of the world.
+    /// The target of a doorbell. It may be no peer of the world.
     At { target: u32, vector: u32 },
-    /// Every peer but the source of a new State, with vector 0.
+    /// Every peer except the source of a new State, with vector 0.
     Others { source: u32 },
 }
 
 impl Trigger {
-    /// What a word that is written to a Doorbell triggers.
+    /// Returns which peer a doorbell with this word triggers.
     pub(crate) fn by_doorbell(word: u32) -> Trigger
         ensures { (peer : ℕ) → vector_at result peer ≡ (if doorbell_target word == peer then Some (doorbell_vector word) else None) }
     {
@@ -34,7 +35,7 @@ impl Trigger {
         }
     }
 
-    /// What a State triggers that was `old` and is `new`: nothing where it stays the same.
+    /// Returns which peers a State write triggers: none if the value stays the same.
     pub(crate) fn by_state(source: u32, old: u32, new: u32) -> Trigger
         ensures { (peer : ℕ) → vector_at result peer ≡ (if not (source == peer) && not (old == new) then Some 0 else None) }
     {
@@ -45,7 +46,7 @@ impl Trigger {
         }
     }
 
-    /// Which of the first `peers` peers it may trigger: those from a number on, below another.
+    /// Returns the range of peers below `peers` that may be triggered.
     fn asked(self, peers: u32) -> (u32, u32)
         ensures within { (result.0 ≤ result.1) × (result.1 ≤ peers) }
         ensures before { (peer : ℕ) → peer < result.0 → vector_at self peer ≡ None }
@@ -58,7 +59,7 @@ impl Trigger {
         }
     }
 
-    /// The vector that comes to a peer.
+    /// Returns the vector with which a peer is triggered.
     fn vector_at(self, peer: u32) -> Option<u32>
         ensures { result ≡ vector_at self peer }
     {
@@ -70,16 +71,15 @@ impl Trigger {
     }
 }
 
-/// Triggers the first `peers` peers, in ascending order, and answers the interrupts that came.
-pub(crate) fn deliver(
-    registers: &mut [Registers],
+/// Triggers the first `peers` peers in ascending order, and returns the deliveries.
+pub(crate) fn deliver<E: MsixTable + Drop>(
+    registers: &mut [PeerDevice<E>],
     peers: u32,
     wiring: Wiring,
     trigger: Trigger,
 ) -> ArrayVec<Delivery, 8>
     requires few { peers ≤ 8 }
     requires all { peers ≤ length registers.old }
-    requires entries { vector_count wiring ≤ 64 }
     ensures takes { (peer : ℕ) (before after : Registers) → peer < peers → slice_get registers.old peer ≡ Some before →
         slice_get registers.new peer ≡ Some after → Takes wiring (vector_at trigger peer) before after }
     ensures came { result.items ≡ deliveries_below (delivery_among wiring trigger registers.old) peers }

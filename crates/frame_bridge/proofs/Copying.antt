@@ -1,4 +1,4 @@
--- A frame that arrives is copied to the ports to which it goes.
+-- A frame that arrives is copied to each port to which it goes.
 use Rattle.std.proofs.Common.{◌≡◌, ◌≢◌, ℕ, zero, suc, ◌+◌, ◌<◌, ◌≤◌, Bool, true, false, List, [], ◌∷◌, ◌++◌, length, map, cond, ◌||◌, ◌&&◌, refl, sym, ap, ◌∙◌, subst, arith, append-nil, length-append, eqb-true, eq-eqb}
 use Rattle.std.specs.Prelude.{◌==◌, nat_eq, nat_lt, if◌then◌else◌, Some, slice_get, slice_set, filter, min}
 use Rattle.std.specs.List.{list_any}
@@ -27,7 +27,7 @@ is_among to k = list_any (λ y. nat_eq y k) to
 abbrev pub copied_if : Bool → List ℕ → Port → Port
 copied_if copied frame port = if copied then with_copy frame port else port
 
--- the ports, of which the first so many have their copy
+-- The ports, of which the first `count` have their copy.
 pub record Copied (old new : List Port) (to frame : List ℕ) (count : ℕ) : Type 0 where
   pub long : length new ≡ length old
   pub each : (k : ℕ) (port : Port) → slice_get old k ≡ Some port → slice_get new k ≡ Some (copied_if (nat_lt k count && is_among to k) frame port)
@@ -63,7 +63,7 @@ copied_at old now to frame count port copied here below among k p false apart is
     get_other now count k (with_copy frame port) (eqb-false k count apart) ∙ (copied.each k p is ∙
     ap (λ (b : Bool). Some (copied_if (b && is_among to k) frame p)) (sym (below_more k count (eqb-false k count apart))))
 
--- the next port has its copy
+-- The next port has its copy.
 pub copied_more : (old now : List Port) (to frame : List ℕ) (count : ℕ) (port : Port) → Copied old now to frame count → slice_get now count ≡ Some port → count < length now →
     is_among to count ≡ true → Copied old (slice_set now count (with_copy frame port)) to frame (count + 1)
 copied_more old now to frame count port copied here below among = record {
@@ -84,14 +84,14 @@ left_at old now to frame count copied among k p true same is =
 left_at old now to frame count copied among k p false apart is =
     copied.each k p is ∙ ap (λ (b : Bool). Some (copied_if (b && is_among to k) frame p)) (sym (below_more k count (eqb-false k count apart)))
 
--- or needs none
+-- The next port needs none.
 pub copied_less : (old now : List Port) (to frame : List ℕ) (count : ℕ) → Copied old now to frame count → is_among to count ≡ false → Copied old now to frame (count + 1)
 copied_less old now to frame count copied among = record {
   long = copied.long;
   each = λ k p is. left_at old now to frame count copied among k p (k == count) refl is;
 }
 
--- a copy doesn't change the end
+-- A copy doesn't change the end.
 pub copied_end : (b : Bool) (frame : List ℕ) (port : Port) → (copied_if b frame port).own.end ≡ port.own.end
 copied_end true frame port = refl
 copied_end false frame port = refl
@@ -135,7 +135,7 @@ among_at p n k false apart below earlier =
     filter_snoc p n k ∙ (or_none (is_among (filter p (first_ports n)) k) (is_among (cond (p n) (n ∷ []) []) k) (one_apart (p n) n k (λ e. ne (sym e))) ∙
     earlier (omega arith))
 
--- a port is among those of the list exactly where it passes
+-- A port is in the list exactly if it passes.
 pub among_ports : (p : ℕ → Bool) (count k : ℕ) → k < count → is_among (filter p (first_ports count)) k ≡ p k
 among_ports p zero k below = absurd (omega arith)
 among_ports p (suc n) k below = among_at p n k (k == n) refl below (λ lt. among_ports p n k lt)
@@ -174,7 +174,7 @@ get_some [] k below = absurd (omega arith)
 get_some (x ∷ xs) zero below = (x, refl)
 get_some (x ∷ xs) (suc k) below = get_some xs k (omega arith)
 
--- what a frame that arrived made of the run
+-- The run after the arrival of a frame.
 pub record Arrived (ports : ℕ) (w : World) (old new : Run) (from : ℕ) (frame to : List ℕ) : Type 0 where
   pub refines : RunRefines ports w old
   pub bridge : RefinesArrivals new.bridge (w.arrivals ++ arrival from frame ∷ [])
@@ -214,7 +214,7 @@ arrived_run ports w old new from frame to arrived = record {
       (sym (text_more (map arrive_row w.arrivals) (arrive_row (arrival from frame))) ∙ ap (text_of pieces_of) (sym (map-append arrive_row w.arrivals (arrival from frame ∷ [])))));
 }
 
--- a copy of the frame that the sender delivered comes to the next port
+-- A copy of the frame that the sender delivered is appended at the next port.
 pub copy_step : (old now : List Port) (to : List ℕ) (from count : ℕ) (sender source port new : Port) (copy : List ℕ) → slice_get old from ≡ Some sender →
     slice_get now from ≡ Some source → copy ≡ delivered source.own.end → Copied old now to (delivered sender.own.end) count → slice_get now count ≡ Some port →
     count < length now → is_among to count ≡ true → new ≡ with_copy copy port → Copied old (slice_set now count new) to (delivered sender.own.end) (count + 1)

@@ -1,4 +1,5 @@
--- Lists that grow at their end: what stands before a first element, what is found from the end, and how many distinct elements there are.
+-- Lists that grow at their end: the elements before a first one, what is found from the end, and
+-- the number of distinct elements.
 use Rattle.std.proofs.Common.{◌≡◌, ℕ, ◌+◌, ◌≤◌, Bool, true, false, List, [], ◌∷◌, ◌++◌, length, cond, not, ◌||◌, refl, sym, ap, ◌∙◌, arith, append_assoc}
 use Rattle.std.specs.Prelude.{Option, Some, is_some, reverse}
 use Rattle.std.specs.List.{list_any, find, before_first}
@@ -60,7 +61,7 @@ first_new {A} p (y ∷ ys) x new =
     (not_here (p y) [] (y ∷ before_first p (ys ++ x ∷ [])) (or_left_false (p y) (list_any p ys) new) ∙
     ap (λ (l : List A). y ∷ l) (first_new p ys x (or_right_false (p y) (list_any p ys) new)))
 
--- what stands before the first is a beginning
+-- The elements before the first one are a prefix.
 pub first_begins : {A : Type 0} (p : A → Bool) (xs : List A) → (rest : List A) × (before_first p xs ++ rest ≡ xs)
 first_begins p [] = ([], refl)
 first_begins {A} p (x ∷ xs) =
@@ -94,7 +95,7 @@ any_reverse p (x ∷ xs) =
 
 -- Distinct ones
 
--- 1 where it isn't so
+-- 1 if it is false.
 abbrev pub unless : Bool → ℕ
 unless b = cond b 0 1
 
@@ -114,7 +115,7 @@ module _ {K : Type 0} {e : K → K → Bool} (laws : IsEquivalence e) where
   distinct_cons : (x : K) (xs : List K) → distinct_count e (x ∷ xs) ≡ distinct_count e xs + unless (is_member e xs x)
   distinct_cons x xs = length_cond (is_member e xs x) x (unique_keys e xs)
 
-  -- one more counts where it isn't there yet
+  -- One more counts if it isn't in the list yet.
   pub distinct_snoc : (xs : List K) (y : K) → distinct_count e (xs ++ y ∷ []) ≡ distinct_count e xs + unless (is_member e xs y)
   distinct_snoc [] y = refl
   distinct_snoc (x ∷ xs) y =
@@ -128,7 +129,7 @@ module _ {K : Type 0} {e : K → K → Bool} (laws : IsEquivalence e) where
       let turned : unless (e x y || is_member e xs y) ≡ unless (is_member e (x ∷ xs) y) = ap (λ (b : Bool). unless (b || is_member e xs y)) (laws.symm x y) in
       omega (arith, here, without, more, member_is, both, turned)
 
-  -- a beginning has no more
+  -- A prefix has no more.
   pub distinct_grows : (xs ys : List K) → distinct_count e xs ≤ distinct_count e (xs ++ ys)
   distinct_grows xs [] = let same : distinct_count e (xs ++ []) ≡ distinct_count e xs = ap (λ (l : List K). distinct_count e l) (append-nil xs) in omega arith
   distinct_grows xs (y ∷ ys) =

@@ -1,4 +1,4 @@
--- What a link of two ends that choose their calls keeps, turn by turn.
+-- The invariant of a link of two automatic ends, turn by turn.
 use Rattle.std.proofs.Common.{◌≡◌, ◌≢◌, ℕ, zero, suc, ◌<◌, ◌≤◌, Bool, true, false, List, [], ◌∷◌, ◌++◌, length, refl, sym, ap, ◌∙◌, subst, append_assoc, inl, inr, arith, eq-eqb, eqb-true}
 use Rattle.std.specs.Prelude.{◌⊎◌, ◌==◌, nat_le, if◌then◌else◌, Option, Some, All}
 use Rattle.std.specs.List.{AllByRecursion}
@@ -27,7 +27,7 @@ use Rattle.frame_bridge.specs.Links.{link_config, expected, AutoEnd, Link, choic
 use Rattle.frame_bridge.specs.Keeps.{job_frame, HeadIs, ends_in, places_in, Sound}
 use Rattle.frame_bridge.proofs.Steps.{accepted_by, heads_on, counts_on, noted_accepted, noted_delivered, SameLists, stated_lists}
 
--- The region has a ground
+-- The region has a link configuration
 
 pub is_ground : IsLinkConfig link_config
 unfolding queue_size
@@ -37,7 +37,7 @@ is_ground = record {
   first = omega arith;
 }
 
--- Parties by their numbers
+-- Automatic ends by their numbers
 
 pub put_here : (parties : ℕ → AutoEnd) (p : ℕ) (party : AutoEnd) → with_end parties p party p ≡ party
 put_here parties p party = ap (λ (b : Bool). if b then party else parties p) (eq-eqb p p refl)
@@ -67,7 +67,7 @@ by_number P parties p party here there q below = at (q == p) refl
     at true is = subst (P party) (sym (eqb-true q p is)) here
     at false is = there q below
 
--- an end comes to be another, and the other stays
+-- One end changes, and the other doesn't.
 comes : (parties : ℕ → AutoEnd) (p : ℕ) (party : AutoEnd) →
     OnlyEndChanges (λ q. (parties q).end) (λ q. (with_end parties p party q).end) (λ q. (parties q).place) (λ q. (with_end parties p party q).place) p party.end party.place
 comes parties p party = record {
@@ -77,7 +77,7 @@ comes parties p party = record {
   places_stay = λ q other. ap (λ (x : AutoEnd). x.place) (put_other parties p party q other);
 }
 
--- a link goes on by one end alone
+-- A step of one end alone.
 put_sound : (given : ℕ → List (List ℕ)) (link : Link) (p : ℕ) (party : AutoEnd) (memory : ℕ → ℕ) → Sound given link → p < 2 →
     CalmRuns link_config memory (λ q. (with_end link.parties p party q).end) (λ q. (with_end link.parties p party q).place) →
     given p ≡ party.end.accepted ++ party.frames → party.delivered ≡ party.end.delivered → HeadIs party.place party.frames →
@@ -106,7 +106,7 @@ All_right P xs ys all = All-from_recursion P ys (all_right P xs ys (recursion_fr
 pub All_left : {A : Type 0} (P : A → Type 0) (xs ys : List A) → All P (xs ++ ys) → All P xs
 All_left P xs ys all = All-from_recursion P xs (all_left P xs ys (recursion_from_All P (xs ++ ys) all))
 
--- the frames that are still to come may be offered
+-- The frames that are still to come may be offered.
 pub to_come : (given : ℕ → List (List ℕ)) (link : Link) (p : ℕ) → Sound given link → p < 2 → All (IsOffered link_config) (link.parties p).frames
 to_come given link p sound below =
     All_right (IsOffered link_config) (link.parties p).end.accepted (link.parties p).frames (subst (All (IsOffered link_config)) (sound.counted p below) (sound.offered p below))
@@ -130,7 +130,7 @@ first_chosen Run Anew (x ∷ xs) delivered most frame is = let same : x ≡ fram
 first_chosen Run AfterOffer (x ∷ xs) delivered most frame is = absurd (cc)
 first_chosen Run AfterPoll (x ∷ xs) delivered most frame is = absurd (cc)
 
--- what choosing keeps: the end, the frames, and what was told
+-- What a choice doesn't change: the end, the frames, and what was delivered.
 pub record SameParty (old new : AutoEnd) : Type 0 where
   pub end : new.end ≡ old.end
   pub frames : new.frames ≡ old.frames
@@ -165,7 +165,7 @@ may_begin (Offer frame) frames may first =
     let here = first frame refl in
     (recursion_from_All (IsOffered link_config) (frame ∷ here.0) (subst (All (IsOffered link_config)) here.1 may)).0
 
--- a link whose end begins this call
+-- A link whose end begins this call.
 begun : (given : ℕ → List (List ℕ)) (link : Link) (p : ℕ) (call : Call) (round : Round) → Sound given link → p < 2 → is_open (link.parties p).place ≡ false → call ≢ Stop →
     ((frame : List ℕ) → call ≡ Offer frame → (rest : List (List ℕ)) × ((link.parties p).frames ≡ frame ∷ rest)) →
     Sound given (record link { parties = with_end link.parties p (record (link.parties p) { place = first_place (config_of link_config p) (link.parties p).end call; round = round }) })
@@ -198,7 +198,7 @@ open_sound given link p true sound below is =
     subst (λ (parties : ℕ → AutoEnd). Sound given (record link { parties = parties })) (sym (put_same link.parties p)) sound
 open_sound given link p false sound below is = choice_sound given link p (choice (link.parties p)) sound below is refl
 
--- after the choice
+-- After the choice.
 pub opened_sound : (given : ℕ → List (List ℕ)) (link : Link) (p : ℕ) → Sound given link → p < 2 →
     Sound given (record link { parties = with_end link.parties p (opened (config_of link_config p) (link.parties p)) })
 opened_sound given link p sound below = open_sound given link p (is_open (link.parties p).place) sound below refl
@@ -238,7 +238,7 @@ call_at end place side at is =
     let call : CallIs end (WritingState 2) side = subst (λ (x : Place). CallIs end x side) at is.call in
     saw_init end side.seen call.0
 
--- a session opens where none was: the lists are empty
+-- A session opens after none was open: the lists are empty.
 empty_lists : (link : Link) (p : ℕ) → CalmRuns link_config link.memory (ends_in link) (places_in link) → p < 2 → places_in link p ≡ WritingState 2 →
     ((ends_in link p).accepted ≡ []) × ((ends_in link p).delivered ≡ [])
 empty_lists link p runs below at =
@@ -266,7 +266,7 @@ leaves p memory (access.State state) = stored memory p state
 leaves p memory (access.Ring target vector) = refl
 leaves p memory access.Nothing = refl
 
--- the step of an open call
+-- The step of an open call.
 pub step_sound : (given : ℕ → List (List ℕ)) (link : Link) (p : ℕ) → Sound given link → p < 2 → is_open (link.parties p).place ≡ true →
     Sound given (step_of_link p link (link.parties p))
 step_sound given link p sound below opens =

@@ -1,4 +1,4 @@
--- What one more arrival makes of what is known.
+-- The effect of one more arrival on what is known.
 use Rattle.std.proofs.Common.{◌≡◌, ℕ, ◌+◌, ◌<◌, ◌≤◌, Bool, true, false, List, [], ◌∷◌, ◌++◌, length, cond, not, ◌||◌, ◌&&◌, refl, sym, ap, ◌∙◌, arith, min, map, inl, inr}
 use Rattle.std.specs.Prelude.{◌⊎◌, filter, Option, Some, None, is_some, nat_lt, reverse, if◌then◌else◌}
 use Rattle.std.specs.Option.{option_map}
@@ -30,7 +30,7 @@ same_is a b e = (bytes_decides a b).0 e
 pub same_self : (a : List ℕ) → same_address a a ≡ true
 same_self a = (bytes_decides a a).1 refl
 
--- the map's test
+-- The map's test.
 pub at_is_same : (a b : List ℕ) → is_at (slice_cmp nat_cmp a) b ≡ same_address a b
 at_is_same a b = is_eq-slice_cmp a b
 
@@ -41,14 +41,14 @@ senders_append xs ys =
     let source_of : Arrival → List ℕ = λ a. source a.frame in
     ap (filter single) (map-append source_of xs ys) ∙ filter-append single (map source_of xs) (map source_of ys)
 
--- one more group address counts for nothing
+-- One more group address doesn't count.
 pub count_group : (xs : List Arrival) (x : Arrival) → is_group (source x.frame) ≡ true →
     distinct_count same_address (senders (xs ++ x ∷ [])) ≡ distinct_count same_address (senders xs)
 count_group xs x group =
     let none : senders (x ∷ []) ≡ [] = ap (λ (b : Bool). cond (not b) (source x.frame ∷ []) []) group in
     ap (λ (l : List (List ℕ)). distinct_count same_address l) (senders_append xs (x ∷ []) ∙ (ap (λ (l : List (List ℕ)). senders xs ++ l) none ∙ append-nil (senders xs)))
 
--- one more single address counts where it wasn't there
+-- One more single address counts if it is new.
 pub count_single : (xs : List Arrival) (x : Arrival) → is_group (source x.frame) ≡ false →
     distinct_count same_address (senders (xs ++ x ∷ [])) ≡ distinct_count same_address (senders xs) + unless (is_member same_address (senders xs) (source x.frame))
 count_single xs x alone =
@@ -64,12 +64,12 @@ and_false : (b : Bool) → (b && false) ≡ false
 and_false true = refl
 and_false false = refl
 
--- the same address is single too
+-- The same address is single too.
 alike : (a b : List ℕ) → single a ≡ true → (c : Bool) → same_address a b ≡ c → (single b && c) ≡ c
 alike a b s true same = ap (λ (t : Bool). t && true) (sym (ap single (same_is a b same)) ∙ s)
 alike a b s false same = and_false (single b)
 
--- a single address is a sender where it is a source
+-- A single address is a sender if it is a source.
 pub is_sender : (xs : List Arrival) (a : List ℕ) → single a ≡ true → is_member same_address (senders xs) a ≡ list_any (is_from a) xs
 is_sender [] a s = refl
 is_sender (x ∷ xs) a s =
@@ -77,7 +77,7 @@ is_sender (x ∷ xs) a s =
     (ap (λ (b : Bool). b || is_member same_address (senders xs) a) (alike a (source x.frame) s (same_address a (source x.frame)) refl) ∙
     ap (λ (b : Bool). is_from a x || b) (is_sender xs a s))
 
--- What is known after one more
+-- What is known after one more arrival
 
 pub latest_here : (xs : List Arrival) (x : Arrival) (a : List ℕ) → is_from a x ≡ true → latest_port (xs ++ x ∷ []) a ≡ Some x.port
 latest_here xs x a here =
@@ -89,7 +89,7 @@ latest_other xs x a other =
     ap (λ (l : List Arrival). option_map (λ (y : Arrival). y.port) (find (is_from a) l)) (reverse-append xs (x ∷ [])) ∙
     ap (λ (b : Bool). option_map (λ (y : Arrival). y.port) (cond b (Some x) (find (is_from a) (reverse xs)))) other
 
--- a source that arrived before is learned or not once and for all
+-- A source that arrived before is learned, or never will be.
 pub learned_seen : (xs ys : List Arrival) (a : List ℕ) → list_any (is_from a) xs ≡ true → is_learned (xs ++ ys) a ≡ is_learned xs a
 learned_seen xs ys a seen =
     let p : Arrival → Bool = is_from a in
@@ -97,18 +97,18 @@ learned_seen xs ys a seen =
     ap (λ (b : Bool). single a && b && nat_lt (distinct_count same_address (senders (before_first p (xs ++ ys)))) most_known) there ∙
     ap (λ (l : List Arrival). single a && list_any p xs && nat_lt (distinct_count same_address (senders l)) most_known) (first_seen p xs ys seen)
 
--- what isn't a source isn't learned
+-- What isn't a source isn't learned.
 pub unseen : (xs : List Arrival) (a : List ℕ) → list_any (is_from a) xs ≡ false → is_learned xs a ≡ false
 unseen xs a new =
     let few : Bool = nat_lt (distinct_count same_address (senders (before_first (is_from a) xs))) most_known in
     ap (λ (b : Bool). single a && b && few) new ∙ ap (λ (b : Bool). b && few) (and_false (single a))
 
--- a group address isn't learned
+-- A group address isn't learned.
 pub group_unlearned : (xs : List Arrival) (a : List ℕ) → is_group a ≡ true → is_learned xs a ≡ false
 group_unlearned xs a group =
     ap (λ (b : Bool). not b && list_any (is_from a) xs && nat_lt (distinct_count same_address (senders (before_first (is_from a) xs))) most_known) group
 
--- a new single source is learned where fewer than the most are there
+-- A new single source is learned if fewer than the most are known.
 pub learned_new : (xs : List Arrival) (x : Arrival) (a : List ℕ) → list_any (is_from a) xs ≡ false → is_from a x ≡ true → single a ≡ true →
     is_learned (xs ++ x ∷ []) a ≡ nat_lt (distinct_count same_address (senders xs)) most_known
 learned_new xs x a new here s =
@@ -120,7 +120,7 @@ learned_new xs x a new here s =
     (ap (λ (b : Bool). true && b && nat_lt (distinct_count same_address (senders (before_first p (xs ++ x ∷ [])))) most_known) there ∙
     ap (λ (l : List Arrival). nat_lt (distinct_count same_address (senders l)) most_known) before)
 
--- the arrival of another source changes nothing
+-- The arrival of another source changes nothing.
 learned_other : (xs : List Arrival) (x : Arrival) (a : List ℕ) (seen : Bool) → list_any (is_from a) xs ≡ seen → is_from a x ≡ false →
     is_learned (xs ++ x ∷ []) a ≡ is_learned xs a
 learned_other xs x a true seen other = learned_seen xs (x ∷ []) a seen
@@ -166,11 +166,11 @@ some_port xs a true learned =
     is_some_map (find (is_from a) (reverse xs)) ∙ (is_some_find (is_from a) (reverse xs) ∙ (any_reverse (is_from a) xs ∙ learned_source xs a learned))
 some_port xs a false learned = refl
 
--- an address has a port where it is learned
+-- An address has a port exactly if it is learned.
 pub is_some_port : (xs : List Arrival) (a : List ℕ) → is_some (port_of xs a) ≡ is_learned xs a
 is_some_port xs a = some_port xs a (is_learned xs a) refl
 
--- where fewer than the most are there, each single source is learned
+-- If fewer than the most are known, each single source is learned.
 pub learned_few : (xs : List Arrival) (a : List ℕ) → list_any (is_from a) xs ≡ true → single a ≡ true →
     distinct_count same_address (senders xs) < most_known → is_learned xs a ≡ true
 learned_few xs a seen s few =
@@ -184,9 +184,9 @@ learned_few xs a seen s few =
     ap (λ (b : Bool). b && list_any p xs && nat_lt (distinct_count same_address front) most_known) s ∙
     (ap (λ (b : Bool). true && b && nat_lt (distinct_count same_address front) most_known) seen ∙ lt-ltb (distinct_count same_address front) most_known below)
 
--- Where a bridge stands after one more
+-- The bridge after one more arrival
 
--- no address gets another port by a group address
+-- No address gets another port by a group address.
 group_port : (xs : List Arrival) (x : Arrival) (a : List ℕ) (here : Bool) → is_group (source x.frame) ≡ true → is_from a x ≡ here →
     port_of (xs ++ x ∷ []) a ≡ port_of xs a
 group_port xs x a true group here =
@@ -194,7 +194,7 @@ group_port xs x a true group here =
     port_none (xs ++ x ∷ []) a (group_unlearned (xs ++ x ∷ []) a g) ∙ sym (port_none xs a (group_unlearned xs a g))
 group_port xs x a false group other = port_other xs x a other
 
--- the source is a group address: nothing changes
+-- The source is a group address: nothing changes.
 pub stands_group : (bridge : View) (xs : List Arrival) (x : Arrival) → RefinesArrivals bridge xs → is_group (source x.frame) ≡ true →
     RefinesArrivals bridge (xs ++ x ∷ [])
 stands_group bridge xs x refines group = record {
@@ -221,7 +221,7 @@ full_port xs x a false other s unknown full = port_other xs x a other
 single_from : (a : List ℕ) → is_group a ≡ false → single a ≡ true
 single_from a alone = ap not alone
 
--- the source isn't known, and the most are: nothing changes
+-- The source isn't known, and the most are: nothing changes.
 pub stands_full : (bridge : View) (xs : List Arrival) (x : Arrival) → RefinesArrivals bridge xs → is_group (source x.frame) ≡ false →
     is_some (port_in bridge (source x.frame)) ≡ false → most_known ≤ length bridge.table → RefinesArrivals bridge (xs ++ x ∷ [])
 stands_full bridge xs x refines alone none full =
@@ -235,7 +235,7 @@ stands_full bridge xs x refines alone none full =
       size = refines.size ∙ stays;
     }
 
--- it is known already, or there is room
+-- It is known already, or there is space.
 abbrev pub HasRoom : View → List ℕ → Type 0
 HasRoom bridge a = (length bridge.table < most_known) ⊎ (is_some (port_in bridge a) ≡ true)
 
@@ -292,7 +292,7 @@ put_size bridge xs x new false unseen_yet refines alone room is =
 turned : (a b : List ℕ) → is_at (slice_cmp nat_cmp b) a ≡ same_address a b
 turned a b = at_is_same b a ∙ nat_list_eq_equiv.symm b a
 
--- the source gets the port
+-- The source gets the port.
 pub stands_put : (bridge after : View) (xs : List Arrival) (x : Arrival) → RefinesArrivals bridge xs → is_group (source x.frame) ≡ false → HasRoom bridge (source x.frame) →
     ((a : List ℕ) → port_in after a ≡ cond (is_at (slice_cmp nat_cmp (source x.frame)) a) (Some x.port) (port_in bridge a)) →
     length after.table ≡ length bridge.table + unless (is_some (port_in bridge (source x.frame))) → RefinesArrivals after (xs ++ x ∷ [])
@@ -305,7 +305,7 @@ stands_put bridge after xs x refines alone room updates size =
       size = put_size bridge xs x (length after.table) (list_any (is_from (source x.frame)) xs) refl refines alone room size;
     }
 
--- How many are known
+-- The number known
 
 fun_same : same_address ≡ eq_by_cmp (slice_cmp nat_cmp)
 fun_same = λ i a b. texts_ties a b i
@@ -323,7 +323,7 @@ keys_known bridge xs refines a =
     sym (is_some-lookup (is_at (slice_cmp nat_cmp a)) bridge.table) ∙ (ap (λ (o : Option ℕ). is_some o) (refines.known a) ∙ (is_some_port xs a ∙
     sym (is_member-filter nat_list_eq_equiv (is_learned xs) a (λ b same. learned_alike xs a b same) (senders xs) ∙ known_member xs a (is_learned xs a) refl)))
 
--- a map whose keys are in order has as many entries as addresses are known
+-- A map with its keys in order has as many entries as addresses are known.
 pub known_counts : (bridge : View) (xs : List Arrival) → RefinesArrivals bridge xs → IsStrictlySortedBy (slice_cmp nat_cmp) (keys_of bridge.table) →
     length bridge.table ≡ known_count xs
 known_counts bridge xs refines ordered =

@@ -12,7 +12,7 @@ use Rattle.frame_bridge.specs.Output.{pieces_of, out_row}
 use Rattle.frame_bridge.specs.Refinement.{AutoEndRefines, RegionRefines, PortRefines, most_counted, delivered_if}
 use Rattle.frame_bridge.proofs.Worlds.{turned_told, turned_other}
 
--- one line more
+-- One more line.
 pub text_more : (rs : List (Row Line)) (r : Row Line) → text_of pieces_of (rs ++ r ∷ []) ≡ text_of pieces_of rs ++ line_of_row pieces_of r
 text_more rs r =
     flat_map-append (line_of_row pieces_of) rs (r ∷ []) ∙
@@ -38,7 +38,7 @@ own_turned link forwarded old new refines region own station outs delivered coun
       forwarded_is = counted ∙ refines.forwarded_is;
     }
 
--- what the station delivered after its turn
+-- The frames that the station delivered after its turn.
 delivered_after : (link : Link) (told : Bool) (frame : List ℕ) → observed_by 0 link ≡ delivered_if told frame →
     ((turned 0 link).parties 0).delivered ≡ (link.parties 0).delivered ++ delivered_if told frame
 delivered_after link told frame is = turned_told link 0 ∙ ap (λ (l : List (List ℕ)). (link.parties 0).delivered ++ l) is

@@ -39,7 +39,7 @@ pushed_if : (xs : List Port) (x : Port) (k : ℕ) (port : Port) → ((k : ℕ) (
 pushed_if xs x k port each refines (inl here) = each k port here
 pushed_if xs x k port each refines (inr same) = subst (λ (p : Port). PortRefines (start_link []) [] p) same refines
 
--- one port more
+-- One more port.
 pub pushed_each : (xs all : List Port) (x : Port) → all ≡ xs ++ x ∷ [] → ((k : ℕ) (port : Port) → slice_get xs k ≡ Some port → PortRefines (start_link []) [] port) →
     PortRefines (start_link []) [] x → (k : ℕ) (port : Port) → slice_get all k ≡ Some port → PortRefines (start_link []) [] port
 pushed_each xs all x is each refines k port here =
@@ -77,7 +77,7 @@ each_sent ports sent run s new refines below is k port false apart here =
     subst (λ (fs : List (List ℕ)). PortRefines (start_link fs) [] port) (sym frames)
     (refines.each k port (sym (get_other run.ports.items s.port k new ne) ∙ here))
 
--- one frame more is given out
+-- One more frame is given to its station.
 pub sent_stands : (ports : ℕ) (sent : List Sent) (old new : Run) (s : Sent) (port : Port) → RunRefines ports (started sent) old → s.port < ports →
     PortRefines (start_link (frames_of s.port sent ++ s.frame ∷ [])) [] port → new.bridge ≡ old.bridge → new.text ≡ old.text →
     new.ports.items ≡ slice_set old.ports.items s.port port → RunRefines ports (started (sent ++ s ∷ [])) new

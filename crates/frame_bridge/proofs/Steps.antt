@@ -1,4 +1,5 @@
--- What a step does to the frames of an end: which are accepted and delivered on it, and whose offer is open after it.
+-- The effect of a step on the frames of an end: those that it accepts and delivers, and the frame
+-- of the open offer after it.
 use Rattle.std.proofs.Common.{◌≡◌, ℕ, zero, suc, ◌+◌, Bool, true, false, List, [], ◌∷◌, ◌++◌, length, drop, refl, sym, ap, ◌∙◌, append_assoc, inl, inr, ◌-◌, eqb-true}
 use Rattle.std.specs.Prelude.{◌⊎◌, ◌==◌, nat_le, if◌then◌else◌, Some, None}
 use Rattle.std.proofs.lemmas.List.{append-nil}
@@ -25,13 +26,13 @@ accepted_by [] = []
 accepted_by (Accept frame ∷ marks) = frame ∷ accepted_by marks
 accepted_by (_ ∷ marks) = accepted_by marks
 
--- marks that accept nothing leave the frames as they are
+-- Marks that accept nothing don't change the frames.
 stays : (marks : List Mark) (frames : List (List ℕ)) → accepted_by marks ≡ [] → left_after frames marks ≡ frames
 stays [] frames none = refl
 stays (Accept frame ∷ marks) frames none = absurd (cc)
 stays (_ ∷ marks) frames none = stays marks frames none
 
--- the offer's frame is published next
+-- The offer's frame is published next.
 abbrev pub is_publishing : Place → Bool
 is_publishing (WritingAvailIndex pending) = true
 is_publishing _ = false
@@ -54,7 +55,7 @@ reclaim_silent config pending freed count = if_silent (count == 0) _ _ (full_sil
 look_silent : (last : Bool) (count : ℕ) → accepted_by (look_marks last count) ≡ []
 look_silent last count = if_silent (count == 0) _ _ (if_silent last _ _ refl refl) refl
 
--- no other place accepts a frame
+-- No other place accepts a frame.
 silent : (config : EndConfig) (place : Place) (value : ℕ) → is_publishing place ≡ false → accepted_by (marks_at config place value) ≡ []
 silent config (WritingAvailIndex pending) value is = absurd (cc)
 silent config (ReadingOtherState handshake) value is = tick_silent value (move_of handshake value)
@@ -73,7 +74,7 @@ silent config _ value is = refl
 
 -- The frame of the open offer
 
--- a step ends the offer, or goes on with it
+-- A step ends the offer, or continues it.
 abbrev Goes : Place → Place → Type 0
 Goes place next = (job_frame next ≡ None) ⊎ ((job_frame next ≡ job_frame place) × (is_publishing place ≡ false))
 
@@ -165,7 +166,7 @@ heads_at place next marks frames (inr on) quiet head = λ frame is.
     let here = head frame (sym on.0 ∙ is) in
     (here.0, stays marks frames (quiet on.1) ∙ here.1)
 
--- after a step the frame of the open offer is still the first
+-- After a step the frame of the open offer is still the first.
 pub heads_on : (config : EndConfig) (place : Place) (value : ℕ) (frames : List (List ℕ)) → HeadIs place frames →
     HeadIs (next_place config place value) (left_after frames (marks_at config place value))
 heads_on config place value frames head =
@@ -179,7 +180,7 @@ published pending frames head =
 counts_at : (place : Place) (marks : List Mark) (frames : List (List ℕ)) → accepted_by marks ≡ [] → frames ≡ accepted_by marks ++ left_after frames marks
 counts_at place marks frames none = sym (ap (λ (l : List (List ℕ)). l ++ left_after frames marks) none ∙ stays marks frames none)
 
--- the frames to come are those that the step accepts, and the rest
+-- The frames to come are those that the step accepts, and the rest.
 pub counts_on : (config : EndConfig) (place : Place) (value : ℕ) (frames : List (List ℕ)) → HeadIs place frames →
     frames ≡ accepted_by (marks_at config place value) ++ left_after frames (marks_at config place value)
 counts_on config (WritingAvailIndex pending) value frames head = published pending frames head
@@ -199,7 +200,7 @@ noted_delivered (Deliver frame ∷ marks) end =
     noted_delivered marks (record end { delivered = end.delivered ++ frame ∷ [] }) ∙ append_assoc end.delivered (frame ∷ []) (delivered_by marks)
 noted_delivered (mark ∷ marks) end = noted_delivered marks (with_mark end mark)
 
--- an access changes the lists where it opens a session alone; where they are empty then, it changes nothing in them
+-- An access changes the lists only if it opens a session, and not if they are empty.
 pub record SameLists (end after : End) : Type 0 where
   pub accepted : after.accepted ≡ end.accepted
   pub delivered : after.delivered ≡ end.delivered

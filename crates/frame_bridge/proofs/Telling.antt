@@ -20,7 +20,7 @@ use Rattle.frame_bridge.specs.Refinement.{ArePorts, IsThere}
 use Rattle.frame_bridge.proofs.Worlds.{delivers}
 use Rattle.frame_bridge.proofs.PortTurns.{text_more}
 
--- one port more
+-- One more port.
 pub port_more : (front : List ℕ) (w : World) (n : ℕ) → (front ++ text_of pieces_of (flat_map (port_rows w) (first_ports n))) ++ text_of pieces_of (port_rows w n) ≡
     front ++ text_of pieces_of (flat_map (port_rows w) (first_ports (n + 1)))
 port_more front w n =
@@ -31,7 +31,8 @@ port_more front w n =
     ap (λ (t : List ℕ). front ++ t)
     (sym (ap (text_of pieces_of) rows ∙ flat_map-append (line_of_row pieces_of) (flat_map (port_rows w) (first_ports n)) (port_rows w n)))
 
--- A text is as long as it has lines, and no fewer frames arrived than were forwarded
+-- A text is at least as long as its number of lines, and at least as many frames arrived as were
+-- forwarded
 
 line_some : (r : Row Line) → 1 ≤ length (line_of_row pieces_of r)
 unfolding line_of_row
@@ -59,7 +60,7 @@ forwarded_fit earlier (a ∷ arrivals) port =
 outs_within : (all front rest : List (List ℕ)) → all ≡ front ++ rest → length front ≤ length all
 outs_within all front rest is = let sum : length all ≡ length front + length rest = ap length is ∙ length-append front rest in omega arith
 
--- at the end the ports are those of the world
+-- At the end the ports are those of the world.
 pub are_ports : (sent : List Sent) (ports : ℕ) (w : World) (run : Run) → IsThere sent ports w run → length run.text.items < 2 ^ 64 → ArePorts w run.ports.items
 are_ports sent ports w run there small = record {
   each = there.refines.each;
@@ -72,14 +73,14 @@ are_ports sent ports w run there small = record {
       outs_within (forward w.arrivals k) (outs w k) goes_out.0 goes_out.1;
 }
 
--- so none has delivered more than was forwarded to it
+-- So none has delivered more frames than were forwarded to it.
 pub in_order : (w : World) (ports : List Port) → ArePorts w ports → (k : ℕ) (port : Port) → slice_get ports k ≡ Some port → port.delivered ≤ port.forwarded
 in_order w ports are k port here =
     let below : k < length ports = slice_get_within ports k port here in
     let refines = are.each k port here in
     omega (arith, are.within k below, refines.delivered, refines.forwarded_is)
 
--- the parts together
+-- The parts together.
 pub whole_output : (ports : ℕ) (w : World) (start middle known all : List ℕ) → start ≡ text_of pieces_of (map arrive_row w.arrivals) →
     middle ≡ start ++ text_of pieces_of (flat_map (port_rows w) (first_ports ports)) → known ≡ middle ++ line_of_row pieces_of (row Known (known_count w.arrivals ∷ []) []) →
     all ≡ known ++ line_of_row pieces_of (row End [] []) → all ≡ output_of ports w
@@ -99,7 +100,7 @@ pub run_is : (script : text.World) → ran (started script.sent) (schedule scrip
 unfolding run_of
 run_is script = refl
 
--- the output of the whole run
+-- The output of the whole run.
 pub is_output : (script : text.World) (output : List ℕ) → Going script.sent script.ports (ran (started script.sent) (schedule script.rounds script.ports)) →
     output ≡ output_of script.ports (ran (started script.sent) (schedule script.rounds script.ports)) → IsOutput script output
 is_output script output going is = record {

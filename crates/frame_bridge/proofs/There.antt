@@ -1,4 +1,4 @@
--- Where the code of a run is after a turn.
+-- The code's run after a turn.
 use Rattle.std.proofs.Common.{◌≡◌, ◌≢◌, ℕ, zero, suc, ◌<◌, ◌≤◌, Bool, true, false, List, [], ◌∷◌, ◌++◌, length, get_or, map, refl, sym, ap, ◌∙◌, subst, arith, append-nil, eqb-true}
 use Rattle.std.specs.Prelude.{◌==◌, if◌then◌else◌, Some, slice_get, slice_set, All}
 use Rattle.std.proofs.lemmas.Bool.{eqb-false}
@@ -18,7 +18,7 @@ use Rattle.frame_bridge.specs.Refinement.{PortRefines, RunRefines, IsThere, with
 use Rattle.frame_bridge.proofs.Keeping.{to_come}
 use Rattle.frame_bridge.proofs.Worlds.{going_after, told_offered}
 
--- Items by their places
+-- Items by their positions
 
 pub get_here : {A : Type 0} (xs : List A) (i : ℕ) (x : A) → i < length xs → slice_get (slice_set xs i x) i ≡ Some x
 get_here [] i x below = absurd (omega arith)
@@ -37,7 +37,7 @@ get_at [] i x below is = absurd (omega arith)
 get_at {A} (y ∷ ys) zero x below is = ap (λ (z : A). Some z) (sym is)
 get_at (y ∷ ys) (suc i) x below is = get_at ys i x (omega arith) is
 
--- Copies that are none
+-- Frames that aren't copied
 
 pub no_copies : (link : Link) (forwarded : List (List ℕ)) (port : Port) → PortRefines link forwarded port → PortRefines (with_copies [] link) forwarded port
 no_copies link forwarded port refines = record {
@@ -78,7 +78,7 @@ each_turned ports w run at end new refines below is k port true same here =
 each_turned ports w run at end new refines below is k port false apart here =
     refines.each k port (sym (get_other run.ports.items at k new (eqb-false k at apart)) ∙ here)
 
--- one port goes on, and the others stay
+-- One port takes a step, and the others don't change.
 pub turned_stands : (ports : ℕ) (w : World) (old new : Run) (at end : ℕ) (port : Port) → RunRefines ports w old → at < ports →
     PortRefines (turned end (w.links at)) (forward w.arrivals at) port → new.bridge ≡ old.bridge → new.text ≡ old.text → new.ports.items ≡ slice_set old.ports.items at port →
     RunRefines ports (with_turned w (turn at end)) new
@@ -90,7 +90,7 @@ turned_stands ports w old new at end port refines below is bridge text items = r
   text = ap (λ t. t.items) text ∙ refines.text;
 }
 
--- where nothing arrives, that is the world after the turn
+-- Without an arrival, that is the world after the turn.
 pub quiet_stands : (ports : ℕ) (w : World) (t : Turn) (run : Run) → RunRefines ports (with_turned w t) run → arriving w t ≡ [] → RunRefines ports (world_after w t) run
 quiet_stands ports w t run refines none =
     let same : w.arrivals ++ arriving w t ≡ w.arrivals = ap (λ (l : List Arrival). w.arrivals ++ l) none ∙ append-nil w.arrivals in
@@ -106,7 +106,7 @@ quiet_stands ports w t run refines none =
       text = refines.text ∙ ap (λ (l : List Arrival). text_of pieces_of (map arrive_row l)) (sym same);
     }
 
--- and where one frame arrives
+-- The world after the arrival of one frame.
 pub arrived_stands : (ports : ℕ) (w : World) (t : Turn) (frame : List ℕ) (run : Run) → RunRefines ports (with_arrival (with_turned w t) t.port frame) run →
     arriving w t ≡ arrival t.port frame ∷ [] → RunRefines ports (world_after w t) run
 arrived_stands ports w t frame run refines is =
@@ -123,7 +123,7 @@ there_after sent ports w old new at end there below is refines = record {
   refines = refines;
 }
 
--- the station of a port has its turn
+-- The station of a port takes its turn.
 pub station_there : (sent : List Sent) (ports : ℕ) (w : World) (old new : Run) (at : ℕ) (port : Port) → IsThere sent ports w old → at < ports →
     PortRefines (turned 0 (w.links at)) (forward w.arrivals at) port → new.bridge ≡ old.bridge → new.text ≡ old.text → new.ports.items ≡ slice_set old.ports.items at port →
     IsThere sent ports (world_after w (turn at 0)) new
@@ -131,7 +131,7 @@ station_there sent ports w old new at port there below is bridge text items =
     there_after sent ports w old new at 0 there below (omega arith)
     (quiet_stands ports w (turn at 0) new (turned_stands ports w old new at 0 port there.refines below is bridge text items) refl)
 
--- the bridge's end has its turn, on which no frame or this one arrives
+-- The bridge's end takes its turn, with the arrival of no frame or of this one.
 pub own_quiet : (sent : List Sent) (ports : ℕ) (w : World) (old new : Run) (at : ℕ) (port : Port) (frame : List ℕ) → IsThere sent ports w old → at < ports →
     PortRefines (turned 1 (w.links at)) (forward w.arrivals at) port → observed_by 1 (w.links at) ≡ delivered_if false frame → new.bridge ≡ old.bridge → new.text ≡ old.text →
     new.ports.items ≡ slice_set old.ports.items at port → IsThere sent ports (world_after w (turn at 1)) new
@@ -145,7 +145,7 @@ own_told sent ports w old new at frame there below told refines =
     there_after sent ports w old new at 1 there below (omega arith)
     (arrived_stands ports w (turn at 1) frame new refines (ap (λ (l : List (List ℕ)). map (arrival at) l) told))
 
--- the frame that arrives is one that was offered
+-- A frame that arrives is one that was offered.
 pub told_long : (sent : List Sent) (ports : ℕ) (w : World) (run : Run) (at : ℕ) (frame : List ℕ) → IsThere sent ports w run → at < ports →
     observed_by 1 (w.links at) ≡ delivered_if true frame → 14 ≤ length frame
 told_long sent ports w run at frame there below told =

@@ -1,4 +1,4 @@
--- A turn of an end, by what its endpoint and its plan do.
+-- A turn of an end, by the steps of its endpoint and its plan.
 use Rattle.std.proofs.Common.{◌≡◌, ℕ, ◌+◌, ◌-◌, ◌<◌, ◌≤◌, Bool, true, false, List, [], ◌∷◌, ◌++◌, length, get_or, take, drop, refl, sym, ap, ◌∙◌, subst, arith, append_assoc, append-nil}
 use Rattle.std.specs.Prelude.{◌==◌, nat_le, if◌then◌else◌}
 use Rattle.std.specs.List.{list_any}
@@ -51,7 +51,7 @@ counted_snoc party marks mark =
     ap (λ (l : List (List ℕ)). record party { frames = left_after (left_after party.frames marks) (mark ∷ []); delivered = l })
     (ap (λ (l : List (List ℕ)). party.delivered ++ l) (delivered_snoc marks mark) ∙ sym (append_assoc party.delivered (delivered_by marks) (delivered_by (mark ∷ []))))
 
--- one count more
+-- One more count.
 pub one_count : (party : AutoEnd) (one other : List ℕ) (notes : List Note) (i : ℕ) (note : Note) → i < length notes → note ≡ get_or notes i note →
     counted party (marks_between one other (take (i + 1) notes)) ≡ counted (counted party (marks_between one other (take i notes))) (mark_between one other note ∷ [])
 one_count party one other notes i note inside is =
@@ -91,7 +91,7 @@ word_one : (b : Bool) (frame : List ℕ) → IsOne (if b then Deliver frame ∷ 
 word_one true frame = omega arith
 word_one false frame = omega arith
 
--- a step delivers one frame at most
+-- A step delivers at most one frame.
 at_most_one : (config : EndConfig) (place : Place) (value : ℕ) → IsOne (marks_at config place value)
 at_most_one config (ReadingOtherState handshake) value = nothing (tick_marks value (move_of handshake value)) (tick_none value (move_of handshake value))
 at_most_one config (ReadingUsedIndex pending freed) value =
@@ -126,7 +126,7 @@ told_is one other notes marks true is few any =
     alone other some.0 (delivered_by marks) (ap delivered_by (sym is) ∙ some.1) few
 told_is one other notes marks false is few any = ap delivered_by (sym is) ∙ none_told one other notes any
 
--- A finished end stays
+-- A finished end doesn't change
 
 first_open : (b : Bool) (x y : Place) → is_open x ≡ true → is_open y ≡ true → is_open (if b then x else y) ≡ true
 first_open true x y one other = one
@@ -150,7 +150,7 @@ still config party closed = still_if config party (is_open party.place) closed
 
 -- The turn
 
--- a turn at an open place is the step there
+-- A turn at an open place is the step there.
 pub turned_open : (me : ℕ) (link : Link) → is_open (opened (config_of link_config me) (link.parties me)).place ≡ true →
     turned me link ≡ step_of_link me link (opened (config_of link_config me) (link.parties me))
 turned_open me link opens = ap (λ (b : Bool). if b then step_of_link me link (opened (config_of link_config me) (link.parties me)) else link) opens
@@ -161,7 +161,7 @@ turned_closed me link closed = ap (λ (b : Bool). if b then step_of_link me link
 plan_stepped : (config : EndConfig) (value : ℕ) (party : AutoEnd) (plan : Plan) → IsPlanOf plan (counted party (marks_at config party.place value)) → IsPlanOf plan (stepped config value party)
 plan_stepped config value party plan is = record { frames = is.frames; expected_is = is.expected_is; delivered = is.delivered; round = is.round }
 
--- the endpoint took the step of this value, and the plan was told of its notes
+-- The endpoint completed the step of this value, and the plan counted its notes.
 pub record Took (me : ℕ) (link : Link) (before : held.AutoEnd) (value : ℕ) (notes : List Note) (after : held.AutoEnd) : Type 0 where
   pub refines : AutoEndRefines me (opened (config_of link_config me) (link.parties me)) before
   pub opens : is_open (opened (config_of link_config me) (link.parties me)).place ≡ true

@@ -1,4 +1,4 @@
--- What the run of a bridge keeps, turn by turn.
+-- The invariant of a bridge's run, turn by turn.
 use Rattle.std.proofs.Common.{◌≡◌, ◌≢◌, ℕ, zero, suc, ◌+◌, ◌-◌, ◌<◌, Bool, true, false, List, [], ◌∷◌, ◌++◌, length, map, refl, sym, ap, ◌∙◌, subst, append_assoc, arith, eq-eqb, eqb-true, length-append}
 use Rattle.std.specs.Prelude.{◌==◌, nat_le, slice_index, if◌then◌else◌, filter, All}
 use Rattle.std.specs.List.{AllByRecursion}
@@ -70,7 +70,7 @@ arrived_other port other (frame ∷ frames) apart =
     ap (λ (b : Bool). map (λ (a : Arrival). a.frame) (if b then arrival other frame ∷ filter (λ (a : Arrival). a.port == port) (map (arrival other) frames) else filter (λ (a : Arrival). a.port == port) (map (arrival other) frames)))
     (ne_eqb other port apart) ∙ arrived_other port other frames apart
 
--- What a turn tells
+-- What a turn delivers
 
 same_delivered : (config : EndConfig) (party : AutoEnd) (c : Choice) → (with_choice config party c).delivered ≡ party.delivered
 same_delivered config party ChoosesTick = refl
@@ -155,7 +155,7 @@ copies_sound sent forwarded copies link sound may = record { runs = runs; counte
     offered (suc zero) below = All-append (IsOffered link_config) forwarded copies (sound.offered 1 below) may
     offered (suc (suc p)) below = absurd (omega arith)
 
--- what the bridge's end delivered was offered by the station
+-- What the bridge's end delivered was offered by the station.
 pub delivered_offered : (sent forwarded : List (List ℕ)) (link : Link) → Sound (given_to sent forwarded) link → All (IsOffered link_config) (link.parties 1).delivered
 delivered_offered sent forwarded link sound =
     let all = deliver_lem link_config link.memory (ends_in link) (places_in link) is_ground sound.runs in
@@ -166,7 +166,7 @@ delivered_offered sent forwarded link sound =
     All_left (IsOffered link_config) (link.parties 1).end.delivered begins_with.0 (subst (All (IsOffered link_config)) begins_with.1 accepted) in
     subst (All (IsOffered link_config)) (sym (sound.told 1 (omega arith))) delivered
 
--- and so was what it delivers on a turn
+-- So was what it delivers in a turn.
 pub told_offered : (sent forwarded : List (List ℕ)) (link : Link) → Sound (given_to sent forwarded) link → All (IsOffered link_config) (observed_by 1 link)
 told_offered sent forwarded link sound =
     All_right (IsOffered link_config) (link.parties 1).delivered (observed_by 1 link)
@@ -242,7 +242,7 @@ link_after sent ports w t going there end port below =
     subst (λ (l : List (List ℕ)). Sound (given_to (frames_of port sent) l) (with_copies copies link)) (sym (forward_append w.arrivals (arriving w t) port))
     (copies_sound (frames_of port sent) (forward w.arrivals port) copies link (link_if sent ports w t port (port == t.port) going below end) may)
 
--- what the bridge's end of a port has delivered after a turn
+-- What the bridge's end of a port has delivered after a turn.
 told_after : (w : World) (t : Turn) (port end : ℕ) → end < 2 → t.port ≡ port → t.end ≡ end →
     ((turned end (w.links port)).parties 1).delivered ≡ ((w.links port).parties 1).delivered ++ arrived_at port (if end == 1 then map (arrival port) (observed_by 1 (w.links port)) else [])
 told_after w t port zero below at is = ap (λ (x : AutoEnd). x.delivered) (turned_other (w.links port) 0 1 (λ e. cc)) ∙ sym (append-nil ((w.links port).parties 1).delivered)
@@ -264,7 +264,7 @@ arrived_if w t port false end is =
     sym (append-nil ((w.links port).parties 1).delivered) ∙
     ap (λ (l : List (List ℕ)). ((w.links port).parties 1).delivered ++ l) (sym (none_from w t port (t.end == 1) (λ e. eqb-false port t.port is (sym e))))
 
--- a turn of an end of one of the ports keeps it
+-- A turn of an end of one of the ports preserves it.
 pub going_after : (sent : List Sent) (ports : ℕ) (w : World) (t : Turn) → Going sent ports w → t.port < ports → t.end < 2 → Going sent ports (world_after w t)
 going_after sent ports w t going there end = record {
   links = link_after sent ports w t going there end;

@@ -1,5 +1,6 @@
--- What a learning bridge knows, and where it forwards a frame, by the list of the arrivals so far. A definition looks back over that list; the bridge keeps a
--- map (profile; a bridge learns and forwards so in IEEE 802.1D, section 7.8, where it forgets addresses by time besides).
+-- What a learning bridge knows, and where it forwards a frame, by the list of arrivals so far. A
+-- definition looks back over that list; the bridge has a map (profile). A bridge learns and
+-- forwards in this manner in IEEE 802.1D, section 7.8, where addresses also expire.
 use Rattle.std.specs.Prelude.{ℕ, zero, suc, ◌==◌, ◌%◌, Bool, true, false, not, ◌&&◌, if◌then◌else◌, nat_eq, nat_lt, Option, Some, None, List, [], ◌∷◌, ◌++◌, take, drop, map, filter, reverse}
 use Rattle.std.specs.List.{list_any, find, before_first}
 use Rattle.std.specs.Option.{option_map}
@@ -8,19 +9,19 @@ use Rattle.std.specs.Cmp.Lexicographic.{pointwise}
 
 -- Arrivals
 
--- a frame that arrived, and the port at which it did
+-- A frame that arrived, and its port.
 pub record Arrival : Type 0 where
   pub port : ℕ
   pub frame : List ℕ
 
--- a frame begins with the address of its destination and that of its source, of six bytes each
+-- A frame begins with the address of its destination and that of its source, six bytes each.
 abbrev pub destination : List ℕ → List ℕ
 destination frame = take 6 frame
 
 abbrev pub source : List ℕ → List ℕ
 source frame = take 6 (drop 6 frame)
 
--- bit 0 of the first byte of a group address is set
+-- Bit 0 of the first byte of a group address is set.
 abbrev pub is_group : List ℕ → Bool
 is_group [] = false
 is_group (byte ∷ bytes) = byte % 2 == 1
@@ -33,50 +34,51 @@ is_from address arrival = same_address address (source arrival.frame)
 
 -- Learning
 
--- the most addresses that a bridge knows
+-- The most addresses that a bridge knows.
 abbrev pub most_known : ℕ
 most_known = 1024
 
--- the sources that aren't group addresses
+-- The sources that are no group addresses.
 abbrev pub single : List ℕ → Bool
 single address = not (is_group address)
 
 abbrev pub senders : List Arrival → List (List ℕ)
 senders arrivals = filter single (map (λ a. source a.frame) arrivals)
 
--- an address is learned where it is a source and no group address, and fewer than 1,024 others arrived before it for the first time
+-- Whether an address is learned: it is a source and no group address, and fewer than 1,024 others
+-- arrived before its first arrival.
 abbrev pub is_learned : List Arrival → List ℕ → Bool
 is_learned arrivals address = single address && list_any (is_from address) arrivals
     && nat_lt (distinct_count same_address (senders (before_first (is_from address) arrivals))) most_known
 
--- the port of its latest arrival
+-- The port of its latest arrival.
 abbrev pub latest_port : List Arrival → List ℕ → Option ℕ
 latest_port arrivals address = option_map (λ a. a.port) (find (is_from address) (reverse arrivals))
 
--- the port of an address that is known
+-- The port of an address that is known.
 abbrev pub port_of : List Arrival → List ℕ → Option ℕ
 port_of arrivals address = if is_learned arrivals address then latest_port arrivals address else None
 
--- how many addresses are known
+-- The number of addresses known.
 abbrev pub known_count : List Arrival → ℕ
 known_count arrivals = distinct_count same_address (filter (is_learned arrivals) (senders arrivals))
 
 -- Forwarding
 
--- a frame to this address goes to each port, or to this one alone where the address is known
+-- A frame to this address goes to each port, or only to its own port if the address is known.
 abbrev pub leads_to : Option ℕ → ℕ → Bool
 leads_to None port = true
 leads_to (Some known) port = port == known
 
--- and never back to the port from which it came
+-- A frame never goes back to the port at which it arrived.
 abbrev pub goes_to : Option ℕ → (from to : ℕ) → Bool
 goes_to known from to = not (to == from) && leads_to known to
 
--- a frame to a group address goes where one goes whose destination isn't known
+-- A frame to a group address goes to the ports of an unknown destination.
 abbrev pub known_for : List Arrival → List ℕ → Option ℕ
 known_for arrivals address = if is_group address then None else port_of arrivals address
 
--- does the frame of the last of these arrivals go to the port?
+-- Whether the frame of the last of these arrivals goes to the port.
 abbrev pub is_forwarded : List Arrival → Arrival → ℕ → Bool
 is_forwarded arrivals last port = goes_to (known_for arrivals (destination last.frame)) last.port port
 
@@ -84,11 +86,11 @@ abbrev pub first_ports : ℕ → List ℕ
 first_ports zero = []
 first_ports (suc count) = first_ports count ++ count ∷ []
 
--- the ports, of so many, to which the frame of one more arrival goes
+-- Those of `count` ports to which the frame of one more arrival goes.
 abbrev pub ports_for : ℕ → List Arrival → Arrival → List ℕ
 ports_for count earlier last = filter (is_forwarded (earlier ++ last ∷ []) last) (first_ports count)
 
--- the frames of these arrivals that go to the port, in the order in which they arrived
+-- The frames of these arrivals that go to the port, in the order in which they arrived.
 abbrev pub forwarded_after : (earlier arrivals : List Arrival) → ℕ → List (List ℕ)
 forwarded_after earlier [] port = []
 forwarded_after earlier (a ∷ arrivals) port =

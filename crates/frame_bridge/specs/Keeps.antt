@@ -1,4 +1,4 @@
--- What a run keeps, turn by turn: of each link, and of all of them.
+-- The invariant of a run, turn by turn: of each link, and of all of them.
 use Rattle.std.specs.Prelude.{ℕ, ◌≡◌, ◌==◌, ◌<◌, if◌then◌else◌, Option, Some, None, List, ◌∷◌, ◌++◌, All}
 use Rattle.call_grammar.specs.Ends.{End}
 use Rattle.call_grammar.specs.Places.{Place, ReadingUsedIndex, ReadingUsedId, WritingFrameWord, WritingDescAddressLow, WritingDescAddressHigh, WritingDescLength, WritingDescFlags, WritingAvailEntry, WritingAvailIndex}
@@ -10,7 +10,7 @@ use Rattle.frame_bridge.specs.Links.{link_config, Link}
 use Rattle.frame_bridge.specs.Run.{World, frames_of}
 use Rattle.frame_bridge.specs.Output.{arrived_at}
 
--- the frame of the open offer
+-- The frame of the open offer.
 abbrev pub job_frame : Place → Option (List ℕ)
 job_frame (ReadingUsedIndex pending freed) = Some pending.frame
 job_frame (ReadingUsedId pending freed more) = Some pending.frame
@@ -23,7 +23,7 @@ job_frame (WritingAvailEntry pending) = Some pending.frame
 job_frame (WritingAvailIndex pending) = Some pending.frame
 job_frame _ = None
 
--- it is the first of the frames to come
+-- The frame of the open offer is the first of the frames to come.
 abbrev pub HeadIs : Place → List (List ℕ) → Type 0
 HeadIs place frames = (frame : List ℕ) → job_frame place ≡ Some frame → (rest : List (List ℕ)) × (frames ≡ frame ∷ rest)
 
@@ -33,8 +33,8 @@ ends_in link p = (link.parties p).end
 abbrev pub places_in : Link → ℕ → Place
 places_in link p = (link.parties p).place
 
--- A link whose ends have come here without stops and resets; whose frames, of which end p was given these, are accepted or still to come; and which has told
--- all that it delivered
+-- A link whose ends came here without stops and resets. Each frame that end p was given is accepted
+-- or still to come. The link has recorded all that it delivered.
 pub record Sound (given : ℕ → List (List ℕ)) (link : Link) : Type 0 where
   pub runs : CalmRuns link_config link.memory (ends_in link) (places_in link)
   pub counted : (p : ℕ) → p < 2 → given p ≡ (link.parties p).end.accepted ++ (link.parties p).frames
@@ -42,11 +42,13 @@ pub record Sound (given : ℕ → List (List ℕ)) (link : Link) : Type 0 where
   pub heads : (p : ℕ) → p < 2 → HeadIs (link.parties p).place (link.parties p).frames
   pub offered : (p : ℕ) → p < 2 → All (IsOffered link_config) (given p)
 
--- the station is given the frames that it sends, and the bridge's end those that are forwarded to its port
+-- The frames given to end p: to the station those that it sends, and to the bridge's end those
+-- forwarded to its port.
 abbrev pub given_to : (sent forwarded : List (List ℕ)) → ℕ → List (List ℕ)
 given_to sent forwarded p = if p == 0 then sent else forwarded
 
--- each link is sound, by what its station sends and what was forwarded so far; and what arrived at a port is what the bridge's end there delivered
+-- Each link is sound, by what its station sends and what was forwarded so far. What arrived at a
+-- port is what the bridge's end there delivered.
 pub record Going (sent : List Sent) (ports : ℕ) (w : World) : Type 0 where
   pub links : (port : ℕ) → port < ports → Sound (given_to (frames_of port sent) (forward w.arrivals port)) (w.links port)
   pub arrived : (port : ℕ) → port < ports → arrived_at port w.arrivals ≡ ((w.links port).parties 1).delivered

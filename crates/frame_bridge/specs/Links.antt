@@ -1,4 +1,5 @@
--- The link of a port: its words, a station as end 0 and the bridge's end as end 1, each of which chooses its calls itself (profile).
+-- The link of a port: its words, a station as end 0 and the bridge's end as end 1. Each end chooses
+-- its own calls (profile).
 use Rattle.std.specs.Prelude.{ℕ, ◌==◌, if◌then◌else◌, List, [], ◌∷◌, ◌++◌, length, drop}
 use Rattle.split_ring.specs.declared.steps.Access.{Access}
 use Rattle.split_ring.specs.declared.steps.Access.TheVariants as access
@@ -9,17 +10,19 @@ use Rattle.call_grammar.specs.Places.{Place, Closed, first_place, access_at, mar
 use Rattle.call_grammar.specs.Automatic.{Round, Anew, AfterOffer, AfterPoll, Choice, ChoosesTick, ChoosesOffer, ChoosesPoll, IsFinished, choice_of}
 use Rattle.link_invariant.specs.LinkConfig.{LinkConfig, config_of}
 
--- A region of two peers: a State Table of 4,096 bytes, no common section, and sections of 16,384 bytes with a queue of version 1 for an MTU of 256. Doorbells have vector 1
+-- A region of two peers: a State Table of 4,096 bytes, no common section, and sections of 16,384
+-- bytes with a queue of version 1 for an MTU of 256. Doorbells have vector 1.
 abbrev pub link_config : LinkConfig
 link_config = record { first = 1024; words = 4096; sizes = record { version = 1; out = 16384; mtu = 256 }; vector = 1 }
 
--- how many deliveries each end expects: more than there can be, so none is ever finished
+-- The number of deliveries that each end expects; more can't happen, so no end is ever finished.
 abbrev pub expected : ℕ
 expected = 18446744073709551615
 
--- An end that chooses its calls
+-- An automatic end
 
--- where it stands, and its place in the open call; its frames that weren't accepted yet, and its round; and the frames that it delivered in the whole run
+-- The end's state, and its place in the open call. Its frames that aren't accepted yet, and its
+-- round. The frames that it delivered in the whole run.
 pub record AutoEnd : Type 0 where
   pub end : End
   pub place : Place
@@ -30,7 +33,7 @@ pub record AutoEnd : Type 0 where
 abbrev pub starting : List (List ℕ) → AutoEnd
 starting frames = record { end = fresh; place = Closed; frames = frames; round = Anew; delivered = [] }
 
--- what it chooses where no call is open
+-- Its choice if no call is open.
 abbrev pub choice : AutoEnd → Choice
 choice party = choice_of party.end.handshake.phase party.round party.frames (length party.delivered) expected
 
@@ -40,27 +43,27 @@ with_choice config party (ChoosesOffer frame) = record party { place = first_pla
 with_choice config party ChoosesPoll = record party { place = first_place config party.end Poll; round = AfterPoll }
 with_choice config party IsFinished = party
 
--- the open call, or the one that it chooses
+-- The end with its open call, or with the call that it chooses.
 abbrev pub opened : EndConfig → AutoEnd → AutoEnd
 opened config party = if is_open party.place then party else with_choice config party (choice party)
 
--- the frames to come after these marks: the first goes with each that is accepted
+-- The frames to come after these marks: each accepted frame was the first of them.
 abbrev pub left_after : List (List ℕ) → List Mark → List (List ℕ)
 left_after frames [] = frames
 left_after frames (Accept frame ∷ marks) = left_after (drop 1 frames) marks
 left_after frames (_ ∷ marks) = left_after frames marks
 
--- the frames that these marks deliver
+-- The frames that these marks deliver.
 abbrev pub delivered_by : List Mark → List (List ℕ)
 delivered_by [] = []
 delivered_by (Deliver frame ∷ marks) = frame ∷ delivered_by marks
 delivered_by (_ ∷ marks) = delivered_by marks
 
--- an end that was told of these marks
+-- The end after it counted these marks.
 abbrev pub counted : AutoEnd → List Mark → AutoEnd
 counted party marks = record party { frames = left_after party.frames marks; delivered = party.delivered ++ delivered_by marks }
 
--- the step of its open call that meets this value
+-- The end after the step of its open call that reads this value.
 abbrev pub stepped : EndConfig → ℕ → AutoEnd → AutoEnd
 stepped config value party = record {
   end = end_after party.end (step_at config party.place value);
@@ -72,12 +75,12 @@ stepped config value party = record {
 
 -- The link
 
--- a read gives what was written last
+-- The value that an access reads: the one written last, or 0.
 abbrev pub value_in : (ℕ → ℕ) → Access → ℕ
 value_in memory (access.Read word) = memory word
 value_in memory _ = 0
 
--- what an access of end p makes of the words; its state is the word of its own number
+-- The words after an access of end p, whose state is the word of its own number.
 abbrev pub words_after : ℕ → (ℕ → ℕ) → Access → (ℕ → ℕ)
 words_after p memory (access.Write word value) = λ w. if w == word then value else memory w
 words_after p memory (access.State state) = λ w. if w == p then state else memory w
@@ -96,12 +99,13 @@ step_of_link p link party = record {
   parties = with_end link.parties p (stepped (config_of link_config p) (value_in link.memory (access_at (config_of link_config p) party.place)) party);
 }
 
--- the link after a turn of end p: the next step of its open call or of the one that it chooses, or nothing where it is finished
+-- The link after a turn of end p: the next step of its open call, or of the call that it chooses. A
+-- finished end makes no step.
 abbrev pub turned : ℕ → Link → Link
 turned p link =
     if is_open (opened (config_of link_config p) (link.parties p)).place then step_of_link p link (opened (config_of link_config p) (link.parties p)) else link
 
--- the frames that this turn delivers
+-- The frames that this turn delivers.
 abbrev pub observed_by : ℕ → Link → List (List ℕ)
 observed_by p link =
     if is_open (opened (config_of link_config p) (link.parties p)).place
@@ -109,6 +113,6 @@ observed_by p link =
     (value_in link.memory (access_at (config_of link_config p) (opened (config_of link_config p) (link.parties p)).place)))
     else []
 
--- these frames come to those of the bridge's end
+-- The link with these frames appended to those of the bridge's end.
 abbrev pub with_copies : List (List ℕ) → Link → Link
 with_copies copies link = record link { parties = with_end link.parties 1 (record (link.parties 1) { frames = (link.parties 1).frames ++ copies }) }

@@ -1,5 +1,6 @@
--- What a bridge's run gives: the arrivals; for each port the frames that its station delivered, and how many forwarded ones are left; and how many addresses
--- are known (profile).
+-- The output of a bridge's run (profile): the arrivals, the lines of each port, and the number of
+-- addresses known. A port's lines are the frames that its station delivered, and the number of
+-- forwarded frames that are left.
 use Rattle.std.specs.Prelude.{ℕ, ◌≡◌, ◌-◌, ◌<◌, ◌==◌, List, [], ◌∷◌, ◌++◌, length, map, filter, codes}
 use Rattle.std.specs.List.{flat_map}
 use Rattle.line_format.specs.Forms.{Piece, Word, Number, Hex}
@@ -16,7 +17,7 @@ use Rattle.frame_bridge.specs.Run.{World, frames_of, run_of}
 abbrev pub any_number : Piece
 any_number = Number 0 18446744073709551615
 
--- what stands in the fields of a line of this form
+-- The fields of a line of this form.
 abbrev pub pieces_of : Line → List Piece
 pieces_of Arrive = Word (codes "arrive") ∷ any_number ∷ Hex ∷ []
 pieces_of Port = Word (codes "port") ∷ any_number ∷ []
@@ -31,11 +32,11 @@ arrive_row a = row Arrive (a.port ∷ []) a.frame
 abbrev pub out_row : List ℕ → Row Line
 out_row frame = row Out [] frame
 
--- the frames that the station of this port delivered
+-- The frames that the station of this port delivered.
 abbrev pub outs : World → ℕ → List (List ℕ)
 outs w port = ((w.links port).parties 0).delivered
 
--- how many frames that were forwarded to this port it didn't deliver
+-- The number of frames that were forwarded to this port and not delivered.
 abbrev pub left : World → ℕ → ℕ
 left w port = length (forward w.arrivals port) - length (outs w port)
 
@@ -51,23 +52,24 @@ output_of ports w = text_of pieces_of (rows_of ports w)
 
 -- What holds of a run
 
--- the frames that arrived at this port
+-- The frames that arrived at this port.
 abbrev pub arrived_at : ℕ → List Arrival → List (List ℕ)
 arrived_at port arrivals = map (λ a. a.frame) (filter (λ a. a.port == port) arrivals)
 
--- of each port: its ends are two honest ends of a link, over the words of its region; what arrived at it begins the frames that its station sends; and what its
--- station delivered begins what was forwarded to it, and the rest is left
+-- What holds of each port. Its ends are two honest ends of a link, over the words of its region.
+-- The frames that arrived at it are a prefix of those that its station sends. The frames that its
+-- station delivered are a prefix of those forwarded to it, and the rest is left.
 pub record Delivers (script : text.World) (w : World) (port : ℕ) : Type 0 where
   pub runs : HonestRuns link_config (w.links port).memory (λ p. ((w.links port).parties p).end) (λ p. ((w.links port).parties p).place)
   pub arrives : (rest : List (List ℕ)) × (frames_of port script.sent ≡ arrived_at port w.arrivals ++ rest)
   pub goes_out : (rest : List (List ℕ)) × (forward w.arrivals port ≡ outs w port ++ rest) × (left w port ≡ length rest)
 
--- the output is that of the run of this script
+-- The output is that of the run of this script.
 pub record IsOutput (script : text.World) (output : List ℕ) : Type 0 where
   pub text : output ≡ output_of script.ports (run_of script)
   pub delivers : (port : ℕ) → port < script.ports → Delivers script (run_of script) port
 
--- the bytes spell a script, and the output is that of its run
+-- The bytes spell a script, and the output is that of its run.
 pub record IsBridged (bytes output : List ℕ) : Type 0 where
   pub script : text.World
   pub spelled : IsSpelling script bytes

@@ -1,4 +1,4 @@
--- What the code of a run holds of it.
+-- What the code of a run represents.
 use Rattle.std.specs.Prelude.{ℕ, ◌≡◌, ◌+◌, ◌^◌, ◌==◌, ◌<◌, ◌≤◌, Bool, Some, slice_get, true, false, if◌then◌else◌, List, [], ◌∷◌, ◌++◌, length, map, min, slice_index}
 use Rattle.line_format.specs.Rows.{text_of}
 use Rattle.section_map.specs.Geometry.{Shape, Words, word_count}
@@ -20,43 +20,44 @@ use Rattle.frame_bridge.specs.Output.{pieces_of, out_row, arrive_row, outs}
 use Rattle.frame_bridge.specs.Links as links
 use Rattle.frame_bridge.specs.Links.{link_config, expected, turned, with_copies}
 
--- the sizes of the region
+-- The sizes of the region.
 abbrev pub shape : Shape
 shape = shape_of 2 4096 0 16384
 
--- the plan is that of an end
+-- The plan is that of an automatic end.
 pub record IsPlanOf (plan : Plan) (party : links.AutoEnd) : Type 0 where
   pub frames : plan.frames ≡ party.frames
   pub expected_is : plan.expected ≡ expected
   pub delivered : HasCounted plan (length party.delivered)
   pub round : plan.round ≡ party.round
 
--- the code's end me is this one
+-- The code's end `me` refines this one.
 pub record AutoEndRefines (me : ℕ) (party : links.AutoEnd) (held : AutoEnd) : Type 0 where
   pub end : RefinesAt held.end (config_of link_config me) party.end party.place
   pub plan : IsPlanOf held.auto party
 
--- the region has these words
+-- The region has these words.
 pub record RegionRefines (memory : ℕ → ℕ) (region : Words) : Type 0 where
   pub shape_is : region.shape ≡ shape
   pub words : (w : ℕ) → w < word_count shape → memory w ≡ slice_index region.words w
 
--- a note that tells a frame delivered
+-- Whether the note delivers a frame.
 abbrev pub is_delivery : Note → Bool
 is_delivery note.Deliver = true
 is_delivery _ = false
 
--- the frames of a turn that delivers this one, or none
+-- The frames of a turn that delivers this one, or none.
 abbrev pub delivered_if : Bool → List ℕ → List (List ℕ)
 delivered_if told frame = if told then frame ∷ [] else []
 
 -- A port
 
--- counts go up to this number
+-- The greatest count.
 abbrev pub most_counted : ℕ
 most_counted = 18446744073709551615
 
--- the code's port is this link, to which these frames were forwarded: it has written what its station delivered, and counted both
+-- The code's port refines this link, to which these frames were forwarded. It has written what its
+-- station delivered, and counted both.
 pub record PortRefines (link : links.Link) (forwarded : List (List ℕ)) (port : Port) : Type 0 where
   pub region : RegionRefines link.memory port.region
   pub station : AutoEndRefines 0 (link.parties 0) port.station
@@ -65,18 +66,19 @@ pub record PortRefines (link : links.Link) (forwarded : List (List ℕ)) (port :
   pub delivered : port.delivered ≡ min (length (link.parties 0).delivered) most_counted
   pub forwarded_is : port.forwarded ≡ min (length forwarded) most_counted
 
--- the link of a port at its start, whose station sends these frames
+-- The link of a port at its start, whose station sends these frames.
 abbrev pub start_link : List (List ℕ) → links.Link
 start_link frames = record { memory = λ w. 0; parties = λ p. links.starting (if p == 0 then frames else []) }
 
--- a copy of a frame comes to the bridge's end of the port
+-- The port after a frame was appended to those of the bridge's end.
 abbrev pub with_copy : List ℕ → Port → Port
 with_copy frame port = record port {
   own = record (port.own) { auto = record (port.own.auto) { frames = port.own.auto.frames ++ frame ∷ [] } };
   forwarded = min (port.forwarded + 1) most_counted;
 }
 
--- the code's ports are those of this world, of which each has delivered no more than was forwarded to it
+-- The code's ports refine those of this world, and none has delivered more frames than were
+-- forwarded to it.
 pub record ArePorts (w : World) (ports : List Port) : Type 0 where
   pub each : (k : ℕ) (port : Port) → slice_get ports k ≡ Some port → PortRefines (w.links k) (forward w.arrivals k) port
   pub fits : (k : ℕ) → k < length ports → length (forward w.arrivals k) < 2 ^ 64
@@ -84,7 +86,8 @@ pub record ArePorts (w : World) (ports : List Port) : Type 0 where
 
 -- The run
 
--- the code's run has these links and these arrivals: it knows what is known after them, and has written them
+-- The code's run refines these links and these arrivals: it knows what is known after them, and has
+-- written them.
 pub record RunRefines (ports : ℕ) (w : World) (run : Run) : Type 0 where
   pub bridge : RefinesArrivals run.bridge w.arrivals
   pub count : run.bridge.ports ≡ ports
@@ -92,17 +95,17 @@ pub record RunRefines (ports : ℕ) (w : World) (run : Run) : Type 0 where
   pub each : (k : ℕ) (port : Port) → slice_get run.ports.items k ≡ Some port → PortRefines (w.links k) (forward w.arrivals k) port
   pub text : run.text.items ≡ text_of pieces_of (map arrive_row w.arrivals)
 
--- it is there in the run of a text of so many ports
+-- The code's run refines a world of the run of a text with `ports` ports.
 pub record IsThere (sent : List Sent) (ports : ℕ) (w : World) (run : Run) : Type 0 where
   pub few : (2 ≤ ports) × (ports ≤ 8)
   pub going : Going sent ports w
   pub refines : RunRefines ports w run
 
--- the links after a turn of an end of a port, before what it delivers arrives
+-- The links after a turn of an end of a port, before the arrival of what it delivers.
 abbrev pub with_turned : World → Turn → World
 with_turned w t = record w { links = λ port. (if port == t.port then turned t.end (w.links port) else w.links port) }
 
--- a frame arrives at a port
+-- The world after the arrival of a frame at a port.
 abbrev pub with_arrival : World → ℕ → List ℕ → World
 with_arrival w at frame = record {
   links = λ port. with_copies (forwarded_after w.arrivals (arrival at frame ∷ []) port) (w.links port);

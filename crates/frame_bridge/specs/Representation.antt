@@ -1,4 +1,4 @@
--- What the fields of a bridge are.
+-- The view of a bridge's fields.
 use Rattle.std.specs.Prelude.{◌≤◌, length}
 use Rattle.frame_bridge.specs.declared.learning.Bridge.TheInside.{Inside}
 use Rattle.frame_bridge.specs.BridgeView.{View}

@@ -1,4 +1,5 @@
--- The run of a bridge: the links of its ports take turns, and each frame that the bridge's end of a port delivers arrives.
+-- The run of a bridge: the links of its ports take turns, and each frame that the bridge's end of a
+-- port delivers arrives.
 use Rattle.std.specs.Prelude.{ℕ, zero, suc, ◌==◌, if◌then◌else◌, List, [], ◌∷◌, ◌++◌, map, filter, fold}
 use Rattle.std.specs.List.{flat_map}
 use Rattle.bridge_text.specs.declared.scripts.Sent.{Sent}
@@ -7,14 +8,14 @@ use Rattle.frame_bridge.specs.Forwarding.{Arrival, first_ports, forwarded_after}
 use Rattle.frame_bridge.specs.BridgeView.{arrival}
 use Rattle.frame_bridge.specs.Links.{Link, starting, turned, observed_by, with_copies}
 
--- the link of each port, and the arrivals so far
+-- The link of each port, and the arrivals so far.
 pub record World : Type 0 where
   pub links : ℕ → Link
   pub arrivals : List Arrival
 
 -- The schedule
 
--- a turn of an end of a port: of the station, which is end 0, or of the bridge's end, which is end 1
+-- A turn of an end of a port: the station is end 0, and the bridge's end is end 1.
 pub record Turn : Type 0 where
   pub port : ℕ
   pub end : ℕ
@@ -22,23 +23,23 @@ pub record Turn : Type 0 where
 abbrev pub turn : ℕ → ℕ → Turn
 turn port end = record { port = port; end = end }
 
--- so many times the same turn
+-- The same turn `count` times.
 unfoldable pub times : ℕ → Turn → List Turn
 times zero t = []
 times (suc count) t = times count t ++ t ∷ []
 
--- a port has 64 turns of its station, then 64 of the bridge's end
+-- A port has 64 turns of its station, then 64 of the bridge's end.
 abbrev pub turns_of : ℕ → List Turn
 turns_of port = times 64 (turn port 0) ++ times 64 (turn port 1)
 
--- in a round each port has its turns, in ascending order
+-- In a round each port has its turns, in ascending order.
 abbrev pub schedule : (rounds ports : ℕ) → List Turn
 schedule zero ports = []
 schedule (suc rounds) ports = schedule rounds ports ++ flat_map turns_of (first_ports ports)
 
 -- The run
 
--- the frames that the station at this port sends, in the order of their lines
+-- The frames that the station at this port sends, in the order of their lines.
 abbrev pub frames_of : ℕ → List Sent → List (List ℕ)
 frames_of port sent = map (λ s. s.frame) (filter (λ s. s.port == port) sent)
 
@@ -48,11 +49,12 @@ started sent = record {
   arrivals = [];
 }
 
--- what arrives on a turn: what the bridge's end delivers
+-- The arrivals of a turn: what the bridge's end delivers.
 abbrev pub arriving : World → Turn → List Arrival
 arriving w t = if t.end == 1 then map (arrival t.port) (observed_by 1 (w.links t.port)) else []
 
--- the world after a turn: the link goes on, and each frame that arrives is put to those of each port to which it goes
+-- The world after a turn: the turn of its link, and each arriving frame appended to the frames of
+-- each port to which it goes.
 abbrev pub world_after : World → Turn → World
 world_after w t = record {
   links = λ port. with_copies (forwarded_after w.arrivals (arriving w t) port) (if port == t.port then turned t.end (w.links port) else w.links port);
@@ -62,6 +64,6 @@ world_after w t = record {
 abbrev pub ran : World → List Turn → World
 ran w turns = fold world_after w turns
 
--- where the run of a text comes
+-- The world at the end of the run of a text.
 unfoldable pub run_of : text.World → World
 run_of script = ran (started script.sent) (schedule script.rounds script.ports)

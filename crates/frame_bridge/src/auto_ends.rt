@@ -1,4 +1,4 @@
-//! An end of a port's link, which chooses its calls itself, over the words of its region.
+//! One end of a port's link over the words of its region. It chooses its own calls.
 ghost use Rattle.std.specs.Prelude.{◌≡◌, ℕ, List, ◌++◌, ◌∷◌, [], ◌+◌, ◌<◌, ◌≤◌, All, IfOk, true};
 ghost use Rattle.std.specs.List.{list_any};
 ghost use Rattle.call_grammar.specs.Steps.{Mark};
@@ -18,10 +18,10 @@ use split_ring::Queue;
 use split_ring::steps::{Access, Note};
 use std::alloc::Global;
 
-/// How many deliveries each end expects: more than there can be, so none is ever finished.
+/// The number of deliveries that each end expects. More can't happen, so no end is ever finished.
 const EXPECTED: u64 = u64::MAX;
 
-/// The vector of its doorbells.
+/// The vector of an end's doorbells.
 const TRAFFIC: u32 = 1;
 
 /// An end of a link and its automatic peer.
@@ -31,7 +31,7 @@ pub struct AutoEnd {
     pub auto: Auto,
 }
 
-/// Makes an access, and returns the value of a read, or 0.
+/// Performs an access. Returns the value of a read, or 0.
 fn perform(region: &mut Region, me: u32, access: Access) -> u32
     requires me { me < 2 }
     requires shape { region.old.shape ≡ shape }
@@ -57,7 +57,7 @@ fn perform(region: &mut Region, me: u32, access: Access) -> u32
     }
 }
 
-/// Tells an automatic peer of one note.
+/// Counts one note in the automatic peer: a frame accepted or delivered.
 fn count_note(auto: &mut Auto, note: &Note)
     ensures { (party : links.AutoEnd) (one other : List ℕ) → IsPlanOf auto.old party → IsPlanOf auto.new (counted party (mark_between one other note.now ∷ [])) }
 {
@@ -80,7 +80,7 @@ fn count_note(auto: &mut Auto, note: &Note)
     }
 }
 
-/// Tells an automatic peer of the frames that were accepted and delivered.
+/// Counts the notes in the automatic peer: the frames accepted and delivered.
 fn count_notes(auto: &mut Auto, notes: &[Note])
     ensures { (party : links.AutoEnd) (one other : List ℕ) → IsPlanOf auto.old party → IsPlanOf auto.new (counted party (marks_between one other notes.now)) }
 {
@@ -89,7 +89,7 @@ fn count_notes(auto: &mut Auto, notes: &[Note])
     }
 }
 
-/// Is a frame delivered?
+/// Whether the notes deliver a frame.
 fn delivers(notes: &[Note]) -> bool
     ensures { result ≡ list_any is_delivery notes.now }
 {
@@ -97,7 +97,7 @@ fn delivers(notes: &[Note]) -> bool
 }
 
 impl AutoEnd {
-    /// End `me` of a link of this geometry and queue, at its start, without frames.
+    /// Returns the initial end `me` of a link of this geometry and queue, without frames to send.
     pub fn new(
         alloc: Global,
         me: u32,
@@ -115,7 +115,7 @@ impl AutoEnd {
         })
     }
 
-    /// Opens the call that comes next, where none is open.
+    /// Opens the next call, if no call is open.
     fn open(&mut self, me: u32)
         requires refines { (party : links.AutoEnd) × AutoEndRefines me party self.old × All (IsOffered link_config) party.frames }
         ensures { (party : links.AutoEnd) → AutoEndRefines me party self.old → AutoEndRefines me (opened (config_of link_config me) party) self.new }
@@ -134,7 +134,8 @@ impl AutoEnd {
         }
     }
 
-    /// A turn: the next step of the open call, or the first one of the call that is chosen. Does it deliver a frame?
+    /// Takes a turn: the next step of the open call, or the first step of the call that the end
+    /// chooses. Returns whether the step delivers a frame.
     pub fn take_turn(&mut self, region: &mut Region, me: u32) -> bool
         requires me { me < 2 }
         requires shape { region.old.shape ≡ shape }

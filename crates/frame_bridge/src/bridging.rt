@@ -26,7 +26,8 @@ use section_map::Geometry;
 use split_ring::Queue;
 use std::alloc::Global;
 
-/// The region of a port: a page for the table, and sections of 16,384 bytes for two peers.
+/// Returns the geometry of a port's region: a page for the State Table, and sections of 16,384
+/// bytes for two peers.
 fn region() -> Geometry
     ensures { result ≡ shape }
 {
@@ -36,7 +37,7 @@ fn region() -> Geometry
     }
 }
 
-/// The queue of such a section, for an MTU of 256.
+/// Returns the queue of such a section, for an MTU of 256.
 fn section() -> Queue
     ensures { result ≡ link_config.sizes }
 {
@@ -46,7 +47,7 @@ fn section() -> Queue
     }
 }
 
-/// So many ports at their start, whose stations send nothing.
+/// Returns `count` initial ports, whose stations send nothing.
 fn ports_at_start(alloc: Global, count: u32) -> Result<Vec<Port>, NoMemory>
     ensures long { IfOk result (λ ports. length ports.items ≡ count) }
     ensures each { IfOk result (λ ports. (k : ℕ) (port : HeldPort) → slice_get ports.items k ≡ Some port → PortRefines ((started []).links k) [] port) }
@@ -61,7 +62,7 @@ fn ports_at_start(alloc: Global, count: u32) -> Result<Vec<Port>, NoMemory>
 }
 
 impl Run {
-    /// A run of so many ports at its start, whose stations send nothing.
+    /// Returns an initial run of `ports` ports, whose stations send nothing.
     fn new(alloc: Global, ports: u32) -> Result<Run, NoMemory>
         requires { (2 ≤ ports) × (ports ≤ 8) }
         ensures { IfOk result (RunRefines ports (started [])) }
@@ -73,7 +74,7 @@ impl Run {
         })
     }
 
-    /// Gives each station the frames that it sends.
+    /// Adds each frame of the list to its station's frames.
     fn send(&mut self, sent: SentFrames) -> Result<(), NoMemory>
         requires { (k : ℕ) (s : SentFrame) → slice_get sent k ≡ Some s → s.port < length self.old.ports.items }
         ensures { (ports : ℕ) → RunRefines ports (started []) self.old → OnOk result (RunRefines ports (started sent) self.new) }
@@ -86,7 +87,8 @@ impl Run {
     }
 }
 
-/// Puts the lines of a port last: the frames that its station delivered, and how many forwarded ones are left.
+/// Appends the lines of a port: the frames that its station delivered, and the number of forwarded
+/// frames that are left.
 fn put_port(out: &mut Vec<u8>, number: u64, port: &Port) -> Result<(), NoMemory>
     requires { port.now.delivered ≤ port.now.forwarded }
     ensures { (w : World) → PortRefines (w.links number) (forward w.arrivals number) port.now → length (forward w.arrivals number) < 2 ^ 64 →
@@ -98,7 +100,7 @@ fn put_port(out: &mut Vec<u8>, number: u64, port: &Port) -> Result<(), NoMemory>
     Ok(())
 }
 
-/// Puts the lines of all ports last.
+/// Appends the lines of all ports.
 fn put_ports(out: &mut Vec<u8>, ports: &[Port]) -> Result<(), NoMemory>
     requires { (k : ℕ) (port : HeldPort) → slice_get ports.now k ≡ Some port → port.delivered ≤ port.forwarded }
     ensures { (w : World) → ArePorts w ports.now →
@@ -111,7 +113,7 @@ fn put_ports(out: &mut Vec<u8>, ports: &[Port]) -> Result<(), NoMemory>
 }
 
 impl Run {
-    /// The output of the run, at its end.
+    /// Returns the output of the run at its end.
     fn finish(self) -> Result<Vec<u8>, NoMemory>
         requires { (sent : List SentFrame) × (ports : ℕ) × (w : World) × IsThere sent ports w self }
         ensures { (sent : List SentFrame) (ports : ℕ) (w : World) → IsThere sent ports w self → IfOk result (λ output. output.items ≡ output_of ports w) }
@@ -128,7 +130,7 @@ impl Run {
     }
 }
 
-/// The output of the run of a script.
+/// Returns the output of the run of a script.
 fn output(alloc: Global, script: Script) -> Result<Vec<u8>, NoMemory>
     requires { IsWorld (world_of script) }
     ensures { IfOk result (λ output. IsOutput (world_of script) output.items) }
@@ -144,18 +146,25 @@ fn output(alloc: Global, script: Script) -> Result<Vec<u8>, NoMemory>
     run.finish()
 }
 
-/// The output of the run that a text spells: `bridge 1`, `ports K` with 2 to 8, `rounds R` with 0 to 4,000, `begin`, lines `frame PORT HEX`
-/// with 14 to 274 bytes, 10,000 at most, and `end`.
+/// Returns the output of the run that a text spells. The text is `bridge 1`, `ports K` with 2 to 8,
+/// `rounds R` with 0 to 4,000, and `begin`. Then come at most 10,000 lines `frame PORT HEX` with 14
+/// to 274 bytes, and `end`.
 ///
-/// Each port has a link between a station, which sends its frames, and the bridge's end. In a round each port in ascending order has 64
-/// turns of its station, then 64 of the bridge's end, and each frame that the bridge's end delivers arrives. Where the text has a fault, the
-/// first one is the error; NoMemory says that memory ran out.
+/// Each port has a link between a station, which sends its frames, and the bridge's end. In a round
+/// each port in ascending order has 64 turns of its station, then 64 of the bridge's end. Each
+/// frame that the bridge's end delivers arrives. Otherwise returns the first fault of the text, or
+/// `NoMemory` if an allocation fails.
+// claim found: The output is that of the one run of the script that the bytes spell. The ends of
+//    each port are two honest ends over its words. What arrived at a port begins what its station
+//    sends; what its station delivered begins what was forwarded to it, and the rest is left.
+// claim only, fault: A text that spells a run is refused for want of memory alone, and another by
+//    its first fault.
 pub fn bridge(alloc: Global, bytes: &[u8]) -> Result<Vec<u8>, BridgeFault>
-    // What is given is the output of the run that the bytes spell.
+    // The result is the output of the run that the bytes spell.
     ensures found { IfOk result (λ output. IsBridged bytes.now output.items) }
-    // A text that spells a run is refused for want of memory alone.
+    // For a text that spells a run the one fault is a failed allocation.
     ensures only { (w : text.World) → IsSpelling w bytes.now → IfErr result (λ fault. fault ≡ OutOfMemory) }
-    // Which fault it is.
+    // The fault that is returned.
     ensures fault { IfErr result (λ fault. Refuses {Y = text.World} fault (answer bytes.now)) }
 {
     let script = match parse(alloc, bytes) {

@@ -1,4 +1,4 @@
-//! What a bridge learns of the frames that arrive, and the ports to which it forwards them.
+//! What a bridge learns from the frames that arrive, and the ports to which it forwards them.
 ghost use Rattle.std.specs.Prelude.{◌≡◌, ℕ, List, ◌+◌, ◌<◌, ◌≤◌, ◌++◌, ◌∷◌, [], length, take, drop, filter, IfOk, OnErr, OnOk};
 ghost use Rattle.frame_bridge.specs.Forwarding.{Arrival, is_group, source, destination, goes_to, port_of, known_count, ports_for, is_forwarded, first_ports};
 ghost use Rattle.frame_bridge.specs.BridgeView.{RefinesArrivals, arrival};
@@ -9,13 +9,13 @@ use std::alloc::Global;
 use std::collections::BTreeMap;
 use std::marker::Model;
 
-/// The bytes of an address.
+/// The length of an address, in bytes.
 const ADDRESS: usize = 6;
 
 /// The most addresses that a bridge knows.
 const MOST: usize = 1024;
 
-/// A bridge: how many ports it has, and at which of them each address is that it knows, 1,024 at most.
+/// A bridge: the number of its ports, and the port of each address that it knows, at most 1,024.
 #[derive(Debug, Drop)]
 pub struct Bridge {
     ports: u32,
@@ -33,14 +33,14 @@ impl Model for Bridge {
     ghost invariant = { IsWellFormed };
 }
 
-/// Is it an address of a group? Bit 0 of its first byte says so.
+/// Whether the address is a group address: bit 0 of its first byte is set.
 fn is_group(address: &[u8; ADDRESS]) -> bool
     ensures { result ≡ is_group address.now }
 {
     address[0] % 2 == 1
 }
 
-/// The address at this place of a frame.
+/// Returns the address at byte offset `at` of a frame.
 fn address_at(frame: &[u8], at: usize) -> [u8; ADDRESS]
     requires { at + 6 ≤ length frame.now }
     ensures { result ≡ take 6 (drop at frame.now) }
@@ -51,7 +51,7 @@ fn address_at(frame: &[u8], at: usize) -> [u8; ADDRESS]
 }
 
 impl Bridge {
-    /// A bridge of so many ports, which knows no address.
+    /// Returns a bridge of `ports` ports that knows no address.
     pub fn new(alloc: Global, ports: u32) -> Result<Bridge, NoMemory>
         requires { (2 ≤ ports) × (ports ≤ 8) }
         ensures ports { IfOk result (λ bridge. bridge.ports ≡ ports) }
@@ -63,11 +63,18 @@ impl Bridge {
         })
     }
 
-    /// A frame arrives at this port: its source is learned, and the answer is the ports to which the frame goes, ascending.
+    /// Learns the source of a frame that arrives at `port`, and returns the ports to which the
+    /// frame goes, ascending.
     ///
-    /// A frame goes to the port of its destination, or to no port where it came from there; and to all ports but that from which it came
-    /// where the destination is a group address or isn't known. A source that isn't known is learned where it is no group address and
-    /// fewer than 1,024 are known; one that is known moves to this port. After NoMemory the bridge is unchanged.
+    /// A frame goes to the port of its destination, or to no port if it arrived at that port. If
+    /// the destination is a group address or isn't known, the frame goes to all ports but the one
+    /// at which it arrived. An unknown source is learned if it is no group address and fewer than
+    /// 1,024 addresses are known. A known source moves to this port. After `NoMemory` the bridge is
+    /// unchanged.
+    // claim ports, refines with Bridge::new.ports, Bridge::new.refines: A bridge learns the source
+    //    of a frame, then answers the ports to which it goes, by the list of the arrivals so far.
+    // claim unchanged, same: After NoMemory the bridge is unchanged, and its number of ports never
+    //    changes.
     pub fn arrive(&mut self, port: u32, frame: &[u8]) -> Result<ArrayVec<u32, 8>, NoMemory>
         requires port { port < self.old.ports }
         requires frame { 14 ≤ length frame.now }
@@ -82,7 +89,8 @@ impl Bridge {
         Ok(self.forwards(port, &address_at(frame, 0)))
     }
 
-    /// How many addresses are known.
+    /// Returns the number of addresses known.
+    // claim count, most: A bridge knows at most 1,024 addresses.
     pub fn known(&self) -> u32
         ensures count { (arrivals : List Arrival) → RefinesArrivals self.now arrivals → result ≡ known_count arrivals }
         ensures most { result ≤ 1024 }
@@ -90,7 +98,8 @@ impl Bridge {
         self.table.len() as u32
     }
 
-    /// The port of an address, or None where it isn't known.
+    /// Returns the port of an address, or `None` if the address isn't known.
+    // claim: The port of an address is that of its latest arrival, if it was learned.
     pub fn port_of(&self, address: &[u8; 6]) -> Option<u32>
         ensures { (arrivals : List Arrival) → RefinesArrivals self.now arrivals → result ≡ port_of arrivals address.now }
     {
@@ -98,14 +107,15 @@ impl Bridge {
     }
 }
 
-/// Does a frame from the one port, to an address at the known port or to one that isn't known, go to the other port?
+/// Whether a frame from port `from` goes to port `to`. `known` is the port of its destination, or
+/// `None` if that isn't known.
 fn goes_to(known: Option<u32>, from: u32, to: u32) -> bool
     ensures { result ≡ goes_to known from to }
 {
     to != from && known.is_none_or(|known| to == known)
 }
 
-/// The ports, of so many, to which such a frame goes.
+/// Returns those of `count` ports to which such a frame goes.
 fn ports_of(count: u32, known: Option<u32>, from: u32) -> ArrayVec<u32, 8>
     requires { count ≤ 8 }
     ensures { result.items ≡ filter (goes_to known from) (first_ports count) }
@@ -119,9 +129,9 @@ fn ports_of(count: u32, known: Option<u32>, from: u32) -> ArrayVec<u32, 8>
     ports
 }
 
-/// The two things that a bridge does with a frame.
+/// Learning and forwarding, the two parts of an arrival.
 impl Bridge {
-    /// Learns that an address is at this port, where it may be learned.
+    /// Learns that an address is at this port, if it may be learned.
     fn learn(&mut self, port: u32, address: &[u8; 6]) -> Result<(), NoMemory>
         ensures refines { (earlier : List Arrival) (frame : List ℕ) → RefinesArrivals self.old earlier → source frame ≡ address.now →
             OnOk result (RefinesArrivals self.new (earlier ++ arrival port frame ∷ [])) }
@@ -137,7 +147,7 @@ impl Bridge {
         Ok(())
     }
 
-    /// The ports to which a frame from this port to this address goes.
+    /// Returns the ports to which a frame from this port to this address goes.
     fn forwards(&self, port: u32, address: &[u8; 6]) -> ArrayVec<u32, 8>
         ensures { (arrivals : List Arrival) (frame : List ℕ) → RefinesArrivals self.now arrivals → destination frame ≡ address.now →
             result.items ≡ filter (is_forwarded arrivals (arrival port frame)) (first_ports self.now.ports) }

@@ -1,18 +1,22 @@
-//! A learning bridge between 2 to 8 links (profile): it learns at which port an address is, and forwards each frame to that port, or to
-//! all others. It stands on the map of std. Its contracts promise that what it knows and where it forwards are
-//! those of `specs/Forwarding`, which looks back over the list of the frames that arrived.
+//! A learning bridge between 2 to 8 links (profile): it learns at which port an address is, and
+//! forwards each frame to that port, or to all others. It uses the map of std. Its contracts
+//! promise that what it knows and where it forwards are those of `specs/Forwarding`, which looks
+//! back over the list of the frames that arrived.
 //!
 //! # Design
 //!
-//! - The definition keeps no map: it looks back over the list of arrivals, whether an address is learned, and at which port it is. The code
-//!   keeps a map, and its standing says that both agree of every address. It takes memory for nothing else, so without memory a bridge is
+//! - The definition has no map. It looks back over the list of arrivals for whether an address is
+//!   learned, and for its port. The code has a map, and its refinement says that both agree on
+//!   every address. It allocates for nothing else, so after a failed allocation a bridge is
 //!   unchanged.
-//! - A port's run is that of two honest ends over memory (`HonestRuns` of `link_invariant`), and its laws are cited once a port. The definition
-//!   of the run is a function (`run_of`), and what holds of it is a record beside it (`Delivers`).
-//! - The counts of a port, forwarded and delivered, stop at the greatest number of 64 bits. That they are exact is proved at the run's end,
-//!   since a text has 10,000 frames at most.
-//! - A port's `out` lines are written as its station delivers, and moved to the output at the end. Beside the regions and the text there is
-//!   one copy of a frame for each port to which it goes.
+//! - A port's run is that of two honest ends over memory (`HonestRuns` of `link_invariant`), and
+//!   its laws are cited once a port. The definition of the run is a function (`run_of`). A separate
+//!   record says what holds of it (`Delivers`).
+//! - The counts of a port, forwarded and delivered, stop at the greatest number of 64 bits. That
+//!   they are exact is proved at the run's end, since a text has at most 10,000 frames.
+//! - A port's `out` lines are written as its station delivers, and moved to the output at the end.
+//!   In addition to the regions and the text there is one copy of a frame for each port to which it
+//!   goes.
 #![tactic(auto)]
 
 mod auto_ends;

@@ -27,7 +27,7 @@ pub enum Line {
 const ANY: FieldKind = FieldKind::Number(0, u64::MAX);
 
 impl Line {
-    /// What stands in the fields of the form.
+    /// Returns the fields of the form.
     pub fn slots(self) -> &'static [FieldKind]
         ensures { pieces result.now ≡ pieces_of self }
     {
@@ -42,7 +42,7 @@ impl Line {
     }
 }
 
-/// Puts the line of a form last.
+/// Appends the line of a form.
 #[tactic(auto, unfolding(line_format::specs::Rows::line_of_row))]
 pub fn put(out: &mut Vec<u8>, line: Line, numbers: &[u64], bytes: &[u8]) -> Result<(), AllocError>
     ensures { OnOk result (out.new.items ≡ out.old.items ++ line_of_row pieces_of (row line numbers.now bytes.now)) }

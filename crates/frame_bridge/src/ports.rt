@@ -1,4 +1,4 @@
-//! A port of a bridge: the link between its station and the bridge's end, and what it tells of it.
+//! A port of a bridge: the link between its station and the bridge's end, and its output.
 ghost use Rattle.std.specs.Prelude.{◌≡◌, ℕ, List, ◌++◌, ◌∷◌, [], All, IfOk, OnOk};
 ghost use Rattle.link_invariant.specs.LinkConfig.{IsOffered};
 ghost use Rattle.link_endpoint.specs.Engine.{delivered};
@@ -13,8 +13,8 @@ use section_map::{Geometry, Region};
 use split_ring::Queue;
 use std::alloc::Global;
 
-/// The region of a port with its two ends, the lines of what its station delivered, and how many frames these were and how many were
-/// forwarded to it.
+/// The region of a port with its two ends, and the lines of what its station delivered. The numbers
+/// of frames delivered by the station and forwarded to the port.
 #[derive(Debug, Drop)]
 pub struct Port {
     pub region: Region,
@@ -26,7 +26,7 @@ pub struct Port {
 }
 
 impl Port {
-    /// A port at its start, whose station sends nothing.
+    /// Returns an initial port, whose station sends nothing.
     pub fn new(alloc: Global, geometry: &Geometry, queue: &Queue) -> Result<Port, NoMemory>
         requires geometry { geometry.now ≡ shape }
         requires queue { queue.now ≡ link_config.sizes }
@@ -42,7 +42,7 @@ impl Port {
         })
     }
 
-    /// Puts a frame after those that the station sends, before its first turn.
+    /// Appends a frame to those that the station sends, before its first turn.
     pub fn send(&mut self, frame: Frame) -> Result<(), NoMemory>
         ensures { (frames : List (List ℕ)) → PortRefines (start_link frames) [] self.old →
             OnOk result (PortRefines (start_link (frames ++ frame ∷ [])) [] self.new) }
@@ -50,7 +50,7 @@ impl Port {
         self.station.auto.add(frame)
     }
 
-    /// A turn of the station.
+    /// Takes a turn of the station.
     pub fn station_turn(&mut self) -> Result<(), NoMemory>
         requires { (link : links.Link) × (forwarded : List (List ℕ)) × PortRefines link forwarded self.old × All (IsOffered link_config) (link.parties 0).frames }
         ensures { (link : links.Link) (forwarded : List (List ℕ)) → PortRefines link forwarded self.old →
@@ -63,7 +63,7 @@ impl Port {
         Ok(())
     }
 
-    /// A turn of the bridge's end. Does a frame arrive?
+    /// Takes a turn of the bridge's end. Returns whether a frame arrives.
     pub fn own_turn(&mut self) -> bool
         requires { (link : links.Link) × (forwarded : List (List ℕ)) × PortRefines link forwarded self.old × All (IsOffered link_config) (link.parties 1).frames }
         ensures refines { (link : links.Link) (forwarded : List (List ℕ)) → PortRefines link forwarded self.old → PortRefines (turned 1 link) forwarded self.new }
@@ -73,7 +73,7 @@ impl Port {
         self.own.take_turn(&mut self.region, 1)
     }
 
-    /// Takes a copy of a frame that goes to this port.
+    /// Appends a frame that goes to this port to the frames of the bridge's end.
     pub fn take_copy(&mut self, frame: Frame) -> Result<(), NoMemory>
         ensures { OnOk result (self.new ≡ with_copy frame self.old) }
     {

@@ -14,7 +14,7 @@ use crate::ports::Port;
 use ivs_base::{Frame, NoMemory};
 use std::alloc::Global;
 
-/// How many turns an end has in a round.
+/// The number of turns of an end in a round.
 const TURNS: u32 = 64;
 
 /// A run so far: the bridge, its ports, and the lines of what arrived.
@@ -26,7 +26,7 @@ pub struct Run {
 }
 
 impl Run {
-    /// A turn of the station of this port.
+    /// Takes a turn of the station of this port.
     fn station_turn(&mut self, port: usize) -> Result<(), NoMemory>
         requires { (sent : List SentFrame) × (ports : ℕ) × (w : World) × IsThere sent ports w self.old × (port < ports) }
         ensures { (sent : List SentFrame) (ports : ℕ) (w : World) → IsThere sent ports w self.old →
@@ -36,8 +36,8 @@ impl Run {
         port.station_turn()
     }
 
-    /// The frame that the bridge's end of this port delivered last arrives: its line is written, and a copy of it goes to each port to which
-    /// it is forwarded.
+    /// Handles the arrival of the last frame that the bridge's end of port `from` delivered. Writes
+    /// the frame's line and copies the frame to each port to which it is forwarded.
     fn arrive(&mut self, alloc: Global, from: usize) -> Result<(), NoMemory>
         requires refines { (w : World) × (ports : ℕ) × RunRefines ports w self.old × (from < ports) × (ports ≤ 8) }
         requires frame { (port : HeldPort) → slice_get self.old.ports.items from ≡ Some port → 14 ≤ length (delivered port.own.end) }
@@ -56,7 +56,7 @@ impl Run {
         Ok(())
     }
 
-    /// A turn of the bridge's end of this port.
+    /// Takes a turn of the bridge's end of this port.
     fn own_turn(&mut self, alloc: Global, port: usize) -> Result<(), NoMemory>
         requires { (sent : List SentFrame) × (ports : ℕ) × (w : World) × IsThere sent ports w self.old × (port < ports) }
         ensures { (sent : List SentFrame) (ports : ℕ) (w : World) → IsThere sent ports w self.old →
@@ -69,7 +69,7 @@ impl Run {
         Ok(())
     }
 
-    /// The turns of both ends of a port in a round.
+    /// Takes the turns of both ends of a port in a round.
     fn port_turns(&mut self, alloc: Global, port: usize) -> Result<(), NoMemory>
         requires { (sent : List SentFrame) × (ports : ℕ) × (w : World) × IsThere sent ports w self.old × (port < ports) }
         ensures { (sent : List SentFrame) (ports : ℕ) (w : World) → IsThere sent ports w self.old →
@@ -84,7 +84,7 @@ impl Run {
         Ok(())
     }
 
-    /// A round of all ports.
+    /// Plays a round of all ports.
     fn round(&mut self, alloc: Global) -> Result<(), NoMemory>
         requires { (sent : List SentFrame) × (ports : ℕ) × (w : World) × IsThere sent ports w self.old }
         ensures { (sent : List SentFrame) (ports : ℕ) (w : World) → IsThere sent ports w self.old →
@@ -96,7 +96,7 @@ impl Run {
         Ok(())
     }
 
-    /// So many rounds.
+    /// Plays `rounds` rounds.
     pub fn rounds(&mut self, alloc: Global, rounds: u32) -> Result<(), NoMemory>
         requires { (sent : List SentFrame) × (ports : ℕ) × (w : World) × IsThere sent ports w self.old }
         ensures { (sent : List SentFrame) (ports : ℕ) (w : World) → IsThere sent ports w self.old →

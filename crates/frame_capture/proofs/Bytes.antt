@@ -6,11 +6,11 @@ use Rattle.frame_capture.specs.declared.order.Order.{Order}
 use Rattle.frame_capture.specs.declared.order.Order.TheVariants.{Little, Big}
 use Rattle.frame_capture.specs.CaptureFile.{bytes_of, number_of}
 
--- every byte is below 256
+-- Every byte is below 256.
 abbrev pub AreBytes : List ℕ → Type 0
 AreBytes bytes = (i : ℕ) → get_or bytes i 0 < 256
 
--- what is written of a number is read as the number
+-- A number that is written is read again.
 pub read-written : (order : Order) (width number : ℕ) (left : List ℕ) → number < 256 ^ width
     → number_of order width (bytes_of order width number ++ left) ≡ number
 read-written Little width number left fits = little_number-reads_back width number left fits
@@ -28,7 +28,7 @@ first_four a b c d left small (suc (suc zero)) = small 2
 first_four a b c d left small (suc (suc (suc zero))) = small 3
 first_four a b c d left small (suc (suc (suc (suc i)))) = omega arith
 
--- what is read as a number is written as the bytes that were read
+-- Bytes that are read as a number are written again.
 pub written-read : (order : Order) (bytes : List ℕ) → AreBytes bytes → 4 ≤ length bytes → bytes_of order 4 (number_of order 4 bytes) ≡ take 4 bytes
 written-read order [] small long = absurd (omega arith)
 written-read order (a ∷ []) small long = absurd (omega arith)
@@ -45,7 +45,7 @@ first_two a b left small zero = small 0
 first_two a b left small (suc zero) = small 1
 first_two a b left small (suc (suc i)) = omega arith
 
--- the same of 16 bits
+-- The same for 16 bits.
 pub written-read16 : (order : Order) (bytes : List ℕ) → AreBytes bytes → 2 ≤ length bytes → bytes_of order 2 (number_of order 2 bytes) ≡ take 2 bytes
 written-read16 order [] small long = absurd (omega arith)
 written-read16 order (a ∷ []) small long = absurd (omega arith)

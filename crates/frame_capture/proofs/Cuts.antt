@@ -15,7 +15,7 @@ use Rattle.frame_capture.specs.CaptureFile.{bytes_of, number_at, packet_bytes, p
 use Rattle.frame_capture.specs.Reading.{StartsWith, IsDamage, IsPacketsFault, fault_at}
 use Rattle.frame_capture.proofs.Bytes.{AreBytes, written-read, written-read16}
 
--- the number at a place, as bytes, and what stands after it
+-- The number at an offset, as bytes, and the bytes after it.
 pub number_cut : (order : Order) (bytes : List ℕ) (place next : ℕ) → AreBytes bytes → place + 4 ≤ length bytes → place + 4 ≡ next
     → drop place bytes ≡ bytes_of order 4 (number_at order 4 place bytes) ++ drop next bytes
 number_cut order bytes place next small inside is =
@@ -25,7 +25,7 @@ number_cut order bytes place next small inside is =
     ∙ ap (λ (t : List ℕ). t ++ drop 4 (drop place bytes)) (sym first)
     ∙ ap (λ (t : List ℕ). bytes_of order 4 (number_at order 4 place bytes) ++ t) (drop-drop 4 place bytes ∙ ap (λ (n : ℕ). drop n bytes) is)
 
--- the same of 16 bits
+-- The same for 16 bits.
 pub number_cut16 : (order : Order) (bytes : List ℕ) (place next : ℕ) → AreBytes bytes → place + 2 ≤ length bytes → place + 2 ≡ next
     → drop place bytes ≡ bytes_of order 2 (number_at order 2 place bytes) ++ drop next bytes
 number_cut16 order bytes place next small inside is =
@@ -39,11 +39,11 @@ five : (a b c d frame left bytes left4 left8 left12 left16 : List ℕ) → bytes
     → bytes ≡ (a ++ b ++ c ++ d ++ frame) ++ left
 five a b c d frame left bytes left4 left8 left12 left16 e4 e8 e12 e16 e = rw (e4, e8, e12, e16, e) (simp append_assoc)
 
--- so many bytes after the header are as many
+-- `size` bytes after the header have that length.
 pub taken : (frame bytes : List ℕ) (size : ℕ) → 16 + size ≤ length bytes → frame ≡ take (16 + size - 16) (drop 16 bytes) → length frame ≡ size
 taken frame bytes size whole is = let n : 16 + size - 16 ≡ size = omega arith in ap length is ∙ length-take (16 + size - 16) (drop 16 bytes) ∙ omega (arith, length-drop 16 bytes)
 
--- the packet whose parts stand at these places
+-- The packet whose parts are at these offsets.
 pub packet_at : (order : Order) (p : Packet) (bytes : List ℕ) (size : ℕ) → AreBytes bytes → p.seconds < 2 ^ 32 → p.micros < 2 ^ 32 → p.original < 2 ^ 32
     → size ≤ 262144 → 16 + size ≤ length bytes
     → p.seconds ≡ number_at order 4 0 bytes → p.micros ≡ number_at order 4 4 bytes → size ≡ number_at order 4 8 bytes
@@ -63,18 +63,18 @@ packet_at order p bytes size small s m o short whole seconds micros sized origin
       spelled = five _ _ _ _ _ _ _ _ _ _ _ e4 e8 e12 e16 last;
     }
 
--- ---- packets in a row
+-- ---- consecutive packets
 
 pub length-packet_bytes : (order : Order) (p : Packet) → length (packet_bytes order p) ≡ 16 + length p.frame
 length-packet_bytes Little p = omega arith
 length-packet_bytes Big p = omega arith
 
--- what stands after the packet
+-- The bytes after the packet.
 pub after_packet : (order : Order) (p : Packet) (bytes : List ℕ) (h : StartsWith order p bytes) → drop (16 + length p.frame) bytes ≡ h.left
 after_packet order p bytes h =
     ap (λ (n : ℕ). drop n bytes) (sym (length-packet_bytes order p)) ∙ ap (λ (t : List ℕ). drop (length (packet_bytes order p)) t) h.spelled ∙ drop-append_seam (packet_bytes order p) h.left
 
--- the packet is in the bytes
+-- The packet is in the bytes.
 pub packet_inside : (order : Order) (p : Packet) (bytes : List ℕ) → StartsWith order p bytes → 16 + length p.frame ≤ length bytes
 packet_inside order p bytes h = let all = ap length h.spelled in let size = length-packet_bytes order p in omega (arith, length-append (packet_bytes order p) h.left)
 

@@ -18,7 +18,7 @@ packets_from-append peer number (first ∷ lines) line =
     (packets_from-append peer (number + 1) lines line ∙ ap (λ (n : ℕ). packets_from peer (number + 1) lines ++ line_packets peer n line) (omega arith))
     ∙ sym (append_assoc (line_packets peer number first) (packets_from peer (number + 1) lines) (line_packets peer (number + length (first ∷ lines)) line))
 
--- the lines before this one, and it
+-- The lines before this one, and this one.
 pub packets-more : (peer : ℕ) (lines : List Line) (i number : ℕ) (line : Line) (now next : List Packet) → i < length lines → line ≡ get_or lines i line → number ≡ i + 1
     → now ≡ packets_from peer 1 (take i lines) → next ≡ now ++ line_packets peer number line → next ≡ packets_from peer 1 (take (i + 1) lines)
 packets-more peer lines i number line now next lt is numbered before put =

@@ -1,4 +1,4 @@
--- The scenario that offers frames is one.
+-- The scenario that offers frames is a scenario.
 use Rattle.std.proofs.Common.{◌≡◌, ℕ, zero, suc, ◌+◌, ◌-◌, ◌*◌, ◌<◌, ◌≤◌, Bool, true, List, [], ◌∷◌, ◌++◌, length, map, Some, refl, sym, ap, subst, ◌∙◌, arith, append_assoc, inl, inr}
 use Rattle.std.specs.Prelude.{slice_get, All}
 use Rattle.std.specs.List.{range_with_len, flat_map}
@@ -43,7 +43,7 @@ rounds_more acts mid front now count before first second =
 
 -- ---- each act is allowed
 
--- the world with any acts
+-- The world with any acts.
 abbrev world_with : List Act → World
 world_with acts = record {
   version = 1;
@@ -54,7 +54,7 @@ world_with acts = record {
   acts = acts;
 }
 
--- an act that is allowed after any acts
+-- An act that is allowed after any acts.
 abbrev IsFree : List Act → Act → Type 0
 IsFree acts act = (before : List Act) → IsAllowed (world_with acts) before act
 
@@ -121,7 +121,7 @@ all_allowed peer count rest below few free zero act at = subst (IsAllowed _ []) 
 all_allowed peer count rest below few free (suc zero) act at = subst (IsAllowed _ (Auto peer 0 ∷ [])) (same_some (Auto (1 - peer) count) act at) (second_auto _ peer count below few)
 all_allowed peer count rest below few free (suc (suc k)) act at = one_of (IsFree _) rest k act free at _
 
--- ---- how many acts they count for
+-- ---- the number that the acts count for
 
 offers_cost : (peer : ℕ) (frames : List (List ℕ)) → turns_of (map (λ frame. Offer peer frame) frames) ≡ length frames
 offers_cost peer [] = refl
@@ -183,7 +183,7 @@ feed_is_world peer frames below all few = let turns = feed_turns peer frames in 
   turns = omega arith;
 }
 
--- made of its parts
+-- The scenario from its parts.
 pub made_of : (geometry : Shape) (queue : Sizes) (honest : List Bool) (acts : List Act) (peer : ℕ) (frames : List (List ℕ)) → geometry ≡ shape_of 2 4096 0 520192 → queue ≡ record { version = 1; out = 520192; mtu = 16384 } → honest ≡ true ∷ true ∷ []
     → acts ≡ feed_acts peer frames → ◌≡◌ {A = World} (record { version = 1; geometry = geometry; queue = queue; wiring = Msix 2; honest = honest; acts = acts }) (feed_world peer frames)
 unfolding feed_world

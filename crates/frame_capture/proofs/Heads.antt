@@ -15,7 +15,7 @@ eight : (a b c d e f g left bytes left4 left6 left8 left12 left16 left20 : List 
     → left12 ≡ e ++ left16 → left16 ≡ f ++ left20 → left20 ≡ g ++ left → bytes ≡ (a ++ b ++ c ++ d ++ e ++ f ++ g) ++ left
 eight a b c d e f g left bytes left4 left6 left8 left12 left16 left20 e4 e6 e8 e12 e16 e20 e24 = rw (e4, e6, e8, e12, e16, e20, e24) (simp append_assoc)
 
--- bytes with a right header are that header, and what stands after it
+-- Bytes with a right header are that header and the bytes after it.
 header_cut : (order : Order) (bytes : List ℕ) → AreBytes bytes → HasHeader order bytes
     → bytes ≡ header_bytes order (number_at order 4 8 bytes) (number_at order 4 12 bytes) (number_at order 4 16 bytes) ++ drop 24 bytes
 header_cut order bytes small h =
@@ -40,7 +40,7 @@ file_of order snaplen ps bytes left small h fits is each at spelled = record {
   spelled = rw is (header_cut order bytes small h ∙ ap (λ (t : List ℕ). header_bytes order (number_at order 4 8 bytes) (number_at order 4 12 bytes) (number_at order 4 16 bytes) ++ t) (sym at ∙ spelled));
 }
 
--- a fault of the packets is one of the file
+-- A fault of the packets is one of the file.
 pub fault_of : (order : Order) (bytes left : List ℕ) (fault : CaptureFault) → HasHeader order bytes → left ≡ drop 24 bytes → IsPacketsFault order left fault → IsCaptureFault bytes fault
 fault_of order bytes left (BadPacket number) h is bad = (order, h, rw is at bad)
 fault_of order bytes left (CutPacket number) h is bad = (order, h, rw is at bad)

@@ -16,7 +16,7 @@ use Rattle.frame_capture.proofs.Bytes.{AreBytes}
 one : (p : Packet) (b : Bool) → is_offered p ≡ b → filter is_offered (p ∷ []) ≡ (if b then p ∷ [] else [])
 one p b is = ap (λ (t : Bool). if t then p ∷ [] else []) is
 
--- the frames of one packet more
+-- The frames of one more packet.
 frames-append : (ps : List Packet) (p : Packet) (b : Bool) → is_offered p ≡ b → offered_frames (ps ++ p ∷ []) ≡ offered_frames ps ++ map (λ q. q.frame) (if b then p ∷ [] else [])
 frames-append ps p b is =
     ap (λ (qs : List Packet). map (λ q. q.frame) qs) (filter-append is_offered ps (p ∷ []) ∙ ap (λ (qs : List Packet). filter is_offered ps ++ qs) (one p b is))
@@ -25,15 +25,15 @@ frames-append ps p b is =
 next : (all : List Packet) (i : ℕ) (p : Packet) → i < length all → p ≡ get_or all i p → take (i + 1) all ≡ take i all ++ p ∷ []
 next all i p lt is = take_more all i p lt ∙ ap (λ (q : Packet). take i all ++ q ∷ []) (sym is)
 
--- a packet whose frame is offered
+-- A packet whose frame is offered.
 pub frames-with : (all : List Packet) (i : ℕ) (p : Packet) → i < length all → p ≡ get_or all i p → is_offered p ≡ true → offered_frames (take (i + 1) all) ≡ offered_frames (take i all) ++ p.frame ∷ []
 frames-with all i p lt is offered = ap offered_frames (next all i p lt is) ∙ frames-append (take i all) p true offered
 
--- a packet whose frame isn't
+-- A packet whose frame isn't.
 pub frames-without : (all : List Packet) (i : ℕ) (p : Packet) → i < length all → p ≡ get_or all i p → is_offered p ≡ false → offered_frames (take (i + 1) all) ≡ offered_frames (take i all)
 frames-without all i p lt is passed = ap offered_frames (next all i p lt is) ∙ frames-append (take i all) p false passed ∙ append-nil (offered_frames (take i all))
 
--- what an offered packet's frame is
+-- The frame of an offered packet.
 pub is_frame : (p : Packet) → AreBytes p.frame → is_offered p ≡ true → IsFrame p.frame
 is_frame p bytes offered =
     let most = both_true _ _ offered in

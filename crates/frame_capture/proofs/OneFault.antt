@@ -12,17 +12,17 @@ use Rattle.frame_capture.proofs.OneFile.{EndsHere, no_bytes_end, too_long_ends, 
 
 -- ---- packets
 
--- what is bad begins with no packet
+-- Bad bytes begin with no packet.
 abbrev Ends : (Order → List ℕ → Type 0) → Type 0
 Ends IsBad = (order : Order) (left : List ℕ) → IsBad order left → EndsHere order left
 
--- two first bad packets are one, bad in both ways
+-- Two first bad packets are one, which is bad in both ways.
 one_place : (A B : Order → List ℕ → Type 0) → Ends A → Ends B → (order : Order) (bytes : List ℕ) (n m : ℕ) (h : IsFirstBad A order bytes n) → IsFirstBad B order bytes m → (n ≡ m) × B order h.left
 one_place A B ends endsb order bytes n m h g =
     let same = one_run order h.before g.before h.left g.left h.each g.each (ends order h.left h.bad) (endsb order g.left g.bad) (sym h.spelled ∙ g.spelled) in
     (h.number_is ∙ ap (λ (ps : List Packet). length ps + 1) same.0 ∙ sym g.number_is, subst (B order) (sym same.1) g.bad)
 
--- the same of two files, of which each may have any order
+-- The same for two files of any order.
 one_fault : (A B : Order → List ℕ → Type 0) → Ends A → Ends B → (bytes : List ℕ) (n m : ℕ) → AreBytes bytes → IsPacketFault A bytes n → IsPacketFault B bytes m
     → (n ≡ m) × ((order : Order) × (left : List ℕ) × A order left × B order left)
 one_fault A B ends endsb bytes n m small (o, header, h) (p, headerp, g) =
@@ -69,7 +69,7 @@ too_short bytes found h g = let a = h.0 in let b = g.1.0 in omega arith
 no_magic : (bytes : List ℕ) (value : ℕ) → IsCaptureFault bytes (BadMagic value) → ((order : Order) × BeginsWell order bytes) → ⊥
 no_magic bytes value h g = h.1 g.0 g.1.1
 
--- the version in one order and in the other
+-- The version in one order and in the other.
 no_version : (bytes : List ℕ) (a b : Order) → AreBytes bytes → BeginsWell a bytes → BeginsWell b bytes → (¬ IsVersion a bytes) → IsVersion b bytes → ⊥
 no_version bytes a b small h g isnt version = isnt (subst (λ (x : Order). IsVersion x bytes) (one_order bytes b a small g.1 h.1) version)
 

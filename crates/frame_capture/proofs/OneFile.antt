@@ -60,9 +60,9 @@ one_packet order p q left next is isq e =
     let both = sym (frame_at order p left) ∙ ap (drop 16) e ∙ frame_at order q next in
     (same_packet p.seconds p.micros p.original q.seconds q.micros q.original p.frame q.frame s m o (same_front p.frame q.frame left next size both), same_back p.frame q.frame left next size both)
 
--- ---- packets in a row
+-- ---- consecutive packets
 
--- the bytes begin with no packet
+-- The bytes begin with no packet.
 pub record EndsHere (order : Order) (left : List ℕ) : Type 0 where
   pub none : (p : Packet) (next : List ℕ) → IsPacket p → left ≡ packet_bytes order p ++ next → ⊥
 
@@ -117,7 +117,7 @@ file_packets capture bytes h = ap (drop 24) h.spelled ∙ body_is h.order h.zone
 file_snaplen : (capture : Capture) (bytes : List ℕ) (h : IsCaptureFile capture bytes) → number_at h.order 4 16 bytes ≡ capture.snaplen
 file_snaplen capture bytes h = ap (number_at h.order 4 16) h.spelled ∙ snaplen_is h.order h.zone h.figures capture.snaplen (packets_bytes h.order capture.packets) h.snaplen
 
--- no bytes begin with the magic number in both orders
+-- No bytes begin with the magic number in both orders.
 pub one_order : (bytes : List ℕ) (a b : Order) → AreBytes bytes → IsInOrder a bytes → IsInOrder b bytes → a ≡ b
 one_order bytes Little Little small h g = refl
 one_order bytes Little Big small h g = absurd (omega (arith, small 0, small 1, small 2, small 3))

@@ -90,7 +90,7 @@ head_most peer frames =
       digits_most 16384 (omega arith),
     )
 
--- so the text is short where the acts are few
+-- So the text is short if the acts are few.
 pub feed_text : (peer : ℕ) (frames : List (List ℕ)) → peer < 2 → act_count frames ≤ 4000000 → length (spelling (feed_world peer frames)) ≤ 16777216
 unfolding feed_world
 feed_text peer frames below few =

@@ -1,4 +1,4 @@
--- Which bytes are no capture file, and why.
+-- The bytes that are no capture file, and their faults.
 use Rattle.std.specs.Prelude.{◌≡◌, ℕ, ◌+◌, ◌<◌, ◌≤◌, ◌⊎◌, List, ◌++◌, All, length, drop}
 use Rattle.byteorder.specs.Endian.{little_number}
 use Rattle.frame_capture.specs.declared.order.Order.{Order}
@@ -15,31 +15,31 @@ IsVersion order bytes = (number_at order 2 4 bytes ≡ 2) × (number_at order 2 
 abbrev pub IsEthernet : Order → List ℕ → Type 0
 IsEthernet order bytes = number_at order 4 20 bytes ≡ 1
 
--- there are the bytes of a header, which begin with the magic number
+-- The bytes have the length of a header and begin with the magic number.
 abbrev pub BeginsWell : Order → List ℕ → Type 0
 BeginsWell order bytes = (24 ≤ length bytes) × IsInOrder order bytes
 
--- the whole header is right
+-- The whole header is right.
 abbrev pub HasHeader : Order → List ℕ → Type 0
 HasHeader order bytes = BeginsWell order bytes × IsVersion order bytes × IsEthernet order bytes
 
 -- ---- packets
 
--- how many bytes were captured of the packet that these bytes begin with
+-- The number of bytes captured of the packet at the start of these bytes.
 abbrev pub captured_length : Order → List ℕ → ℕ
 captured_length order bytes = number_at order 4 8 bytes
 
--- the packet's own header is there, and its captured length is above the most
+-- The packet's own header is complete, and its captured length is above the most.
 abbrev pub IsTooLong : Order → List ℕ → Type 0
 IsTooLong order bytes = (16 ≤ length bytes) × (262144 < captured_length order bytes)
 
--- the packet's header or its bytes aren't all there
+-- The packet's header or its bytes are incomplete.
 abbrev pub IsCut : Order → List ℕ → Type 0
 IsCut order bytes =
     (0 < length bytes)
     × ((length bytes < 16) ⊎ ((captured_length order bytes ≤ 262144) × (length bytes < 16 + captured_length order bytes)))
 
--- the packets before this one are good, and the bytes from it on are bad
+-- The packets before this one are good, and the bytes from it on are bad.
 pub record IsFirstBad (IsBad : Order → List ℕ → Type 0) (order : Order) (bytes : List ℕ) (number : ℕ) : Type 0 where
   pub before : List Packet
   pub each : All IsPacket before
@@ -48,13 +48,13 @@ pub record IsFirstBad (IsBad : Order → List ℕ → Type 0) (order : Order) (b
   pub bad : IsBad order left
   pub number_is : number ≡ length before + 1
 
--- in a file with a right header, the first bad packet has this number
+-- In a file with a right header, packet `number` is the first bad one.
 abbrev pub IsPacketFault : (Order → List ℕ → Type 0) → List ℕ → ℕ → Type 0
 IsPacketFault IsBad bytes number = (order : Order) × HasHeader order bytes × IsFirstBad IsBad order (drop 24 bytes) number
 
 -- ---- faults
 
--- the first thing that is wrong; want of memory may come at any time
+-- The first fault; an allocation may fail at any time.
 abbrev pub IsCaptureFault : List ℕ → CaptureFault → Type 0
 IsCaptureFault bytes (Short found) = (length bytes < 24) × (found ≡ length bytes)
 IsCaptureFault bytes (BadMagic value) =

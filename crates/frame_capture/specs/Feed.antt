@@ -1,5 +1,5 @@
--- The scenario that offers the frames of a capture (profile): two honest link peers choose their calls, of which one offers
--- the frames and the other expects as many.
+-- The scenario that offers the frames of a capture (profile): two honest link peers choose their
+-- calls. One offers the frames, and the other expects as many.
 use Rattle.std.specs.Prelude.{ℕ, ◌+◌, ◌-◌, ◌*◌, ◌/◌, ◌<◌, ◌==◌, ◌&&◌, ◌⊎◌, Bool, true, nat_le, List, [], ◌∷◌, ◌++◌, length, map, filter, sum_by}
 use Rattle.std.specs.List.{range_with_len, flat_map}
 use Rattle.section_map.specs.Faults.{shape_of}
@@ -11,36 +11,36 @@ use Rattle.scenario_text.specs.Scenario.{World}
 use Rattle.scenario_text.specs.Spelling.{spelling}
 use Rattle.frame_capture.specs.declared.packets.Packet.{Packet}
 
--- a packet is offered where it holds its whole frame, of 14 to 16,402 bytes
+-- A packet is offered if it has its whole frame, of 14 to 16,402 bytes.
 abbrev pub is_offered : Packet → Bool
 is_offered p = length p.frame == p.original && nat_le 14 (length p.frame) && nat_le (length p.frame) 16402
 
--- the frames offered, in the order of their packets
+-- The frames offered, in the order of their packets.
 abbrev pub offered_frames : List Packet → List (List ℕ)
 offered_frames ps = map (λ p. p.frame) (filter is_offered ps)
 
--- what a frame counts for: its words, and 12
+-- The weight of a frame: its number of words, and 12.
 abbrev pub weight : List ℕ → ℕ
 weight frame = (length frame + 3) / 4 + 12
 
--- how often each peer takes a turn
+-- The number of rounds.
 abbrev pub round_count : List (List ℕ) → ℕ
 round_count frames = 300 + length frames / 14 + sum_by weight frames / 500
 
--- how many acts the scenario has, where a turn counts for its steps
+-- The number of acts of the scenario; a turn counts for its steps.
 abbrev pub act_count : List (List ℕ) → ℕ
 act_count frames = 2 + length frames + 2000 * round_count frames
 
--- so many rounds of one turn of each peer
+-- `count` rounds of one turn of each peer.
 unfoldable pub rounds : ℕ → List Act
 rounds count = flat_map (λ _. Turn 0 1000 ∷ Turn 1 1000 ∷ []) (range_with_len 0 count)
 
--- both peers choose their calls, this one until it has offered its frames and the other until it has delivered as many; then come
--- the rounds
+-- Both peers choose their calls, this one until it has offered its frames and the other until it
+-- has delivered as many. Then come the rounds.
 abbrev pub feed_acts : (peer : ℕ) → List (List ℕ) → List Act
 feed_acts peer frames = Auto peer 0 ∷ Auto (1 - peer) (length frames) ∷ map (λ frame. Offer peer frame) frames ++ rounds (round_count frames)
 
--- the scenario in which the peer, 0 or 1, offers these frames: sizes are in bytes
+-- The scenario in which `peer`, 0 or 1, offers these frames; sizes are in bytes.
 unfoldable pub feed_world : (peer : ℕ) → List (List ℕ) → World
 feed_world peer frames = record {
   version = 1;
@@ -51,6 +51,6 @@ feed_world peer frames = record {
   acts = feed_acts peer frames;
 }
 
--- a scenario has more acts than a scenario may have, or a longer text than is read
+-- The scenario has more acts than allowed, or a longer text than is read.
 abbrev pub IsTooLarge : World → Type 0
 IsTooLarge w = (4000000 < turns_of w.acts) ⊎ (16777216 < length (spelling w))

@@ -1,7 +1,7 @@
--- What is known of a frame that is offered.
+-- What is known of an offered frame.
 use Rattle.std.specs.Prelude.{ℕ, ◌<◌, ◌≤◌, List, length, slice_index}
 
--- it is of bytes, 14 to 16,402 of them
+-- The frame is 14 to 16,402 bytes.
 pub record IsFrame (frame : List ℕ) : Type 0 where
   pub least : 14 ≤ length frame
   pub most : length frame ≤ 16402

@@ -1,4 +1,4 @@
-//! The capture of what a history delivers.
+//! The capture of the frames that a history delivers.
 ghost use Rattle.std.specs.Prelude.{◌≡◌, ◌+◌, ◌^◌, ◌<◌, ◌≤◌, ◌++◌, All, IfOk, OnOk, length};
 ghost use Rattle.frame_capture.specs.CaptureFile.{AreShort};
 ghost use Rattle.frame_capture.specs.Deliveries.{packet_of, line_packets, capture_of, IsShortLine};
@@ -9,7 +9,8 @@ use lawful_history::Line;
 use record_text::Trace;
 use std::alloc::Global;
 
-/// The packet of a frame that the line with this number delivers: both its lengths are the frame's.
+/// Returns the packet of a frame that line `number` delivers. Both lengths of the packet are the
+/// frame's.
 fn packet(alloc: Global, number: u32, frame: &Frame) -> Result<Packet, NoMemory>
     requires { length frame.now ≤ 262144 }
     ensures { IfOk result (λ packet. packet ≡ packet_of number frame.now) }
@@ -23,7 +24,7 @@ fn packet(alloc: Global, number: u32, frame: &Frame) -> Result<Packet, NoMemory>
     })
 }
 
-/// Puts the packet of the line last, where it delivers a frame to the peer.
+/// Appends the packet of the line, if it delivers a frame to the peer.
 fn put_line(
     alloc: Global,
     packets: &mut Packets,
@@ -46,14 +47,17 @@ fn put_line(
     Ok(())
 }
 
-/// The capture of what the history delivers to the peer, 0 or 1: a packet for each frame, in their order, with the number
-/// of its line, from 1, as its time in microseconds. NoMemory says that memory ran out.
+/// Returns the capture of what the history delivers to `peer`, 0 or 1: a packet for each frame, in
+/// their order. The packet's time is the number of the line, from 1, in microseconds. Returns
+/// `NoMemory` if an allocation fails.
+// claim capture, short with frames_are_delivered: The capture of a history has the frames that the
+//    peer delivered, in order, each at the time of its line's number.
 pub fn captured(alloc: Global, trace: &Trace, peer: u32) -> Result<Capture, NoMemory>
     requires peer { peer < 2 }
     requires few { length trace.now.lines < 2 ^ 32 }
     requires short { All IsShortLine trace.now.lines }
     ensures capture { IfOk result (λ capture. capture ≡ capture_of peer trace.now.lines) }
-    // So it can be printed.
+    // The capture can be printed.
     ensures short { IfOk result (λ capture. AreShort capture.packets) }
 {
     let lines = trace.lines.items();

@@ -4,13 +4,14 @@ ghost use Rattle.std.specs.Prelude.{◌≡◌};
 use ivs_base::NoMemory;
 use thiserror::Error;
 
-/// Why bytes are no capture file that is read here. Packets are numbered from 1.
+/// Why bytes are no capture file that this crate reads. Packets are numbered from 1.
 #[derive(Clone, Copy, Debug, PartialEq, Eq, Error)]
 pub enum CaptureFault {
-    /// There are fewer than 24 bytes, this many.
+    /// The file has this number of bytes, fewer than 24.
     #[error("a capture file begins with 24 bytes, and there are {0}")]
     Short(u64),
-    /// The first four bytes are the magic number in neither byte order. The value has the first byte lowest.
+    /// The first four bytes are the magic number in neither byte order. The first byte of the value
+    /// is the lowest.
     #[error("the magic number {0} is none of a capture file")]
     BadMagic(u32),
     /// The version isn't 2.4.
@@ -25,7 +26,7 @@ pub enum CaptureFault {
     /// The file ends inside the packet.
     #[error("the file ends inside packet {0}")]
     CutPacket(u64),
-    /// Memory ran out.
+    /// An allocation failed.
     #[error("out of memory")]
     NoMemory,
 }

@@ -16,10 +16,10 @@ use split_ring::Queue;
 use std::alloc::Global;
 use thiserror::Error;
 
-/// How many steps a peer makes in its turn.
+/// The number of steps in a peer's turn line.
 const STEPS: u32 = 1000;
 
-/// The most acts of a scenario, where a turn counts for its steps.
+/// The most acts of a scenario; a turn counts for its steps.
 const MOST_ACTS: u128 = 4_000_000;
 
 /// Why a capture makes no scenario.
@@ -28,7 +28,7 @@ pub enum FeedFault {
     /// The scenario would have more than 4,000,000 acts, or a text of more than 16,777,216 bytes.
     #[error("the capture has too many frames for a scenario")]
     TooLarge,
-    /// Memory ran out.
+    /// An allocation failed.
     #[error("out of memory")]
     NoMemory,
 }
@@ -43,14 +43,14 @@ impl From<NoMemory> for FeedFault {
     }
 }
 
-/// How much a scenario takes to offer its frames.
+/// The size of a scenario: its frames and its rounds.
 #[derive(Clone, Copy, Debug)]
 struct Plan {
     frames: u64,
     rounds: u32,
 }
 
-/// Is the packet's frame offered?
+/// Whether the packet becomes an `offer` line.
 fn is_offered(packet: &Packet) -> bool
     ensures { result ≡ is_offered packet.now }
 {
@@ -58,7 +58,7 @@ fn is_offered(packet: &Packet) -> bool
     size == packet.original as usize && 14 <= size && size <= 16_402
 }
 
-/// How many frames are offered, and the sum of their weights.
+/// Returns the number of offered frames and the sum of their weights.
 fn weigh(packets: &[Packet]) -> (u64, u128)
     ensures frames { result.0 ≡ length (offered_frames packets.now) }
     ensures weight { result.1 ≡ sum_by weight (offered_frames packets.now) }
@@ -75,7 +75,7 @@ fn weigh(packets: &[Packet]) -> (u64, u128)
     (frames, weight)
 }
 
-/// The plan for these packets, if a scenario of it isn't too large.
+/// Returns the plan for these packets, if its scenario isn't too large.
 fn plan_of(packets: &[Packet]) -> Option<Plan>
     ensures frames { IfSome result (λ plan. plan.frames ≡ length (offered_frames packets.now)) }
     ensures rounds { IfSome result (λ plan. plan.rounds ≡ round_count (offered_frames packets.now)) }
@@ -93,7 +93,7 @@ fn plan_of(packets: &[Packet]) -> Option<Plan>
     })
 }
 
-/// The offer of the packet's frame.
+/// Returns the offer of the packet's frame.
 fn offer(alloc: Global, packet: &Packet, peer: u32) -> Result<Act, NoMemory>
     requires { is_offered packet.now ≡ true }
     ensures act { IfOk result (λ act. act ≡ Offer peer packet.now.frame) }
@@ -105,7 +105,7 @@ fn offer(alloc: Global, packet: &Packet, peer: u32) -> Result<Act, NoMemory>
     Ok(Act::Offer { peer, frame })
 }
 
-/// Puts the offers of the packets' frames last.
+/// Appends the offers of the packets' frames.
 fn push_offers(
     alloc: Global,
     acts: &mut Acts,
@@ -124,7 +124,7 @@ fn push_offers(
     Ok(())
 }
 
-/// Puts so many rounds last, in each of which both peers take a turn.
+/// Appends `count` rounds. In each round both peers take their turns.
 fn push_rounds(acts: &mut Acts, count: u32) -> Result<(), NoMemory>
     ensures { OnOk result (acts.new ≡ acts.old ++ rounds count) }
 {
@@ -141,7 +141,7 @@ fn push_rounds(acts: &mut Acts, count: u32) -> Result<(), NoMemory>
     Ok(())
 }
 
-/// The acts in which the peer offers the packets' frames.
+/// Returns the acts in which the peer offers the packets' frames.
 fn acts(alloc: Global, packets: &[Packet], peer: u32, plan: Plan) -> Result<Acts, NoMemory>
     requires peer { peer < 2 }
     requires frames { plan.frames ≡ length (offered_frames packets.now) }
@@ -160,7 +160,7 @@ fn acts(alloc: Global, packets: &[Packet], peer: u32, plan: Plan) -> Result<Acts
     Ok(acts)
 }
 
-/// The region: a page for the table, and 127 for each of two peers.
+/// Returns the region: a page for the State Table, and 127 pages for each of two peers.
 fn region() -> Geometry
     ensures { result ≡ shape_of 2 4096 0 520192 }
 {
@@ -170,7 +170,7 @@ fn region() -> Geometry
     }
 }
 
-/// The queue of such a section.
+/// Returns the queue of such a section.
 fn section() -> Queue
     ensures { result ≡ record { version = 1; out = 520192; mtu = 16384 } }
 {
@@ -180,12 +180,15 @@ fn section() -> Queue
     }
 }
 
-/// The scenario in which the peer, 0 or 1, offers the capture's frames: those of packets that weren't shortened, of 14 to
-/// 16,402 bytes. Both peers choose their calls, and after the offers come 300 rounds of turns, one more for each 14 frames
-/// and one more for each 500 words, where each frame counts for 12 words more. That these are enough isn't promised.
+/// Returns the scenario in which `peer`, 0 or 1, offers the capture's frames. These are the frames
+/// of 14 to 16,402 bytes whose packets weren't shortened. Both peers choose their calls. After the
+/// offers come 300 rounds of turns, one more for each 14 frames, and one more for each 500 words.
+/// Each frame counts for 12 further words. The contract doesn't promise that these rounds suffice.
 ///
-/// TooLarge comes exactly where that scenario would have more than 4,000,000 acts or a text of more than 16,777,216 bytes.
-/// NoMemory says that memory ran out.
+/// Returns `TooLarge` exactly if the scenario would have more than 4,000,000 acts or a text of more
+/// than 16,777,216 bytes. Returns `NoMemory` if an allocation fails.
+// claim made, fits, large: The scenario of a capture offers its whole packets in order, expects as
+//    many, and has the turns of its definition; or it is too large.
 pub fn scenario_of(alloc: Global, capture: &Capture, peer: u32) -> Result<Scenario, FeedFault>
     requires { peer < 2 }
     ensures made { IfOk result (λ scenario. world_of scenario ≡ feed_world peer (offered_frames capture.now.packets)) }

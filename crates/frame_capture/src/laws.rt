@@ -1,7 +1,8 @@
-//! What holds of all capture files. Each function does nothing: its contract is the law.
+//! Laws of all capture files. Each function does nothing: its contract is the law.
 ghost use Rattle.frame_capture.specs.Laws.{FileIsOfOneCapture, FaultsAreOfNoFile, FaultsAreOne, FramesAreDelivered};
 
-/// Law: bytes are a file of one capture at most. So what is printed of a capture is read as that capture.
+/// Law: bytes are a file of at most one capture. So what is printed of a capture is read as that
+/// capture.
 pub fn file_is_of_one_capture()
     ensures { FileIsOfOneCapture }
 {}
@@ -12,7 +13,8 @@ pub fn faults_are_exact()
     ensures one { FaultsAreOne }
 {}
 
-/// Law: the frames of a history's capture are those that the history delivers to the peer, in their order.
+/// Law: the frames of a history's capture are those that the history delivers to the peer, in their
+/// order.
 pub fn frames_are_delivered()
     ensures { FramesAreDelivered }
 {}

@@ -4,7 +4,7 @@ ghost use Rattle.frame_capture.specs.CaptureFile.{IsInOrder, number_at};
 
 use byteorder::{BigEndian, ByteOrder, LittleEndian};
 
-/// What a file begins with, in its byte order.
+/// The magic number at the start of a file, in the file's byte order.
 pub const MAGIC: u32 = 0xa1b2_c3d4;
 
 /// The byte order of all numbers of a file.
@@ -15,7 +15,7 @@ pub enum Order {
 }
 
 impl Order {
-    /// The order in which these bytes begin with the magic number, if there is one.
+    /// Returns the order in which these bytes begin with the magic number, if there is one.
     pub fn of(bytes: &[u8]) -> Option<Order>
         requires { 4 ≤ length bytes.now }
         ensures found { IfSome result (λ order. IsInOrder order bytes.now) }
@@ -30,7 +30,7 @@ impl Order {
         }
     }
 
-    /// The number of 16 bits at a place.
+    /// Returns the 16-bit number at byte offset `place`.
     pub fn u16_at(self, bytes: &[u8], place: usize) -> u16
         requires { place + 2 ≤ length bytes.now }
         ensures { result ≡ number_at self 2 place bytes.now }
@@ -41,7 +41,7 @@ impl Order {
         }
     }
 
-    /// The number of 32 bits at a place.
+    /// Returns the 32-bit number at byte offset `place`.
     pub fn u32_at(self, bytes: &[u8], place: usize) -> u32
         requires { place + 4 ≤ length bytes.now }
         ensures { result ≡ number_at self 4 place bytes.now }

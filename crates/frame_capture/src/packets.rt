@@ -5,14 +5,15 @@ use ivs_base::{Frame, NoMemory};
 use std::alloc::Global;
 use std::marker::Model;
 
-/// A frame that was captured, and when.
+/// A captured frame, and its time.
 #[derive(Debug, Drop)]
 pub struct Packet {
     /// The whole seconds of its time.
     pub seconds: u32,
-    /// The microseconds on top of them; a file may have more than a second of them.
+    /// The microseconds in addition to the seconds; a file may have more than a second of them.
     pub micros: u32,
-    /// How many bytes the frame had. Where that isn't the length of `frame`, the capture was shortened.
+    /// The length of the original frame, in bytes. If it isn't the length of `frame`, the capture
+    /// was shortened.
     pub original: u32,
     /// The bytes that were captured.
     pub frame: Frame,
@@ -34,7 +35,7 @@ impl Model for Packets {
 }
 
 impl Packets {
-    /// The empty list.
+    /// Returns the empty list.
     pub fn new(alloc: Global) -> Self
         ensures { result ≡ [] }
     {
@@ -43,7 +44,9 @@ impl Packets {
         }
     }
 
-    /// Puts the packet last. After NoMemory the list is unchanged and the packet is dropped.
+    /// Appends the packet. After `NoMemory` the list is unchanged and the packet is dropped.
+    // claim ok, err with Packets::new, Packets::items: A list has the items that were appended, in
+    //    order; a failed call changes nothing.
     pub fn push(&mut self, item: Packet) -> Result<(), NoMemory>
         ensures ok { OnOk result (self.new ≡ self.old ++ item ∷ []) }
         ensures err { OnErr result (self.new ≡ self.old) }
@@ -52,7 +55,7 @@ impl Packets {
         Ok(())
     }
 
-    /// The whole list.
+    /// Returns the whole list.
     pub fn items(&self) -> &[Packet]
         ensures { result.now ≡ self.now }
     {
@@ -60,11 +63,11 @@ impl Packets {
     }
 }
 
-/// What a capture file says.
+/// The contents of a capture file.
 #[derive(Debug, Drop)]
 pub struct Capture {
     /// The most bytes of a frame that were captured.
     pub snaplen: u32,
-    /// What was captured, in its order.
+    /// The packets, in their order.
     pub packets: Packets,
 }

@@ -9,7 +9,7 @@ use byteorder::{ByteOrder, LittleEndian};
 use ivs_base::NoMemory;
 use std::alloc::{AllocError, Global};
 
-/// Puts a number of 16 bits last.
+/// Appends a 16-bit number.
 fn put_u16(out: &mut Vec<u8>, number: u16) -> Result<(), AllocError>
     ensures { OnOk result (out.new.items ≡ out.old.items ++ little_bytes 2 number) }
 {
@@ -18,7 +18,7 @@ fn put_u16(out: &mut Vec<u8>, number: u16) -> Result<(), AllocError>
     out.extend_from_slice(&bytes)
 }
 
-/// Puts a number of 32 bits last.
+/// Appends a 32-bit number.
 fn put_u32(out: &mut Vec<u8>, number: u32) -> Result<(), AllocError>
     ensures { OnOk result (out.new.items ≡ out.old.items ++ little_bytes 4 number) }
 {
@@ -27,7 +27,7 @@ fn put_u32(out: &mut Vec<u8>, number: u32) -> Result<(), AllocError>
     out.extend_from_slice(&bytes)
 }
 
-/// Puts the header last.
+/// Appends the header.
 fn put_header(out: &mut Vec<u8>, snaplen: u32) -> Result<(), AllocError>
     ensures put { OnOk result (out.new.items ≡ out.old.items ++ header_bytes Order.Little 0 0 snaplen) }
     ensures fits { OnOk result (snaplen < 2 ^ 32) }
@@ -41,7 +41,7 @@ fn put_header(out: &mut Vec<u8>, snaplen: u32) -> Result<(), AllocError>
     put_u32(out, 1)
 }
 
-/// Puts the packet last.
+/// Appends the packet.
 fn put_packet(out: &mut Vec<u8>, packet: &Packet) -> Result<(), AllocError>
     requires { length packet.now.frame ≤ 262144 }
     ensures put { OnOk result (out.new.items ≡ out.old.items ++ packet_bytes Order.Little packet.now) }
@@ -55,7 +55,7 @@ fn put_packet(out: &mut Vec<u8>, packet: &Packet) -> Result<(), AllocError>
     out.extend_from_slice(frame)
 }
 
-/// Puts the packets last.
+/// Appends the packets.
 fn put_packets(out: &mut Vec<u8>, all: &[Packet]) -> Result<(), AllocError>
     requires { AreShort all.now }
     ensures put { OnOk result (out.new.items ≡ out.old.items ++ packets_bytes Order.Little all.now) }
@@ -67,7 +67,9 @@ fn put_packets(out: &mut Vec<u8>, all: &[Packet]) -> Result<(), AllocError>
     Ok(())
 }
 
-/// The file of the capture in little-endian order, with zone and figures 0. NoMemory says that memory ran out.
+/// Returns the file of the capture in little-endian order, with zone and figures 0. Returns
+/// `NoMemory` if an allocation fails.
+// claim printed, file: What is written is a file of the capture, which is read again.
 pub fn print(alloc: Global, capture: &Capture) -> Result<Vec<u8>, NoMemory>
     requires { AreShort capture.now.packets }
     ensures printed { IfOk result (λ bytes. bytes.items

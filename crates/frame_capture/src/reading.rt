@@ -12,16 +12,16 @@ use ivs_base::{Frame, NoMemory};
 use std::alloc::Global;
 use thiserror::Error;
 
-/// The bytes before the packets.
+/// The length of the header before the packets, in bytes.
 const HEADER: usize = 24;
 
-/// The bytes of a packet before those of its frame.
+/// The length of a packet's header before its frame, in bytes.
 const PACKET_HEADER: usize = 16;
 
-/// The most bytes of a frame that a packet has here.
+/// The most bytes of a frame that a packet may have here.
 const MOST: usize = 262_144;
 
-/// Why bytes begin with no packet.
+/// Why bytes don't begin with a packet.
 #[derive(Clone, Copy, Debug, Error)]
 pub enum Damage {
     /// The captured length is above the most.
@@ -30,7 +30,7 @@ pub enum Damage {
     /// The bytes end inside the packet.
     #[error("the file ends inside the packet")]
     Cut,
-    /// Memory ran out.
+    /// An allocation failed.
     #[error("out of memory")]
     NoMemory,
 }
@@ -46,7 +46,7 @@ impl From<NoMemory> for Damage {
 }
 
 impl Damage {
-    /// The fault of the packet with this number.
+    /// Returns the fault of packet `number`.
     fn at(self, number: u64) -> CaptureFault
         ensures { result ≡ fault_at self number }
     {
@@ -58,7 +58,7 @@ impl Damage {
     }
 }
 
-/// The packet that these bytes begin with.
+/// Returns the packet at the start of these bytes.
 fn read_packet(alloc: Global, order: Order, bytes: &[u8]) -> Result<Packet, Damage>
     requires { 0 < length bytes.now }
     ensures packet { IfOk result (λ p. StartsWith order p bytes.now) }
@@ -83,7 +83,7 @@ fn read_packet(alloc: Global, order: Order, bytes: &[u8]) -> Result<Packet, Dama
     })
 }
 
-/// The packets that these bytes are, up to their end.
+/// Returns the packets that these bytes are, up to their end.
 fn read_packets(alloc: Global, order: Order, bytes: &[u8]) -> Result<Packets, CaptureFault>
     ensures each { IfOk result (λ ps. All IsPacket ps) }
     ensures spelled { IfOk result (λ ps. bytes.now ≡ packets_bytes order ps) }
@@ -102,14 +102,22 @@ fn read_packets(alloc: Global, order: Order, bytes: &[u8]) -> Result<Packets, Ca
     Ok(all)
 }
 
-/// The capture that a file is of.
+/// Returns the capture that a file holds.
 ///
-/// The first thing that is wrong is the error, in this order: Short, BadMagic, BadVersion, BadLinkType; then, packet by
-/// packet, CutPacket where its 16 bytes aren't there, BadPacket where its captured length is above 262,144, CutPacket
-/// where its bytes aren't all there. Zone and figures may be any, and the captured length may differ from the original one.
+/// Returns the first fault of the file otherwise: Short, BadMagic, BadVersion and BadLinkType, in
+/// this order, and then the faults of each packet. A packet's faults are, in this order:
+/// - CutPacket: its 16 bytes aren't all there.
+/// - BadPacket: its captured length is above 262,144.
+/// - CutPacket: the bytes of its frame aren't all there.
+///
+/// Zone and figures may have any value. The captured length may differ from the original one.
+// claim file, short with file_is_of_one_capture: Bytes are read as a capture exactly if they are a
+//    file of it, in either byte order. A file is of one capture.
+// claim fault with faults_are_exact.no_file, faults_are_exact.one: A fault is the first one in
+//    reading order, with its numbers. Bytes have one answer.
 pub fn parse(alloc: Global, bytes: &[u8]) -> Result<Capture, CaptureFault>
     ensures file { IfOk result (λ capture. IsCaptureFile capture bytes.now) }
-    // So it can be printed.
+    // The capture can be printed.
     ensures short { IfOk result (λ capture. AreShort capture.packets) }
     ensures fault { IfErr result (IsCaptureFault bytes.now) }
 {

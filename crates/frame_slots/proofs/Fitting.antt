@@ -1,4 +1,4 @@
--- A frame that is placed stands inside the section.
+-- A placed frame is inside the section.
 use Rattle.std.proofs.Common.{◌≡◌, ℕ, ◌+◌, ◌*◌, ◌<◌, ◌≤◌, Bool, true, false, cond, refl, ap, arith}
 use Rattle.std.specs.Prelude.{◌==◌, nat_lt, nat_le, ◌&&◌}
 use Rattle.std.proofs.lemmas.Bool.Decides.{nat_tests}
@@ -12,7 +12,7 @@ use Rattle.frame_slots.specs.Allocator.{Allocator, IsAllocator, IsInFlight, ring
 use Rattle.frame_slots.specs.Refinement.{IsOldest}
 use Rattle.frame_slots.proofs.Rounds.{next_alone}
 
--- a frame fits the area
+-- A frame fits into the area.
 pub ring_fits : (q : Sizes) (len : ℕ) → IsQueue q → len ≤ q.mtu + 18 → ring_bytes q len ≤ data_area_len q
 ring_fits q len is short = let one = is.one_slot in pick (is_byte_ring q) (omega arith)
   where
@@ -20,7 +20,7 @@ ring_fits q len is short = let one = is.one_slot in pick (is_byte_ring q) (omega
     pick true h = h
     pick false h = omega arith
 
--- and so does its slot
+-- The slot of a frame is inside the section.
 pub slot_fits : (q : Sizes) (i : ℕ) → IsQueue q → is_byte_ring q ≡ false → i < limit_of q → data_area_start q + slot_of q * i + slot_of q ≤ q.out
 unfolding limit_of
 slot_fits q i is none below =
@@ -29,7 +29,7 @@ slot_fits q i is none below =
     let one : slot_of q * (i + 1) ≤ slot_of q * slots_of q = mul-le-mul_left (slot_of q) (omega (arith, limit_is, below)) in
     omega arith
 
--- the bytes at which a frame is placed end in the area
+-- The bytes of a placed frame end in the area.
 start_fits : (room ended bytes : ℕ) → bytes ≤ room → start_after room ended bytes + bytes ≤ room
 start_fits room ended bytes fits = after_is (λ b. b + bytes ≤ room) room ended bytes (λ le. le) (λ over. omega arith)
 
@@ -45,7 +45,7 @@ frame_fits t len is wrap short = pick (is_byte_ring t.sizes) refl
         omega arith
     pick false slots = let h = slot_fits t.sizes t.next is slots wrap.next in omega arith
 
--- a frame that has room is one more than fewer in flight than may be
+-- If a frame fits, the number of frames in flight is below the limit.
 pub few_of : (t : Allocator) (len : ℕ) → has_room_in t len ≡ true → t.in_flight < limit_of t.sizes
 few_of t len room = less_of _ _ (and_first _ _ room)
   where
@@ -59,11 +59,11 @@ few_of t len room = less_of _ _ (and_first _ _ room)
     and_first true b h = refl
     and_first false b h = h
 
--- so its descriptor isn't in flight
+-- If a frame fits, its descriptor isn't in flight.
 pub alone_of : (t : Allocator) (len : ℕ) → IsAllocator t → has_room_in t len ≡ true → ¬ IsInFlight t t.next
 alone_of t len is room = next_alone t is (few_of t len room)
 
--- the oldest frame in flight ends in the area
+-- The oldest frame in flight ends in the area.
 pub oldest_fits : (t : Allocator) (len : ℕ) → IsOldest t len → t.head + ring_bytes t.sizes len ≤ data_area_len t.sizes
 oldest_fits t len (length_of, freed, sent, refines, some, is) = pick (is_byte_ring t.sizes) refl
   where

@@ -1,4 +1,4 @@
--- The numbers of a turn stand for the frames of a session.
+-- The allocator's numbers refine the frames of a session.
 use Rattle.std.proofs.Common.{◌≡◌, ◌≢◌, ℕ, zero, suc, ◌+◌, ◌-◌, ◌%◌, ◌<◌, ◌≤◌, ◌⊎◌, inl, inr, ⊎_elim, Bool, true, false, cond, refl, sym, ap, ◌∙◌, subst, arith, eq-eqb, ne_eqb}
 use mathlib.Core.Logic.{dite}
 use native.Mathlib.Decide.{ℕ_discrete, dec_lt}
@@ -14,7 +14,7 @@ use Rattle.frame_slots.specs.Allocator.{Allocator, initial_allocator, ring_bytes
 use Rattle.frame_slots.specs.Refinement.{ring_end, AreContiguous, WrapsOnce, RingRefinesSession, RefinesSession, AllocatorRefinesSession}
 use Rattle.frame_slots.proofs.Fitting.{ring_fits, few_of}
 
--- a frame starts after the end of the frame before it, or at 0
+-- A frame starts after the end of the frame before it, or at 0.
 start_is : (room : ℕ) (length_of : ℕ → ℕ) (k : ℕ) → ring_start room length_of k ≡ start_after room (ring_end room length_of k) (up64 (length_of k))
 unfolding ring_start ring_end
 start_is room length_of zero = sym (after_is (λ b. b ≡ 0) room 0 (up64 (length_of zero)) (λ _. refl) (λ _. refl))
@@ -24,7 +24,7 @@ end_is : (room : ℕ) (length_of : ℕ → ℕ) (k : ℕ) → ring_end room leng
 unfolding ring_end
 end_is room length_of k = let e : k + 1 ≡ suc k = omega arith in ap (ring_end room length_of) e
 
--- the two ways that a frame starts
+-- The two cases of a frame's start.
 starts : (room : ℕ) (length_of : ℕ → ℕ) (k : ℕ) →
     ((ring_end room length_of k + up64 (length_of k) ≤ room) × (ring_start room length_of k ≡ ring_end room length_of k)) ⊎
     ((room < ring_end room length_of k + up64 (length_of k)) × (ring_start room length_of k ≡ 0))
@@ -36,7 +36,7 @@ starts room length_of k = dite (dec_lt room (ring_end room length_of k + up64 (l
           after_is (λ b. b ≡ ring_end room length_of k) room (ring_end room length_of k) (up64 (length_of k)) (λ _. refl) (λ lt. absurd (omega arith)),
     ))
 
--- where frames go straight, they lie between the first start and the last end
+-- Contiguous frames are between the first start and the last end.
 climbs : (room : ℕ) (length_of : ℕ → ℕ) (m n k : ℕ) → AreContiguous room length_of m n → m ≤ k → k < n →
     (ring_start room length_of m ≤ ring_start room length_of k) × (ring_start room length_of k + up64 (length_of k) ≤ ring_end room length_of n)
 unfolding ring_end
@@ -55,7 +55,7 @@ climbs room length_of m (suc n) k straight from below = dite (ℕ_discrete k n)
     (λ ne. let before = climbs room length_of m n k (λ j a b. straight j a (omega arith)) from (omega arith) in
     let low = before.0 in let up = before.1 in let here = straight n (omega arith) (omega arith) in (low, omega arith))
 
--- what the test says of a ring of bytes
+-- The meaning of the test for a byte ring.
 abbrev SaysRoom : (room count head tail bytes : ℕ) → Type 0
 SaysRoom room count head tail bytes =
     (count ≡ 0) ⊎ (((tail ≤ head) × (tail + bytes ≤ head)) ⊎ ((head < tail) × ((tail + bytes ≤ room) ⊎ (bytes ≤ head))))
@@ -74,12 +74,12 @@ says_of room count head tail bytes h = dite (ℕ_discrete count 0) inl (λ ne. i
     (λ lt. inr (lt, dite (dec_lt room (tail + bytes)) (λ over. inr (grind (arith, nat_tests))) (λ le. inl (omega arith))))
     (λ ge. inl (omega arith, grind (arith, nat_tests)))))
 
--- where a frame would start after the sent ones
+-- The bytes of the next frame are apart from all frames in flight.
 abbrev NextFree : (room : ℕ) (length_of : ℕ → ℕ) (freed sent : ℕ) → Type 0
 NextFree room length_of freed sent =
     (k : ℕ) → freed ≤ k → k < sent → AreApart (ring_start room length_of k) (up64 (length_of k)) (ring_start room length_of sent) (up64 (length_of sent))
 
--- where the frames in flight have not passed the end, the first of them is below the tail
+-- If the frames in flight haven't wrapped, the first of them starts below the tail.
 straight_below : (t : Allocator) (room : ℕ) (length_of : ℕ → ℕ) (freed sent : ℕ) → RingRefinesSession t room length_of freed sent → AreContiguous room length_of freed sent → freed < sent →
     t.head < t.tail
 straight_below t room length_of freed sent h straight lt =
@@ -123,7 +123,7 @@ free_of t room length_of freed sent order h says = by_run h.run
     by_run (inl straight) = straight_free straight
     by_run (inr r) = passed_free r
 
--- where the bytes are free, the test says so
+-- If the bytes are free, the test is true.
 needs_test : (t : Allocator) (room : ℕ) (length_of : ℕ → ℕ) (freed sent : ℕ) → freed ≤ sent → RingRefinesSession t room length_of freed sent → 1 ≤ length_of sent →
     NextFree room length_of freed sent → SaysRoom room (sent - freed) t.head t.tail (up64 (length_of sent))
 needs_test t room length_of freed sent order h some free = dite (ℕ_discrete freed sent) (λ e. inl (omega arith)) (λ ne. inr (by_run (omega arith) h.run))
@@ -153,7 +153,7 @@ needs_test t room length_of freed sent order h some free = dite (ℕ_discrete fr
               (starts room length_of sent),
         )
 
--- a straight run with one frame more
+-- Contiguous frames with one frame more.
 straight_more : (room : ℕ) (length_of : ℕ → ℕ) (m n : ℕ) → AreContiguous room length_of m n → (m < n → ring_start room length_of n ≡ ring_end room length_of n) →
     AreContiguous room length_of m (n + 1)
 straight_more room length_of m n straight last k from below = dite (ℕ_discrete k n)
@@ -172,7 +172,7 @@ fits_test a b h = grind (arith, nat_tests)
 over_test : (a b : ℕ) → b < a → nat_le a b ≡ false
 over_test a b h = grind (arith, nat_tests)
 
--- a frame is placed in a ring of bytes
+-- A frame is placed in a byte ring.
 ring_places : (t n : Allocator) (room : ℕ) (length_of : ℕ → ℕ) (freed sent bytes : ℕ) → bytes ≡ up64 (length_of sent) → freed ≤ sent → RingRefinesSession t room length_of freed sent →
     1 ≤ length_of sent → bytes ≤ room → SaysRoom room (sent - freed) t.head t.tail bytes →
     n.head ≡ cond (sent - freed == 0) (start_after room t.tail bytes) t.head → n.tail ≡ start_after room t.tail bytes + bytes →
@@ -247,7 +247,7 @@ both_false a b c d (inr ne) = dite (dec_lt a b) (λ lt. grind (arith, nat_tests)
 both_true : (a b c d : ℕ) → b ≤ a → c ≡ d → (nat_le b a && (c == d)) ≡ true
 both_true a b c d le e = grind (arith, nat_tests)
 
--- the oldest frame is freed in a ring of bytes
+-- The oldest frame is freed in a byte ring.
 ring_frees : (t n : Allocator) (room : ℕ) (length_of : ℕ → ℕ) (freed sent bytes : ℕ) → bytes ≡ up64 (length_of freed) → RingRefinesSession t room length_of freed sent → freed < sent →
     n.head ≡ second_start t bytes → n.tail ≡ t.tail → n.left ≡ t.left → RingRefinesSession n room length_of (freed + 1) sent
 ring_frees t n room length_of freed sent bytes bytes_is h lt head_is tail_is left_is = by_run h.run
@@ -301,7 +301,7 @@ end_told room length_of others (suc k) same =
     let start = ring_told room length_of others k (λ j le. same j (omega arith)) in
     ap (λ a. a + up64 (length_of k)) start ∙ ap (λ l. ring_start room others k + up64 l) (same k (omega arith))
 
--- the numbers stand for the frames, whatever lengths follow
+-- The lengths of frames from `sent` on make no difference.
 ring_told_of : (t : Allocator) (room : ℕ) (length_of others : ℕ → ℕ) (freed sent : ℕ) → ((j : ℕ) → j < sent → length_of j ≡ others j) →
     RingRefinesSession t room length_of freed sent → RingRefinesSession t room others freed sent
 ring_told_of t room length_of others freed sent same h = record {
@@ -333,7 +333,7 @@ ring_told_of t room length_of others freed sent same h = record {
     goes : (a b : ℕ) → b ≤ sent → AreContiguous room length_of a b → AreContiguous room others a b
     goes a b le straight k from below = sym (start k (omega arith)) ∙ (straight k from below ∙ ends k (omega arith))
 
--- bytes of the area, and the same bytes of the section
+-- Bytes that are apart in the area are apart in the section.
 moved : (base a m b n : ℕ) → AreApart a m b n → AreApart (base + a) m (base + b) n
 moved base a m b n (inl h) = inl (omega arith)
 moved base a m b n (inr h) = inr (omega arith)
@@ -347,7 +347,7 @@ same_test true b h g = sym (h refl)
 same_test false true h g = g refl
 same_test false false h g = refl
 
--- where a frame of a ring starts in the section
+-- The start of a frame of a byte ring, as an offset in the section.
 ring_start_is : (q : Sizes) (length_of : ℕ → ℕ) (k : ℕ) → is_byte_ring q ≡ true → start_of q length_of k ≡ data_area_start q + ring_start (data_area_len q) length_of k
 unfolding start_of
 ring_start_is q length_of k ring = ap (λ b. cond b (data_area_start q + ring_start (data_area_len q) length_of k) (offset_of q (FrameSlot (k % limit_of q)))) ring
@@ -364,14 +364,14 @@ apart_as : (a m b n a1 m1 b1 n1 : ℕ) → a ≡ a1 → m ≡ m1 → b ≡ b1 �
 apart_as a m b n a1 m1 b1 n1 ea em eb en (inl h) = inl (omega arith)
 apart_as a m b n a1 m1 b1 n1 ea em eb en (inr h) = inr (omega arith)
 
--- the bytes of a ring that a frame takes
+-- The footprint of a frame in a byte ring.
 bytes_in_ring : (q : Sizes) (bytes : ℕ) → is_byte_ring q ≡ true → ring_bytes q bytes ≡ up64 bytes
 bytes_in_ring q bytes ring = ap (λ b. cond b (up64 bytes) 0) ring
 
 bytes_in_slots : (q : Sizes) (bytes : ℕ) → is_byte_ring q ≡ false → ring_bytes q bytes ≡ 0
 bytes_in_slots q bytes none = ap (λ b. cond b (up64 bytes) 0) none
 
--- the test by the numbers says that few are in flight, and what it says of the ring
+-- If the test is true, the number of frames in flight is below the limit, and the bytes are free.
 room_of_test : (t : Allocator) (bytes : ℕ) → has_room_in t bytes ≡ true → (t.in_flight < limit_of t.sizes) × (has_bytes (data_area_len t.sizes) t.in_flight t.head t.tail (ring_bytes t.sizes bytes) ≡ true)
 room_of_test t bytes room = (few_of t bytes room, and_second _ _ room)
   where
@@ -388,7 +388,8 @@ test_of_room t bytes lt h = ap (λ b. b && has_bytes (data_area_len t.sizes) t.i
     less : nat_lt t.in_flight (limit_of t.sizes) ≡ true
     less = grind (arith, nat_tests)
 
--- a session has room where few are in flight and the frame is apart from each of them
+-- A frame fits in a session if the number of frames in flight is below the limit and the frame is
+-- apart from each of them.
 room_of_session : (q : Sizes) (length_of : ℕ → ℕ) (freed sent : ℕ) → freed ≤ sent → is_byte_ring q ≡ true → sent < freed + limit_of q → NextFree (data_area_len q) length_of freed sent →
     has_room q length_of freed sent ≡ true
 unfolding has_room
@@ -415,7 +416,7 @@ free_of_session q length_of freed sent is ring room k from below =
     (ring_start_is q length_of k ring) (ring_takes q (length_of k) ring) (ring_start_is q length_of sent ring) (ring_takes q (length_of sent) ring)
     (frames_lem.apart q length_of freed sent k is room from below))
 
--- with slots the numbers of the ring are 0, and the test looks at the count alone
+-- With slots the numbers of the byte ring are 0, and the test depends on the count alone.
 slots_say : (count : ℕ) (room head tail bytes : ℕ) → head ≡ 0 → tail ≡ 0 → bytes ≡ 0 → has_bytes room count head tail bytes ≡ true
 slots_say count room head tail bytes h t b = test_of room count head tail bytes (inr (inl (omega arith, omega arith)))
 
@@ -473,7 +474,7 @@ places t length_of freed sent is h least most room =
         ap (λ b. cond b (data_area_start t.sizes + next_start t (length_of sent)) (offset_of t.sizes (FrameSlot t.next))) none ∙
         (ap (λ i. offset_of t.sizes (FrameSlot i)) h.next ∙ sym (slot_start_is t.sizes length_of sent none))
 
--- with slots the numbers of the ring stay 0
+-- With slots the numbers of the byte ring stay 0.
 slots_stay : (room ended bytes : ℕ) → ended ≡ 0 → bytes ≡ 0 → start_after room ended bytes ≡ 0
 slots_stay room ended bytes e b = after_is (λ s. s ≡ 0) room ended bytes (λ _. e) (λ _. refl)
 

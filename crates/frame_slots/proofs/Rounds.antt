@@ -1,11 +1,11 @@
--- Descriptors go round modulo the limit, and so do those of the frames in flight.
+-- Descriptors are used modulo the limit, and so are the descriptors in flight.
 use Rattle.std.proofs.Common.{◌≡◌, ◌≢◌, ℕ, ◌+◌, ◌-◌, ◌%◌, ◌<◌, ◌≤◌, ◌⊎◌, arith, inl, inr, ap, sym, ◌∙◌}
 use Rattle.std.proofs.Math.Nat.{mod-eq_of_lt, add-mod_right, mod_self, sub-zero}
 use Rattle.std.proofs.lemmas.Bool.{cases_lt}
 use Rattle.split_ring.specs.Layout.{limit_of}
 use Rattle.frame_slots.specs.Allocator.{Allocator, IsAllocator, IsInFlight, oldest_of, with_placed, with_freed, DescriptorsAreReusedInOrder}
 
--- so many turns before the next of c descriptors
+-- The descriptor `turns` before the next of c descriptors.
 abbrev back : (next c turns : ℕ) → ℕ
 back next c turns = (next + c - turns) % c
 
@@ -18,7 +18,7 @@ back_near next c turns in_range near =
 back_far : (next c turns : ℕ) → next < turns → turns ≤ c → next < c → back next c turns ≡ next + c - turns
 back_far next c turns far within in_range = mod-eq_of_lt (omega arith)
 
--- one turn on, each descriptor is one more turn before
+-- After the next descriptor advances, each descriptor is one more before it.
 back_on : (next c turns : ℕ) → next < c → turns < c → back ((next + 1) % c) c (turns + 1) ≡ back next c turns
 back_on next c turns in_range within =
     elim (cases_lt (next + 1) c) [
@@ -34,7 +34,7 @@ back_on next c turns in_range within =
           ap (λ n. back n c (turns + 1)) begins ∙ (far ∙ (omega (arith, near)))
     ]
 
--- descriptors before the next one differ
+-- The descriptors before the next one are all different.
 back_apart : (next c fewer more : ℕ) → next < c → fewer < more → more ≤ c → 0 < fewer → back next c fewer ≢ back next c more
 back_apart next c fewer more in_range less within some same =
     elim (cases_lt next fewer) [
@@ -46,7 +46,7 @@ back_apart next c fewer more in_range less within some same =
           ]
     ]
 
--- the placed descriptor, or one that was in flight
+-- A descriptor in flight is the placed one, or was in flight before.
 joins : (t : Allocator) (bytes descriptor : ℕ) → IsAllocator t → t.in_flight < limit_of t.sizes → IsInFlight (with_placed t bytes) descriptor → IsInFlight t descriptor ⊎ (descriptor ≡ t.next)
 joins t bytes descriptor is room (turns, some, within, same) =
     let c = limit_of t.sizes in
@@ -85,7 +85,7 @@ goes_round = record {
   freed = λ t bytes descriptor is some_there. (leaves t bytes descriptor is some_there, stays t bytes descriptor is some_there);
 }
 
--- the next descriptor isn't in flight where fewer are than may be
+-- The next descriptor isn't in flight if the number of frames in flight is below the limit.
 pub next_alone : (t : Allocator) → IsAllocator t → t.in_flight < limit_of t.sizes → ¬ IsInFlight t t.next
 next_alone t is few (turns, some, within, same) =
     elim (cases_lt t.next turns) [

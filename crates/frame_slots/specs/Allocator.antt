@@ -1,13 +1,15 @@
--- The descriptors of a section, which are given out in turn, and the bytes of its data area that go with them (profile).
+-- The allocator of a section: its descriptors, which are used in order, and the bytes of its data
+-- area that belong to them (profile).
 use Rattle.std.specs.Prelude.{◌≡◌, ◌≢◌, ℕ, ◌+◌, ◌-◌, ◌%◌, ◌<◌, ◌≤◌, ◌⊎◌, ◌↔◌, Bool, ◌&&◌, ◌||◌, ◌==◌, nat_lt, nat_le, if◌then◌else◌}
 use Rattle.ivs_base.specs.Numbers.{up64}
 use Rattle.split_ring.specs.Layout.{Sizes, IsQueue, FrameSlot, is_byte_ring, data_area_len, slots_of, limit_of, data_area_start, offset_of, HasByte}
 use Rattle.split_ring.specs.Frames.{start_after}
 use Rattle.frame_slots.specs.declared.slots.Slot as slots
 
--- whose turn it is: the sizes of the queue, the next descriptor, and how many frames are in flight; and of a ring of bytes, by bytes of the
--- area, where the oldest of these frames starts, where the newest one placed ended, and where the frames in flight left the end of the area.
--- With slots these three are 0
+-- The state of the allocator: the sizes of the queue, the next descriptor, and the number of frames
+-- in flight. In a byte ring three bytes of the area follow: the start of the oldest frame in
+-- flight, the end of the newest frame placed, and the end of the last frame before the wrap. With
+-- slots these three are 0.
 pub record Allocator : Type 0 where
   pub sizes : Sizes
   pub next : ℕ
@@ -16,54 +18,60 @@ pub record Allocator : Type 0 where
   pub tail : ℕ
   pub left : ℕ
 
--- nothing was placed yet
+-- The initial allocator: no frame was placed.
 abbrev pub initial_allocator : Sizes → Allocator
 initial_allocator sizes = record { sizes = sizes; next = 0; in_flight = 0; head = 0; tail = 0; left = 0 }
 
--- no more frames are in flight than may be, and the bytes are those of the area
+-- The invariant of an allocator: the number of frames in flight is at most the limit, and the three
+-- bytes are in the area.
 pub record IsAllocator (t : Allocator) : Type 0 where
   pub next : t.next < limit_of t.sizes
   pub in_flight : t.in_flight ≤ limit_of t.sizes
   pub head : t.head ≤ data_area_len t.sizes
   pub tail : t.tail ≤ data_area_len t.sizes
 
--- the descriptor that is so many turns before the next one
+-- The descriptor `turns` before the next one.
 abbrev pub descriptor_before : Allocator → ℕ → ℕ
 descriptor_before t turns = (t.next + limit_of t.sizes - turns) % limit_of t.sizes
 
--- a descriptor is in flight where it is one of those before the next one, as many as are in flight
+-- A descriptor is in flight exactly if it is one of the `in_flight` descriptors before the next
+-- one.
 abbrev pub IsInFlight : Allocator → ℕ → Type 0
 IsInFlight t descriptor = (turns : ℕ) × (0 < turns) × (turns ≤ t.in_flight) × (descriptor ≡ descriptor_before t turns)
 
--- the descriptor of the oldest frame in flight
+-- The descriptor of the oldest frame in flight.
 abbrev pub oldest_of : Allocator → ℕ
 oldest_of t = descriptor_before t t.in_flight
 
--- the bytes of the ring that a frame of so many bytes takes: the next multiple of 64, and none where there are slots
+-- The number of bytes of the byte ring that a frame of `bytes` bytes occupies: the next multiple of
+-- 64, and 0 with slots.
 abbrev pub ring_bytes : Sizes → ℕ → ℕ
 ring_bytes sizes bytes = if is_byte_ring sizes then up64 bytes else 0
 
--- so many bytes of the ring are free after the newest frame, where some are in flight: if these passed the end of the area, up to the oldest one;
--- else up to the end, or from its first byte on up to the oldest
+-- `bytes` bytes of the byte ring are free after the newest frame, if at least one frame is in
+-- flight. If the frames in flight wrapped, the free bytes end at the oldest frame. If not, they end
+-- at the end of the area, or they begin at byte 0 and end at the oldest frame.
 abbrev pub bytes_are_free : (room head tail bytes : ℕ) → Bool
 bytes_are_free room head tail bytes = if nat_le tail head then nat_le (tail + bytes) head else (nat_le (tail + bytes) room || nat_le bytes head)
 
--- one more frame of so many bytes has room: fewer than may be are in flight, and its bytes are free
+-- Another frame of `bytes` bytes fits: the number of frames in flight is below the limit, and its
+-- bytes are free.
 abbrev pub has_room_in : Allocator → (bytes : ℕ) → Bool
 has_room_in t bytes = nat_lt t.in_flight (limit_of t.sizes) && (t.in_flight == 0 || bytes_are_free (data_area_len t.sizes) t.head t.tail (ring_bytes t.sizes bytes))
 
--- the byte of the area at which it starts
+-- The byte of the area at which the next frame starts.
 abbrev pub next_start : Allocator → (bytes : ℕ) → ℕ
 next_start t bytes = start_after (data_area_len t.sizes) t.tail (ring_bytes t.sizes bytes)
 
--- it gets the next descriptor, and stands at its byte of the ring, or in the slot of that descriptor
+-- The slot of the next frame: the next descriptor, and the frame's byte of the byte ring or the
+-- start of the descriptor's slot.
 abbrev pub next_slot : Allocator → (bytes : ℕ) → slots.Slot
 next_slot t bytes = record {
   descriptor = t.next;
   address = if is_byte_ring t.sizes then data_area_start t.sizes + next_start t bytes else offset_of t.sizes (FrameSlot t.next);
 }
 
--- one more frame is in flight
+-- One more frame is in flight.
 abbrev pub with_placed : Allocator → (bytes : ℕ) → Allocator
 with_placed t bytes = record {
   sizes = t.sizes;
@@ -74,20 +82,21 @@ with_placed t bytes = record {
   left = if nat_le (t.tail + ring_bytes t.sizes bytes) (data_area_len t.sizes) then t.left else t.tail;
 }
 
--- the byte of the area at which the frame after the oldest one starts: its first where the frames in flight passed the end after the oldest
+-- The byte of the area at which the frame after the oldest one starts: byte 0 if the frames in
+-- flight wrapped after the oldest one.
 abbrev pub second_start : Allocator → (bytes : ℕ) → ℕ
 second_start t bytes = if nat_le t.tail t.head && (t.head + bytes == t.left) then 0 else t.head + bytes
 
--- one frame less is in flight: the oldest, of so many bytes
+-- The oldest frame, of `bytes` bytes, is freed.
 abbrev pub with_freed : Allocator → (bytes : ℕ) → Allocator
 with_freed t bytes = record t { in_flight = t.in_flight - 1; head = second_start t (ring_bytes t.sizes bytes) }
 
--- the slots of two descriptors share no byte
+-- The slots of two descriptors share no byte.
 abbrev pub SlotsAreApart : Type 0
 SlotsAreApart = (q : Sizes) (i j b : ℕ) → IsQueue q → i < slots_of q → j < slots_of q →
     HasByte q (FrameSlot i) b → HasByte q (FrameSlot j) b → i ≡ j
 
--- a placed descriptor joins those in flight, and the oldest one leaves them when it is freed
+-- A placed descriptor joins those in flight, and the oldest one leaves them at its free.
 pub record DescriptorsAreReusedInOrder : Type 0 where
   pub placed : (t : Allocator) (bytes descriptor : ℕ) → IsAllocator t → t.in_flight < limit_of t.sizes →
       IsInFlight (with_placed t bytes) descriptor ↔ (IsInFlight t descriptor ⊎ (descriptor ≡ t.next))

@@ -1,4 +1,4 @@
-//! Which descriptor a frame gets, and where it stands.
+//! The descriptor and the place of each frame.
 ghost use Rattle.std.specs.Prelude.{◌≡◌, ◌+◌, ◌<◌, ◌≤◌, IfSome, MatchOption};
 ghost use Rattle.std.specs.Prelude.{◌^◌, true, false};
 ghost use Rattle.split_ring.specs.Layout.{limit_of, data_area_len};
@@ -10,20 +10,20 @@ use ivs_base::up64;
 use split_ring::{Queue, queues_are_laid_out};
 use std::marker::Model;
 
-/// Where a frame is put: a descriptor, and its slot or its bytes of the ring.
+/// The place of a frame: a descriptor, and the start of its slot or of its bytes of the byte ring.
 #[derive(Clone, Copy, Debug, PartialEq, Eq)]
 pub struct Slot {
     /// The number of the descriptor.
     pub descriptor: u32,
-    /// The byte of the section at which the frame begins.
+    /// The offset in bytes, from the start of the section, at which the frame begins.
     pub address: u32,
 }
 
-/// The name of a slot in the fixed public surface.
+/// The name of `Slot` in the public interface.
 pub type Place = Slot;
 
-/// The descriptors of a section, with their slots or, in a ring of bytes, with the bytes of each frame. Frames are freed in the order in
-/// which they were placed.
+/// The descriptors of a section, with their slots or, in a byte ring, with the bytes of each frame.
+/// Frames are freed in the order in which they were placed.
 #[derive(Clone, Copy, Debug)]
 pub struct Slots {
     queue: Queue,
@@ -47,7 +47,9 @@ impl Model for Slots {
 }
 
 impl Slots {
-    /// The slots of a section of this queue: no frame is in flight.
+    /// Returns the slots of a section of this queue, with no frame in flight.
+    // claim with Slots::reset, Slots::in_flight.count, Slots::in_flight.bounds: New slots, and
+    //    slots that begin anew, have no frame in flight.
     pub fn new(queue: &Queue) -> Slots
         ensures { result ≡ initial_allocator queue.now }
     {
@@ -62,8 +64,15 @@ impl Slots {
         }
     }
 
-    /// Takes the next descriptor for a frame of `len` bytes, and the bytes of the section at which it stands. None where it has no room: as
-    /// many frames as may be are in flight or, in a ring of bytes, the bytes that it would take aren't free.
+    /// Allocates the next descriptor for a frame of `len` bytes, and its bytes of the section.
+    /// Returns `None` if the frame doesn't fit: the limit of frames in flight is reached or, in a
+    /// byte ring, the bytes of its footprint aren't free.
+    // claim taken: A frame gets the next descriptor with that descriptor's slot. In a byte ring it
+    //    gets the bytes after those of the newest frame, or those at the start of the area if they
+    //    would pass its end. Nothing changes if the limit in flight is reached or these bytes are
+    //    not free.
+    // claim known, alone: The descriptor is one of the queue, and is not in flight.
+    // claim room: A placed frame ends inside the section.
     pub fn place(&mut self, len: u32) -> Option<Slot>
         requires least { 14 ≤ len }
         requires most { len ≤ self.old.sizes.mtu + 18 }
@@ -81,7 +90,8 @@ impl Slots {
         Some(slot)
     }
 
-    /// The descriptor of the oldest frame in flight.
+    /// Returns the descriptor of the oldest frame in flight.
+    // claim with Slots::free: Frames are freed in the order in which they were placed.
     pub fn oldest(&self) -> u32
         requires { 0 < self.now.in_flight }
         ensures { result ≡ oldest_of self.now }
@@ -105,7 +115,7 @@ impl Slots {
         self.in_flight -= 1;
     }
 
-    /// How many frames are in flight.
+    /// Returns the number of frames in flight.
     pub fn in_flight(&self) -> u32
         ensures count { result ≡ self.now.in_flight }
         ensures bounds { IsAllocator self.now }
@@ -113,7 +123,7 @@ impl Slots {
         self.in_flight
     }
 
-    /// Begins anew: no frame is in flight.
+    /// Resets the allocator: no frame is in flight.
     pub fn reset(&mut self)
         ensures { self.new ≡ initial_allocator self.old.sizes }
     {
@@ -124,7 +134,7 @@ impl Slots {
         self.left = 0;
     }
 
-    /// Has one more frame of `len` bytes room?
+    /// Whether another frame of `len` bytes fits.
     fn has_room(&self, len: u32) -> bool
         requires { len ≤ self.now.sizes.mtu + 18 }
         ensures value { result ≡ has_room_in self.now len }
@@ -136,7 +146,7 @@ impl Slots {
             && (self.in_flight == 0 || are_free(room, self.head, self.tail, bytes))
     }
 
-    /// Where it would be put.
+    /// Returns the slot that the next frame of `len` bytes gets.
     fn slot_for(&self, len: u32) -> Slot
         requires { len ≤ self.now.sizes.mtu + 18 }
         ensures value { result ≡ next_slot self.now len }
@@ -156,7 +166,7 @@ impl Slots {
         }
     }
 
-    /// Puts it there.
+    /// Adds a frame of `len` bytes at that slot.
     fn add(&mut self, len: u32)
         requires most { len ≤ self.old.sizes.mtu + 18 }
         requires room { has_room_in self.old len ≡ true }
@@ -181,7 +191,7 @@ impl Slots {
     }
 }
 
-/// The bytes of the ring that a frame of `len` bytes takes: none where there are slots.
+/// Returns the number of bytes of the byte ring that a frame of `len` bytes occupies: 0 with slots.
 fn ring_bytes(queue: &Queue, len: u32) -> u32
     requires { ring_bytes queue.now len ≤ data_area_len queue.now }
     ensures value { result ≡ ring_bytes queue.now len }
@@ -195,7 +205,8 @@ fn ring_bytes(queue: &Queue, len: u32) -> u32
     }
 }
 
-/// The byte of an area of `room` bytes at which so many bytes start after what ended at `ended`.
+/// Returns the start of `bytes` bytes that follow a frame that ended at byte `ended` of an area of
+/// `room` bytes.
 fn start_after(room: u32, ended: u32, bytes: u32) -> u32
     requires { ended + bytes < 2 ^ 32 }
     ensures { result ≡ start_after room ended bytes }
@@ -203,7 +214,8 @@ fn start_after(room: u32, ended: u32, bytes: u32) -> u32
     if ended + bytes <= room { ended } else { 0 }
 }
 
-/// Are so many bytes of the ring free after the newest frame, where some are in flight?
+/// Whether `bytes` free bytes of the byte ring follow the newest frame. Assumes that at least one
+/// frame is in flight.
 fn are_free(room: u32, head: u32, tail: u32, bytes: u32) -> bool
     requires { tail + bytes < 2 ^ 32 }
     ensures { result ≡ bytes_are_free room head tail bytes }
@@ -216,16 +228,22 @@ fn are_free(room: u32, head: u32, tail: u32, bytes: u32) -> bool
 }
 
 /// Law: the slots of two descriptors share no byte.
+// claim: The slots of two descriptors share no byte.
 pub fn slots_are_apart()
     ensures { SlotsAreApart }
 {}
 
-/// Law: a placed descriptor joins those in flight, and the oldest one leaves them when it is freed.
+/// Law: a placed descriptor joins those in flight, and the oldest one leaves them at its free.
+// claim: The descriptors in flight are those placed and not freed.
 pub fn descriptors_are_reused_in_order()
     ensures { DescriptorsAreReusedInOrder }
 {}
 
-/// Law: the numbers of a turn stand for the frames of a session: they say which frame has room and where it stands.
+/// Law: the allocator's numbers refine the frames of a session: they determine whether a frame
+/// fits, and its place.
+// claim: A frame is placed exactly if it fits in the session that the slots represent, with the
+//    descriptor and the byte of its number there. The slots then represent the frames in flight, as
+//    frames are placed and freed.
 pub fn allocator_refines_session()
     ensures { AllocatorRefinesSession }
 {}

@@ -1,4 +1,4 @@
--- Along the computed history the link peers stand where their rows lead.
+-- Along the computed history the link peers are at the places that their rows lead to.
 use Rattle.std.proofs.Common.{◌≡◌, ◌≢◌, ℕ, ◌<◌, Bool, true, false, List, [], ◌∷◌, ◌++◌, length, refl, sym, ◌∙◌, ap, subst, arith, inl, inr, ◌⊎◌}
 use mathlib.Core.Logic.{dite}
 use native.Mathlib.Decide.{ℕ_discrete}
@@ -43,7 +43,7 @@ use Rattle.history_laws.proofs.Others.{after_first, quiet_stands, other_turn_sta
 abbrev pub ends_of : HistoryState → ℕ → End
 ends_of moment p = (peer_at moment p).end
 
--- what is known of a moment
+-- The invariant of a moment.
 pub record Ran (world : World) (moment : HistoryState) : Type 0 where
   pub good : Good world moment
   pub places : ℕ → Place
@@ -57,7 +57,7 @@ link_below p flag is = grind (arith, nat_tests)
 pub two_links : (world : World) (p : ℕ) → is_link world p ≡ true → p < 2
 two_links world p is = link_below p _ is
 
--- What an event leaves: the peers suit, and the ends stand
+-- The invariant after an event
 
 module _ (world : World) (moment : HistoryState) (event : Event) (is : IsWorld world) (there : IsPermittedEvent world event) (proper : IsProper world event) (ran : Ran world moment) where
   below : event_peer event < length moment.peers
@@ -82,7 +82,7 @@ module _ (world : World) (moment : HistoryState) (event : Event) (is : IsWorld w
   left_beside : (places : ℕ → Place) (q : ℕ) → q ≢ event_peer event → places q ≡ ran.places q → q < 2 → is_link world q ≡ true → remaining (pair.config_of (link_config_of world) q) (places q) ≡ (peer_at (after_event world moment event) q).left
   left_beside places q ne same below' honest = ap (remaining (pair.config_of (link_config_of world) q)) same ∙ (ran.left q below' honest ∙ ap (λ (x : Peer). x.left) (sym (peer_other world moment event q ne)))
 
-  -- the peer of the event came to another place
+  -- The peer of the event moves to another place.
   came_ran : Came world (after_event world moment event).past (ends_of (after_event world moment event)) ran.places (event_peer event) (peer_after world moment event).left → Ran world (after_event world moment event)
   came_ran c = record {
     good = good_after;
@@ -92,7 +92,7 @@ module _ (world : World) (moment : HistoryState) (event : Event) (is : IsWorld w
     suits = suits_after;
   }
 
-  -- or it stays, if it is an honest link peer
+  -- The peer of the event stays at its place, if it is an honest link peer.
   stays_ran : (is_link world (event_peer event) ≡ true → ((peer_after world moment event).end ≡ (peer_at moment (event_peer event)).end) × ((peer_after world moment event).left ≡ (peer_at moment (event_peer event)).left)) →
       Stands world (after_event world moment event).past (ends_of moment) ran.places → Ran world (after_event world moment event)
   stays_ran still s = record {
@@ -128,7 +128,7 @@ asked_still peer (Storms x) Poll = (refl, refl)
 not_honest : {A : Type 0} → (b : Bool) → b ≡ false → b ≡ true → A
 not_honest b is_none is_one = let f : false ≡ true = sym is_none ∙ is_one in absurd (cc)
 
--- a turn
+-- A turn.
 turned_ran : (world : World) (moment : HistoryState) (p : ℕ) → IsWorld world → IsPermittedEvent world (TurnTaken p) → (ran : Ran world moment) → (is_link world p ≡ true) ⊎ (is_link world p ≡ false) → Ran world (after_event world moment (TurnTaken p))
 turned_ran world moment p is there ran (inl honest) =
     let event = TurnTaken p in
@@ -146,7 +146,7 @@ turned_ran world moment p is there ran (inr no_link) =
     (other_turn_stands world moment.past device (ends_of moment) ran.places p (peer_at moment p) is (there_below world event there) no_link (device_quiet world moment.past moment.losses event (step_of_event world moment event)) (ran.suits p)
     (good_after world moment event is there tt ran).law ran.refines)
 
--- a device reset
+-- A device reset.
 reset_ran : (world : World) (moment : HistoryState) (p : ℕ) → IsWorld world → IsPermittedEvent world (DeviceReset p) → (ran : Ran world moment) → (is_link world p ≡ true) ⊎ (is_link world p ≡ false) → Ran world (after_event world moment (DeviceReset p))
 reset_ran world moment p is there ran (inl honest) =
     let event = DeviceReset p in
@@ -168,7 +168,7 @@ reset_ran world moment p is there ran (inr no_link) =
     stays_ran world moment event is there tt ran (not_honest (is_link world p) no_link)
     (other_reset_stands world moment.past device (ends_of moment) ran.places p is (there_below world event there) no_link (device_quiet world moment.past moment.losses event (step_of_event world moment event)) ran.refines)
 
--- an event without a step
+-- An event without a step.
 plain_stands : (world : World) (moment : HistoryState) (event : Event) (places : ℕ → Place) → Stands world moment.past (ends_of moment) places →
     Stands world (reverse (device_lines world moment.past moment.losses event (step_of_event world moment event)) ++ moment.past) (ends_of moment) places
 plain_stands world moment event places s = quiet_stands world (device_lines world moment.past moment.losses event (step_of_event world moment event)) moment.past (ends_of moment) places (device_quiet world moment.past moment.losses event (step_of_event world moment event)) s
@@ -218,7 +218,7 @@ ran_at_first world = record {
 pub history_ran : (world : World) → IsWorld world → Ran world (run world (schedule world.acts) (initial_state world))
 history_ran world is = run_ran world (schedule world.acts) (initial_state world) is (all_there world is) (all_proper world is) (ran_at_first world)
 
--- what holds of the lines of the computed history holds of every lawful one
+-- A property of the lines of the computed history is a property of every lawful one.
 pub lawful_past : (world : World) (lines : List Line) → IsWorld world → IsLawful world lines → reverse lines ≡ (run world (schedule world.acts) (initial_state world)).past
 lawful_past world lines is lawful = ap reverse (one_history_lem world lines (history world) lawful (history_lem reaching world is)) ∙ reverse-reverse (run world (schedule world.acts) (initial_state world)).past
 

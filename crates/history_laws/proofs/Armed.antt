@@ -1,4 +1,5 @@
--- An end whose last look found nothing has its event at the next frame.
+-- The avail_event of an end whose last read of the available index found no frame is the next
+-- frame's number.
 use Rattle.std.proofs.Common.{◌≡◌, ◌≢◌, ℕ, zero, suc, ◌+◌, ◌-◌, ◌%◌, ◌<◌, Bool, true, false, List, [], ◌∷◌, ◌++◌, length, refl, sym, ap, ◌∙◌, subst}
 use Rattle.std.specs.Prelude.{◌==◌, ◌||◌, not, nat_le, if◌then◌else◌}
 use Rattle.split_ring.specs.declared.ranges.FieldName.TheVariants as field_name
@@ -24,15 +25,18 @@ use Rattle.link_invariant.specs.EndInvariant.{PlaceInvariant}
 use Rattle.link_invariant.proofs.WriteSteps.{puts_lem}
 use Rattle.link_invariant.proofs.Wakes.{event_stays}
 
--- the event stands at the next frame to be delivered
+-- avail_event is the number of the next frame to be delivered.
 abbrev pub Stood : ℕ → End → Type 0
 Stood event end = event ≡ length end.delivered % 65536
 
--- so it is in RUN where the last look found nothing, and no look was taken before
+-- In RUN avail_event is that number if the last read of the available index found no frame. In
+-- READY there was no read.
 abbrev pub Asked : ℕ → End → Type 0
 Asked event end = (end.handshake.phase ≡ Ready → end.found_none ≡ false) × (end.handshake.phase ≡ Run → end.found_none ≡ true → Stood event end)
 
--- so it is at each place but where the event is yet to be written; before a last look it stands, and among items the look found some
+-- The invariant of avail_event at each place. It has no condition before the write of avail_event.
+-- Before a last read of the available index avail_event is set, and among items the last read found
+-- a frame.
 abbrev pub ArmedIs : ℕ → End → Place → Type 0
 ArmedIs event end (WritingAvailEvent taken) = Unit {0}
 ArmedIs event end (ReadingAvailIndex taken true) = Stood event end
@@ -68,7 +72,7 @@ by_found : (end : End) (b : Bool) (marks others : List Mark) → (with_marks end
 by_found end true marks others pm po = pm
 by_found end false marks others pm po = po
 
--- Places that come next
+-- The next places
 
 clear_armed : (event : ℕ) (end : End) (at count state : ℕ) → Asked event end → ArmedIs event end (clear_place at count state)
 clear_armed event end at zero state a = a
@@ -194,7 +198,7 @@ module _ (link_config : LinkConfig) (p : ℕ) (memory : ℕ → ℕ) (event : �
       let marks = Deliver (frame_in bytes (read ++ value ∷ [])) ∷ [] in
       words_armed event (with_marks end (if words == 0 then marks else [])) number more entry address bytes (read ++ value ∷ []) words (by_found end (words == 0) marks [] found found)
 
-  -- a step that leaves the event as it stood
+  -- A step that leaves avail_event unchanged.
   step_armed : (place : Place) → ((taken : ℕ) → place ≢ WritingAvailEvent taken) → ComesArmed place
   step_armed Closed apart h a = a
   step_armed (ReadingOtherState handshake) apart h a = tick_armed (config_of link_config p) event end value (move_of handshake value) a
@@ -227,7 +231,7 @@ module _ (link_config : LinkConfig) (p : ℕ) (memory : ℕ → ℕ) (event : �
   step_armed (WritingUsedIndex number more) apart h a = items_armed event (end_after end (step_at (config_of link_config p) (WritingUsedIndex number more) value)) (number + 1) more a
   step_armed RingingPoll apart h a = found_asked event end a
 
--- each step, whatever it writes
+-- Each step, for all values written.
 pub armed_on : (link_config : LinkConfig) → IsLinkConfig link_config → (p : ℕ) → p < 2 → (memory after : ℕ → ℕ) (end : End) (place : Place) (value : ℕ) → is_open place ≡ true → MemoryAfter p memory (access_at (config_of link_config p) place) after → PlaceInvariant link_config memory p end place →
     ArmedIs (fields link_config memory p AvailEvent) end place → ArmedIs (fields link_config after p AvailEvent) (end_after end (step_at (config_of link_config p) place value)) (next_place (config_of link_config p) place value)
 armed_on link_config is p below memory after end Closed value opened left h a = cc

@@ -1,4 +1,4 @@
--- What stands at the marks of a lawful history.
+-- The facts at the marks of a lawful history.
 use Rattle.std.proofs.Common.{◌∷◌, ◌++◌, ◌≡◌, [], List, sym, ap, subst, append_assoc}
 use Rattle.lawful_history.specs.declared.line.Line.TheVariants.{Accept, Deliver, Refuse, Read, Write, Look, Reclaim}
 use Rattle.history_laws.specs.Indexes.{IndexesAreReadOnce}

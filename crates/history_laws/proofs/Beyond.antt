@@ -1,4 +1,4 @@
--- A read out of range is refused on its step.
+-- A step that reads a value out of range refuses it.
 use Rattle.std.proofs.Common.{◌≡◌, ◌≢◌, ℕ, ◌+◌, ◌-◌, ◌/◌, ◌%◌, ◌<◌, ◌≤◌, Bool, false, List, [], ◌∷◌, ◌++◌, length, refl, sym, ◌∙◌, ap, subst, arith}
 use mathlib.Core.Logic.{dite}
 use native.Mathlib.Decide.{dec_lt}
@@ -43,7 +43,7 @@ snoc_inj (a ∷ xs) (b ∷ ys) x y e =
     let rest = snoc_inj xs ys x y tails in
     (ap (λ (l : List Got). a ∷ l) rest.0 ∙ ap (λ (g : Got). g ∷ ys) heads, rest.1)
 
--- what is known of a read of this word, where these reads came before, that is out of the range of this field
+-- The facts of a read of this word, after these reads, that is out of the range of this field.
 Last : EndConfig → Side → List Got → (word value : ℕ) → FieldName → ℕ → Type 0
 Last config side reads word value field_name.AvailIndex refused = (word ≡ config.theirs + word_offset config.sizes AvailIndex) × (refused ≡ high_half value) × (¬ IsAvailIndex config.sizes (length side.delivered % 65536) refused)
 Last config side reads word value field_name.AvailEntry refused =
@@ -93,7 +93,7 @@ last_of config side reads word value field_name.UsedIndex refused b =
 last_of config side reads word value field_name.UsedId refused b =
     let e = (snoc_inj reads b.0 (got word value) _ b.4).1 in (b.1, b.2, b.3, word_is word value _ refused e, value_is word value _ refused e, b.5)
 
--- The words of the fields stand apart
+-- The words of the fields are different
 
 FieldWord : EndConfig → FieldName → ℕ → Type 0
 FieldWord config field_name.AvailIndex word = word ≡ config.theirs + word_offset config.sizes AvailIndex
@@ -242,7 +242,7 @@ second_of a b c d xs ys e = cc
 third_of : (a b c d e f : Got) (xs ys : List Got) → a ∷ b ∷ c ∷ xs ≡ d ∷ e ∷ f ∷ ys → c ≡ f
 third_of a b c d e f xs ys is = cc
 
--- the marks are those of the field
+-- The marks are the field's refusal.
 at_field : (config : EndConfig) (side : Side) (reads : List Got) (word value : ℕ) (field here : FieldName) (refused : ℕ) (marks : List Mark) → field ≡ here → (Last config side reads word value here refused → marks ≡ refusal here refused) →
     Last config side reads word value field refused → marks ≡ refusal field refused
 at_field config side reads word value field here refused marks is show last =
@@ -251,7 +251,7 @@ at_field config side reads word value field here refused marks is show last =
 refused_as : (marks : List Mark) (field : FieldName) (value refused : ℕ) → marks ≡ refusal field value → refused ≡ value → marks ≡ refusal field refused
 refused_as marks field value refused is e = is ∙ ap (refusal field) (sym e)
 
--- what is known of the end and its call
+-- The facts of the end and its call.
 record Facts (link_config : LinkConfig) (p : ℕ) (memory : ℕ → ℕ) (end : End) (side : Side) (reads : List Got) (place : Place) : Type 0 where
   alone : EndInvariant link_config memory p end place
   si : SideIs end place side

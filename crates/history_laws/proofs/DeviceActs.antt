@@ -1,4 +1,4 @@
--- What is of the devices alone changes nothing of the link.
+-- Events of devices alone change nothing of the link.
 use Rattle.std.proofs.Common.{◌≡◌, ℕ, List, [], ◌∷◌, ◌++◌, refl, sym, ◌∙◌, ap}
 use Rattle.std.specs.Prelude.{Option, Some, reverse, slice_index_or, slice_set}
 use Rattle.std.proofs.lemmas.List.{set-get_or}
@@ -20,7 +20,7 @@ use Rattle.lawful_history.specs.History.{HistoryState, step_by, moved_by, acted_
 use Rattle.history_laws.specs.Devices.{without_devices, without_device_events, DeviceActsChangeNothing}
 use Rattle.history_laws.proofs.DeviceLines.{lines_of_devices, without_both, without_reverse, event_apart, same_written}
 
--- What is done depends on the lines by what the words hold alone
+-- The effect of an event depends on the lines only through the words that they leave
 
 abbrev SameWords : List Line → List Line → Type 0
 SameWords past others = (at : ℕ) → last_write past at ≡ last_write others at
@@ -70,7 +70,7 @@ record AreAlike (a b : HistoryState) : Type 0 where
   lines : without_devices a.past ≡ without_devices b.past
   peers : a.peers ≡ b.peers
 
--- the lines after an event, but for those of the devices
+-- The lines after an event, without those of the devices.
 new_lines : (world : World) (a : HistoryState) (event : Event) →
     without_devices (after_event world a event).past ≡ reverse (without_devices (lines_by event (step_of_event world a event) [])) ++ without_devices a.past
 new_lines world a event =
@@ -78,7 +78,7 @@ new_lines world a event =
     without_both (reverse lines) a.past ∙ ap (λ ls. ls ++ without_devices a.past)
     (without_reverse lines ∙ ap reverse (event_apart event (step_of_event world a event) (device_lines world a.past a.losses event (step_of_event world a event)) (lines_of_devices world a.past a.losses event (step_of_event world a event))))
 
--- an event of the link goes on alike
+-- An event of the link leaves the two moments alike.
 goes_on : (world : World) (a b : HistoryState) (event : Event) → AreAlike a b → AreAlike (after_event world a event) (after_event world b event)
 goes_on world a b event alike =
     let p = event_peer event in
@@ -93,7 +93,7 @@ goes_on world a b event alike =
       peers = ap (λ (ps : List Peer). slice_set ps p (peer_after world a event)) alike.peers ∙ ap (λ (x : Peer). slice_set b.peers p x) after;
     }
 
--- an event of the devices leaves the moment alike
+-- An event of the devices leaves the moment alike.
 stays_reached : (world : World) (a b : HistoryState) (p : ℕ) (reach : DeviceAccess) → AreAlike a b → AreAlike (after_event world a (DeviceAccessed p reach)) b
 stays_reached world a b p reach alike = record { lines = new_lines world a (DeviceAccessed p reach) ∙ alike.lines; peers = set-get_or a.peers p at_start ∙ alike.peers }
 
@@ -103,7 +103,7 @@ stays_loses world a b p alike = record { lines = new_lines world a (InterruptDro
 stays_repeated : (world : World) (a b : HistoryState) (p vector : ℕ) → AreAlike a b → AreAlike (after_event world a (InterruptRepeated p vector)) b
 stays_repeated world a b p vector alike = record { lines = new_lines world a (InterruptRepeated p vector) ∙ alike.lines; peers = set-get_or a.peers p at_start ∙ alike.peers }
 
--- so all events go on as those of the link alone do, whatever acts the world has
+-- All events lead to the same as the link's events alone, for all acts of the world.
 goes_apart : (world : World) (acts : List Act) (events : List Event) (a b : HistoryState) → AreAlike a b → AreAlike (run (record world { acts = acts }) events a) (run world (without_device_events events) b)
 goes_apart world acts [] a b alike = alike
 goes_apart world acts (CallQueued p call ∷ events) a b alike = goes_apart world acts events (after_event world a (CallQueued p call)) (after_event world b (CallQueued p call)) (goes_on world a b (CallQueued p call) alike)
@@ -117,7 +117,7 @@ goes_apart world acts (DeviceAccessed p reach ∷ events) a b alike = goes_apart
 goes_apart world acts (InterruptDropped p ∷ events) a b alike = goes_apart world acts events (after_event world a (InterruptDropped p)) b (stays_loses world a b p alike)
 goes_apart world acts (InterruptRepeated p vector ∷ events) a b alike = goes_apart world acts events (after_event world a (InterruptRepeated p vector)) b (stays_repeated world a b p vector alike)
 
--- the history, but for the lines of the devices, is that of the link's events
+-- The history without the lines of the devices is the history of the link's events.
 history_apart : (world : World) (acts : List Act) →
     without_devices (history (record world { acts = acts })) ≡ reverse (without_devices (run world (without_device_events (schedule acts)) (initial_state world)).past)
 history_apart world acts =

@@ -20,7 +20,7 @@ use Rattle.lawful_history.specs.EventRecords.{access_lines, mark_line, turn_line
 use Rattle.lawful_history.specs.Device.{devices_of, device_events, arrival, arrived, arrivals_by, lost_count, device_event_of, brought_by, step_interrupts, device_access_line, device_lines}
 use Rattle.history_laws.specs.Devices.{is_of_device, without_devices}
 
--- each of these lines is of a device alone
+-- Each of these lines is of a device alone.
 abbrev pub AreOfDevices : List Line → Type 0
 AreOfDevices lines = AllByRecursion (λ line. is_of_device line ≡ true) lines
 
@@ -92,7 +92,7 @@ pub without_reverse : (lines : List Line) → without_devices (reverse lines) �
 without_reverse [] = refl
 without_reverse (first ∷ lines) = reverse_by first lines (is_of_device first) refl (without_reverse lines)
 
--- what stands between is of devices alone
+-- Lines of devices between others.
 beside : (lines device others : List Line) → AreOfDevices device → without_devices (lines ++ (device ++ others)) ≡ without_devices (lines ++ others)
 beside lines device others all =
     without_both lines (device ++ others) ∙ ap (λ ls. without_devices lines ++ ls) (without_both device others ∙ ap (λ ls. ls ++ without_devices others) (none_left device all)) ∙ sym (without_both lines others)
@@ -108,7 +108,7 @@ acted_apart : (p : ℕ) (a : Access) (went : Option Step) (device : List Line) �
 acted_apart p a None device all = after (denied_lines p a) device all
 acted_apart p a (Some step) device all = beside (access_lines p step.access step.value) device (map (mark_line p) step.marks) all
 
--- the lines of an event, but for those of the devices, are the same whatever the devices do
+-- The lines of an event, without those of the devices, don't depend on the devices.
 pub event_apart : (e : Event) (went : Option Step) (device : List Line) → AreOfDevices device → without_devices (lines_by e went device) ≡ without_devices (lines_by e went [])
 event_apart (CallQueued p call) went device all = none_left device all
 event_apart (AutoStarted p expected) went device all = none_left device all

@@ -1,4 +1,4 @@
--- A link peer as the scenario and as the link's configuration have it.
+-- A link peer in the scenario and in the link's configuration.
 use Rattle.std.proofs.Common.{◌≡◌, ℕ, zero, suc, ◌-◌, ◌<◌, refl, sym, ◌∙◌, ap, arith}
 use Rattle.section_map.specs.Geometry.{section_start}
 use Rattle.scenario_text.specs.Scenario.{World}

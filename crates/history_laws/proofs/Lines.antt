@@ -1,4 +1,4 @@
--- What holds of each line, at one of them and after each beginning.
+-- A property of each line: at one of them, and after each beginning.
 use Rattle.std.proofs.Common.{◌≡◌, List, [], ◌∷◌, ◌++◌, ◌∙◌, ap, subst, append_assoc}
 use Rattle.std.specs.Prelude.{reverse}
 use Rattle.std.proofs.lemmas.List.{reverse-append}

@@ -1,4 +1,5 @@
--- Along its own entries the turn steps of an honest link peer since its last reset are calls.
+-- The turn steps of an honest link peer since its last reset are calls, along its own event
+-- records.
 use Rattle.std.proofs.Common.{◌≡◌, ◌≢◌, ℕ, ◌<◌, inl, inr, Bool, true, false, List, [], ◌∷◌, ◌++◌, refl, sym, ap, ◌∙◌, subst, arith, append_assoc}
 use Rattle.std.specs.Prelude.{◌==◌, if◌then◌else◌, Option, Some, map, reverse}
 use Rattle.std.specs.List.{AllByRecursion}
@@ -24,7 +25,7 @@ use Rattle.history_laws.proofs.Along.{two_links}
 use Rattle.history_laws.proofs.WholeCalls.{along_on, finished_call, open_call}
 use Rattle.history_laws.proofs.OwnEntries.{MayCall, may_call_on, next_given, TakesStep, TurnIs, turn_is, Keeps, few_in_flight, keeps_at_first, keeps_begun, keeps_step, keeps_reset}
 
--- The calls, of which this is left of the newest one
+-- The calls, with the rest of the newest one
 
 abbrev Newest : EndConfig → List Begun → CallTree → Type 0
 Newest config [] left = left ≡ Ended
@@ -36,7 +37,7 @@ record Split (world : World) (p : ℕ) (past : List EventRecord) (left : CallTre
   turns : InTurns world p past calls
   newest : Newest (config_of world p) calls left
 
--- an entry that is no reset changes nothing of the turns before it
+-- An event record without a reset changes nothing of the turns before it.
 turn_on : (world : World) (p : ℕ) (past : List EventRecord) (entry : EventRecord) (begun : Begun) (earlier : List Begun) → entry.event ≢ DeviceReset p → InTurn world p past begun earlier → InTurn world p (entry ∷ past) begun earlier
 turn_on world p past entry begun earlier other t = record {
   led = t.led;
@@ -54,11 +55,11 @@ turns_on : (world : World) (p : ℕ) (past : List EventRecord) (entry : EventRec
 turns_on world p past entry [] other turns = tt
 turns_on world p past entry (begun ∷ earlier) other turns = (turn_on world p past entry begun earlier other turns.0, turns_on world p past entry earlier other turns.1)
 
--- an entry without a step of a turn
+-- An event record without a step of a turn.
 split_on : (world : World) (p : ℕ) (past : List EventRecord) (left : CallTree) (entry : EventRecord) → entry.event ≢ DeviceReset p → steps_since (entry ∷ past) ≡ steps_since past → Split world p past left → Split world p (entry ∷ past) left
 split_on world p past left entry other same s = record { calls = s.calls; steps = same ∙ s.steps; turns = turns_on world p past entry s.calls other s.turns; newest = s.newest }
 
--- all calls are finished where none is open
+-- All calls are finished if none is open.
 all_finished : (config : EndConfig) (calls : List Begun) → Newest config calls Ended → AreFinished config calls
 all_finished config [] newest = tt
 all_finished config (begun ∷ earlier) newest = (finished_call config begun newest.0 newest.1, newest.2)
@@ -69,7 +70,7 @@ turn_entry p step device = record { event = TurnTaken p; went = Some step; devic
 turn_is_none : (p : ℕ) → TurnTaken p ≢ DeviceReset p
 turn_is_none p e = absurd (cc)
 
--- a step of the open call
+-- A step of the open call.
 split_step : (world : World) (p : ℕ) (past : List EventRecord) (left new : CallTree) (step : Step) (device : List Line) → Goes left step new → Split world p past left → Split world p (turn_entry p step device ∷ past) new
 split_step world p past left new step device goes s = by_calls s.calls s.steps s.turns s.newest
   where
@@ -86,7 +87,7 @@ split_step world p past left new step device goes s = by_calls s.calls s.steps s
           newest = (newest.0, along_on (tree_of (config_of world p) begun.at.end begun.call) left new begun.steps step newest.1 goes, newest.2);
         }
 
--- the first step of the next call
+-- The first step of the next call.
 split_begins : (world : World) (p : ℕ) (old : Progress) (call : Call) (new : CallTree) (step : Step) (device : List Line) → IsCallSequence world p initial_progress (reverse old.past) old → HasFewInFlight (config_of world p) old.end → old.left ≡ Ended → next_call old ≡ Some call →
     Goes (tree_of (config_of world p) old.end call) step new → Split world p old.past old.left → Split world p (turn_entry p step device ∷ old.past) new
 split_begins world p old call new step device led few closed next goes s =
@@ -106,14 +107,14 @@ split_begins world p old call new step device led few closed next goes s =
 split_reset : (world : World) (p q : ℕ) (past : List EventRecord) (went : Option Step) (device : List Line) → Split world p (record { event = DeviceReset q; went = went; device = device } ∷ past) Ended
 split_reset world p q past went device = record { calls = []; steps = refl; turns = tt; newest = refl }
 
--- and then the calls are whole, or the newest is open
+-- The calls are whole, or the newest is open.
 are_calls : (config : EndConfig) (calls : List Begun) (left : CallTree) → Newest config calls left → AreCalls config calls
 are_calls config [] left newest = tt
 are_calls config (begun ∷ earlier) Ended newest = (inl (finished_call config begun newest.0 newest.1), newest.2)
 are_calls config (begun ∷ earlier) (Does a marks rest) newest = (inr (open_call config begun (Does a marks rest) newest.0 newest.1 (λ is. cc)), newest.2)
 are_calls config (begun ∷ earlier) (Reads word marks rest) newest = (inr (open_call config begun (Reads word marks rest) newest.0 newest.1 (λ is. cc)), newest.2)
 
--- The entries of a peer, in order
+-- The event records of a peer, in order
 
 serves_snoc : (world : World) (p : ℕ) (entries : List EventRecord) (entry : EventRecord) (old mid new : Progress) → IsCallSequence world p old entries mid → EventStep world p mid entry.event entry.went new → IsCallSequence world p old (entries ++ entry ∷ []) (noted new entry)
 serves_snoc world p [] entry old mid new serves acts = (new, subst (λ (x : Progress). EventStep world p x entry.event entry.went new) serves acts, refl)
@@ -123,7 +124,7 @@ serves_first : (world : World) (p : ℕ) (entries others : List EventRecord) (ol
 serves_first world p [] others old new serves = (old, refl)
 serves_first world p (entry ∷ entries) others old new serves = let later = serves_first world p entries others (noted serves.0 entry) new serves.2 in (later.0, (serves.0, serves.1, later.1))
 
--- What is known of a peer after some of its entries
+-- The invariant of a peer after its event records.
 record Going (world : World) (p : ℕ) (peer : Progress) : Type 0 where
   led : IsCallSequence world p initial_progress (reverse peer.past) peer
   keeps : Keeps world p peer.end peer.left
@@ -148,7 +149,7 @@ module _ (world : World) (p : ℕ) (is : IsWorld world) (honest : is_link world 
     split = subst (λ (k : List EventRecord). Split world p (entry ∷ k) mid.left) (sym same) split;
   }
 
-  -- the peer stays as it is, but for what it notes of the call before and of a storm
+  -- The peer is unchanged, except its record of the call before and of a storm.
   stays : (old mid : Progress) (entry : EventRecord) → IsOwn world p entry.event → EventStep world p old entry.event entry.went mid → entry.event ≢ DeviceReset p → steps_since (entry ∷ old.past) ≡ steps_since old.past → mid.past ≡ old.past → mid.end ≡ old.end → mid.left ≡ old.left →
       Going world p old → Going world p (noted mid entry)
   stays old mid entry mine acts other none same end_is left_is g =
@@ -159,7 +160,7 @@ module _ (world : World) (p : ℕ) (is : IsWorld world) (honest : is_link world 
   own_who : config_of world p ≡ pair.config_of (link_config_of world) p
   own_who = who_is world p below
 
-  -- a step of this call, which the end keeps and which is split off so
+  -- A step of this call, which satisfies the end's invariant and extends the list of calls.
   takes : (old mid : Progress) (q : ℕ) (went : Option Step) (device : List Line) (tree : CallTree) → IsOwn world p (TurnTaken q) → EventStep world p old (TurnTaken q) went mid → Keeps world p old.end tree → (t : TakesStep tree old went mid) →
       Split world p (turn_entry p t.step device ∷ old.past) t.left → Going world p old → Going world p (noted mid (record { event = TurnTaken q; went = went; device = device }))
   takes old mid q went device tree mine acts keeps t split g =
@@ -186,7 +187,7 @@ module _ (world : World) (p : ℕ) (is : IsWorld world) (honest : is_link world 
   turned_going old mid q went device mine acts g (inr (inr t)) =
       (takes old mid q went device old.left mine acts g.keeps t (split_step world p old.past old.left t.left t.step device t.goes g.split) g, t.past_is)
 
-  -- an event without a step of a turn
+  -- An event without a step of a turn.
   calm_going : (old mid : Progress) (entry : EventRecord) → IsOwn world p entry.event → EventStep world p old entry.event entry.went mid → entry.event ≢ DeviceReset p → steps_since (entry ∷ old.past) ≡ steps_since old.past → mid ≡ old → Going world p old →
       Going world p (noted mid entry) × (mid.past ≡ old.past)
   calm_going old mid entry mine acts other none same g = (
@@ -234,7 +235,7 @@ module _ (world : World) (p : ℕ) (is : IsWorld world) (honest : is_link world 
     split = record { calls = []; steps = refl; turns = tt; newest = refl };
   }
 
--- The entries of a peer among those of all
+-- The event records of a peer among those of all
 
 mapped : (P : Event → Type 0) (entries : List EventRecord) → AllByRecursion P (map event_of entries) → AllByRecursion (λ entry. P entry.event) entries
 mapped P [] all = tt

@@ -1,4 +1,5 @@
--- What stands where the marks of a step do: an accepted frame is spelled, a delivered one was read, and a refused value too.
+-- The facts at the marks of a step: an accepted frame is in the section, and a delivered frame and
+-- a refused value were read.
 use Rattle.std.proofs.Common.{◌≡◌, ℕ, ◌+◌, ◌-◌, ◌%◌, ◌<◌, Bool, true, false, List, [], ◌∷◌, ◌++◌, length, refl, sym, ◌∙◌, ap, subst, arith, length-append, ◌≢◌, ◌≤◌}
 use Rattle.std.specs.Prelude.{◌==◌, nat_le, if◌then◌else◌, reverse}
 use Rattle.std.specs.List.{AllByRecursion}
@@ -53,7 +54,7 @@ use Rattle.link_invariant.specs.LinkConfig.{fields}
 use Rattle.link_invariant.proofs.Fields.{field_read}
 use Rattle.history_laws.specs.Wake.{event_word, EventIs}
 
--- but for a State access the lists and counts of the side stay
+-- Every access except a State access leaves the lists and counts of the side.
 pub record Stays (new old : Side) : Type 0 where
   pub accepted : new.accepted ≡ old.accepted
   pub delivered : new.delivered ≡ old.delivered
@@ -66,7 +67,8 @@ abbrev pub SideStays : Access → Side → Side → Type 0
 SideStays (access.State state) new old = Unit {0}
 SideStays _ new old = Stays new old
 
--- after the doorbell of a poll no look is the newest line, and the read of an index is the newest
+-- After the doorbell of a poll the newest line isn't a mark of a read of the available index. After
+-- the read of an index it is that read.
 abbrev pub HeadAt : EndConfig → ℕ → Place → ℕ → (past older : List Line) → Type 0
 HeadAt config p RingingPoll value past older = ¬ EndsLook p older
 HeadAt config p (ReadingUsedIndex pending freed) value past older = older ≡ line.Read p (config.theirs + word_offset config.sizes UsedIndex) value ∷ past
@@ -79,7 +81,7 @@ ends_silent p (l ∷ lines) past silent none =
     let first : ¬ EndsLook p (l ∷ past) = λ look. let told : Silent ≡ Tells p (Marked (Look 0)) = sym silent.0 ∙ ap line_side_event_of look in cc in
     subst (λ (ls : List Line). ¬ EndsLook p ls) (sym (first_after l lines past)) (ends_silent p lines (l ∷ past) silent.1 first)
 
--- a read brings no line of the devices
+-- A read adds no line of the devices.
 none_between : (device past : List Line) → device ≡ [] → reverse device ++ past ≡ past
 none_between device past none = ap (λ (d : List Line). reverse d ++ past) none
 
@@ -90,7 +92,7 @@ head_is world p (ReadingUsedIndex pending freed) value past device silent none =
 head_is world p (ReadingAvailIndex taken last) value past device silent none = none_between device _ none
 head_is world p place value past device silent none = tt
 
--- what is known after the access of a step, where its marks stand
+-- The facts after the access of a step, at its marks.
 pub record AtMarks (world : World) (p : ℕ) (past older : List Line) (place : Place) (value : ℕ) (end : End) : Type 0 where
   pub alone : EndInvariant (link_config_of world) (last_write past) p end place
   pub side : SideIs end place (side_of past p)
@@ -103,7 +105,7 @@ pub record AtMarks (world : World) (p : ℕ) (past older : List Line) (place : P
   pub armed : has_events world.queue ≡ true → ArmedIs (fields (link_config_of world) (last_write past) p AvailEvent) end place
   pub head : HeadAt (pair.config_of (link_config_of world) p) p place value past older
 
--- the facts of memory, the side and the reads there
+-- The facts of the words, the side and the reads after the access.
 pub record AtAccess (p : ℕ) (past older : List Line) (a : Access) (value : ℕ) : Type 0 where
   pub left : MemoryAfter p (last_write past) a (last_write older)
   pub stays : SideStays a (side_of older p) (side_of past p)
@@ -137,7 +139,7 @@ at_access world p (access.Ring target vector) value device past quiet =
     let q = quiet_lines world device (line.Doorbell p target vector ∷ past) quiet in record { left = q.memory; stays = stays_same (ap (λ (x : ℕ → Side). x p) q.sides); reads = ap (λ (x : ℕ → List Got). x p) q.reads }
 at_access world p access.Nothing value device past quiet = let q = quiet_lines world device past quiet in record { left = q.memory; stays = stays_same (ap (λ (x : ℕ → Side). x p) q.sides); reads = ap (λ (x : ℕ → List Got). x p) q.reads }
 
--- marks at which nothing needs to stand
+-- Marks without a fact.
 by_test : (world : World) (older : List Line) (p : ℕ) (b : Bool) (marks others : List Mark) → (b ≡ true → MarksRest world older p marks) → (b ≡ false → MarksRest world older p others) → MarksRest world older p (if b then marks else others)
 by_test world older p true marks others pm po = pm refl
 by_test world older p false marks others pm po = po refl
@@ -150,7 +152,7 @@ tick_rest world older p value (ClearThenSet state) = (tt, tt)
 full_rest : (world : World) (older : List Line) (p : ℕ) (config : EndConfig) (pending : PendingOffer) (freed : ℕ) → MarksRest world older p (full_marks config pending freed)
 full_rest world older p config pending freed = by_test world older p (frame_fits config pending freed) [] (Full ∷ []) (λ _. tt) (λ _. (tt, tt))
 
--- the numbers of the lists
+-- The numbers of the lists.
 pub accepted_number : (end : End) (place : Place) (side : Side) (now : List (List ℕ)) → SideIs end place side → now ≡ side.accepted → length end.accepted ≡ length now
 accepted_number end place side now si e = ap length (sym (e ∙ si.accepted))
 
@@ -170,18 +172,18 @@ within_denies : (a b : ℕ) → nat_le a b ≡ false → ¬ (a ≤ b)
 within_denies a b test = λ within. grind (arith, nat_tests)
 
 module _ (world : World) (p : ℕ) (past older : List Line) (value : ℕ) (end : End) (is : IsWorld world) (below : p < 2) where
-  -- a refused value as the scenario has its peer
+  -- A refused value, with the scenario's configuration of its peer.
   refused_rest : (field : FieldName) (refused : ℕ) → IsReadBeyond (pair.config_of (link_config_of world) p) (side_of older p) (reads_of older p) field refused → IsLoneIndex (pair.config_of (link_config_of world) p) p older field refused → MarksRest world older p (refusal field refused)
   refused_rest field refused read lone = (subst (λ (w : EndConfig). IsReadBeyond w (side_of older p) (reads_of older p) field refused × IsLoneIndex w p older field refused) (sym (who_is world p below)) (read, lone), tt)
 
-  -- an index that was read once, as the scenario has its peer
+  -- An index that was read once, with the scenario's configuration of its peer.
   index_rest : (index : Field) (own count : ℕ) → IsIndexRead (pair.config_of (link_config_of world) p) p older index own count → IsIndexRead (config_of world p) p older index own count
   index_rest index own count read = subst (λ (w : EndConfig). IsIndexRead w p older index own count) (sym (who_is world p below)) read
 
   number_is : (place : Place) (number : ℕ) → number ≡ length end.delivered → AtMarks world p past older place value end → Stays (side_of older p) (side_of past p) → number ≡ length (side_of older p).delivered
   number_is place number is_count a stays = is_count ∙ delivered_number end place (side_of past p) (side_of older p).delivered a.side stays.delivered
 
-  -- the item of a poll has the number of the frames delivered
+  -- The number of a poll's item is the number of the frames delivered.
   by_number : (make : ℕ → Place) (number : ℕ) → number ≡ length (side_of older p).delivered →
       (AtMarks world p past older (make (length (side_of older p).delivered)) value end → MarksRest world older p (marks_at (pair.config_of (link_config_of world) p) (make (length (side_of older p).delivered)) value)) →
       AtMarks world p past older (make number) value end → MarksRest world older p (marks_at (pair.config_of (link_config_of world) p) (make number) value)
@@ -251,7 +253,7 @@ module _ (world : World) (p : ℕ) (past older : List Line) (value : ℕ) (end :
         tt,
       )
 
-  -- a poll that is done and found nothing has its event at the next frame
+  -- A finished poll that found no frame has its avail_event at the next frame's number.
   done_rest : (taken : ℕ) (last : Bool) → AtMarks world p past older (ReadingAvailIndex taken last) value end → last ≡ true → taken ≡ length (side_of older p).delivered → has_events world.queue ≡ true →
       EventIs world (line.Look p 0 ∷ older) p (length (side_of (line.Look p 0 ∷ older) p).delivered)
   done_rest taken last a final number has =
@@ -317,7 +319,7 @@ module _ (world : World) (p : ℕ) (past older : List Line) (value : ℕ) (end :
       (λ test. refused_rest field_name.DescFlags (low_half value)
       (record (r.0) { flags_word = value }, a.reads ∙ flags_taken config number value (reads_of past p) r.0 entry r.1 r.2, r.3, r.5, r.7, refl, nonzero_tells (low_half value) test) tt)
 
-  -- the event that was heard stands there
+  -- The avail_event read is the value of its word.
   event_rest : (number : ℕ) → AtMarks world p past older (ReadingAvailEvent number) value end → wants_doorbell (low_half value) number ≡ false →
       wants_doorbell (low_half (last_write older (event_word world (1 - p)))) (length (side_of older p).accepted - 1) ≡ false
   event_rest number a test =
@@ -328,7 +330,7 @@ module _ (world : World) (p : ℕ) (past older : List Line) (value : ℕ) (end :
       let last : number ≡ length (side_of older p).accepted - 1 = omega arith in
       ap (λ (k : ℕ). wants_doorbell (low_half (last_write older (event_word world (1 - p)))) k) (sym last) ∙ (ap (λ (v : ℕ). wants_doorbell (low_half v) number) (sym heard) ∙ test)
 
-  -- the marks of the step at each place
+  -- The marks of the step at each place.
   pub marks_rest : (place : Place) → AtMarks world p past older place value end → MarksRest world older p (marks_at (pair.config_of (link_config_of world) p) place value)
   marks_rest Closed a = tt
   marks_rest (ReadingOtherState handshake) a = tick_rest world older p value (move_of handshake value)

@@ -1,4 +1,4 @@
--- The line of an access, and what the line of a mark tells.
+-- The line of an access, and the side event of a mark's line.
 use Rattle.std.proofs.Common.{◌≡◌, ℕ, List, ◌∷◌, refl}
 use Rattle.split_ring.specs.declared.steps.Access.{Access}
 use Rattle.split_ring.specs.declared.steps.Access.TheVariants as access
@@ -10,7 +10,7 @@ use Rattle.lawful_history.specs.EventRecords.{mark_line}
 use Rattle.history_laws.specs.SideEvents.{Tells, line_side_event_of}
 use Rattle.history_laws.specs.Reads.{Breaks, reading_of}
 
--- the line of a mark tells the mark, and breaks the reads
+-- The line of a mark has the mark as its side event, and empties the list of reads.
 pub mark_is : (p : ℕ) (mark : Mark) → (line_side_event_of (mark_line p mark) ≡ Tells p (Marked mark)) × (reading_of (mark_line p mark) ≡ Breaks p)
 mark_is p (Saw value) = (refl, refl)
 mark_is p (Reclaim count) = (refl, refl)
@@ -24,7 +24,7 @@ mark_is p Down = (refl, refl)
 mark_is p (Refuse refused) = (refl, refl)
 mark_is p Over = (refl, refl)
 
--- the line of the access
+-- The line of the access.
 abbrev pub after_access : ℕ → Access → ℕ → List Line → List Line
 after_access p (access.Read word) value past = line.Read p word value ∷ past
 after_access p (access.Write word written) value past = line.Write p word written ∷ past

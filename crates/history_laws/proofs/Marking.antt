@@ -1,4 +1,4 @@
--- The marks of sessions, and the sessions that they number.
+-- The marks of sessions, and their session numbers.
 use Rattle.std.proofs.Common.{◌≡◌, ℕ, ◌+◌, ◌-◌, ◌<◌, Bool, true, false, List, [], ◌∷◌, ◌++◌, refl, sym, ◌∙◌, ap, subst, append_assoc, arith, inl, inr, ◌⊎◌}
 use Rattle.std.specs.Prelude.{◌==◌, ◌&&◌, not, if◌then◌else◌, reverse, All}
 use Rattle.std.proofs.lemmas.List.{append-nil}
@@ -20,7 +20,7 @@ use Rattle.history_laws.proofs.Along.{two_links}
 use Rattle.history_laws.proofs.Grounds.{partner_is}
 use Rattle.history_laws.proofs.Lines.{middle, at_line}
 
--- How many sessions a peer opened
+-- The number of sessions that a peer opened
 
 kept_opened : (here : Bool) (l x : Log) (n : ℕ) → l.opened ≡ n → x.opened ≡ l.opened → (if here then x else l).opened ≡ n
 kept_opened true l x n is same = same ∙ is
@@ -54,7 +54,7 @@ opened_is : (past : List Line) (p : ℕ) → (log_of past p).opened ≡ opened_i
 opened_is [] p = refl
 opened_is (line ∷ older) p = told_opened line p (side_of older p) (log_of older p) (log_of older (1 - p)) (opened_in older p) (opened_is older p)
 
--- Where a peer enters RUN
+-- The entry of a peer into RUN
 
 both : (q p v : ℕ) → (q == p && v == 3) ≡ true → (q ≡ p) × (v ≡ 3)
 both q p v is = (grind (arith, nat_tests), grind (arith, nat_tests))
@@ -84,7 +84,7 @@ entered (line.Lost q v ∷ older) p below is = let e = entered older p below is 
 entered (line.State q v ∷ older) p below is = let b = both q p v is in wrote_three older p q v below b.0 b.1
 entered (_ ∷ older) p below is = absurd (let e : false ≡ true = is in cc)
 
--- What a history without marks tells the link machine, one with marks tells it too
+-- A history with marks has the same side events as the history without them
 
 record Same (older told : List Line) : Type 0 where
   sides : (p : ℕ) → side_of told p ≡ side_of older p
@@ -135,7 +135,7 @@ numbered world older told p same test =
           ∙ (ap (λ (l : Log). l.opened) (same.logs (1 - p)) ∙ (sym e.carried ∙ ap (λ (l : Log). l.carried) (sym (same.logs p)))));
     }
 
--- the marks before a line: none, or the one of a link peer that enters RUN
+-- The marks before a line: none, or the one of a link peer that enters RUN.
 test_cases : (test : Bool) (mark : Line) → ((if test then mark ∷ [] else []) ≡ []) ⊎ (((if test then mark ∷ [] else []) ≡ mark ∷ []) × (test ≡ true))
 test_cases true mark = inr (refl, refl)
 test_cases false mark = inl refl

@@ -1,4 +1,4 @@
--- What peers do that aren't honest link peers, and what any peer does of its own accord.
+-- The actions of peers that aren't honest link peers, and the acts of any peer outside its calls.
 use Rattle.std.proofs.Common.{◌≡◌, ℕ, ◌<◌, Bool, true, false, List, [], ◌∷◌, ◌++◌, refl, sym, ◌∙◌, ap, subst}
 use Rattle.std.specs.Prelude.{if◌then◌else◌, Option, Some, None, reverse}
 use Rattle.std.specs.List.{AllByRecursion}
@@ -26,7 +26,7 @@ use Rattle.history_laws.proofs.Outside.{read_stands, write_stands, state_stands,
 use Rattle.history_laws.proofs.Suits.{DriverSuits, Suits}
 use Rattle.history_laws.proofs.Unrung.{line_is}
 
--- lines of which all but the first are quiet
+-- Lines of which all except the first are quiet.
 pub after_first : (world : World) (line : Line) (lines past : List Line) (ends : ℕ → End) (places : ℕ → Place) → AllByRecursion IsQuiet lines → Stands world (line ∷ past) ends places → Stands world (reverse (line ∷ lines) ++ past) ends places
 after_first world line lines past ends places quiet s =
     subst (λ (after : List Line). Stands world after ends places) (sym (first_after line lines past)) (stands_alike world (line ∷ past) (reverse lines ++ (line ∷ past)) ends places (quiet_lines world lines (line ∷ past) quiet) s)
@@ -34,7 +34,7 @@ after_first world line lines past ends places quiet s =
 pub quiet_stands : (world : World) (lines past : List Line) (ends : ℕ → End) (places : ℕ → Place) → AllByRecursion IsQuiet lines → Stands world past ends places → Stands world (reverse lines ++ past) ends places
 quiet_stands world lines past ends places quiet s = stands_alike world past (reverse lines ++ past) ends places (quiet_lines world lines past quiet) s
 
--- a line that tells nothing and changes no word, though it may speak of one
+-- A line without a side event that changes no word.
 silent_stands : (world : World) (line : Line) (past : List Line) (ends : ℕ → End) (places : ℕ → Place) → Alike world past (line ∷ past) → Stands world past ends places → Stands world (line ∷ past) ends places
 silent_stands world line past ends places alike s = stands_alike world past (line ∷ past) ends places alike s
 
@@ -42,7 +42,8 @@ quiet_end : (device : List Line) → AllByRecursion IsQuiet device → AllByRecu
 quiet_end [] quiet = tt
 quiet_end (line ∷ device) quiet = (quiet.0, quiet_end device quiet.1)
 
--- an access of a peer that isn't an honest link peer: its writes are where it may write, since the memory law holds
+-- An access of a peer that isn't an honest link peer. Its writes are to words that it may write,
+-- because the memory law holds.
 pub other_stands : (world : World) (past device : List Line) (ends : ℕ → End) (places : ℕ → Place) (p : ℕ) (a : Access) (value : ℕ) → IsWorld world → p < world.geometry.peers → is_link world p ≡ false → AllByRecursion IsQuiet device →
     MemoryLaw world.geometry (reverse (step_lines p (step_of a value []) device) ++ past) → Stands world past ends places → Stands world (reverse (step_lines p (step_of a value []) device) ++ past) ends places
 other_stands world past device ends places p (access.Read word) value is few no_link quiet law s =
@@ -86,7 +87,7 @@ other_turn_stands world past device ends places p peer is few no_link quiet suit
     subst (λ (went : Option Step). Stands world (reverse (turn_lines p went device) ++ past) ends places) (sym e)
     (stormy_stands world past device ends places p peer.driver is few no_link quiet (subst (λ (went : Option Step). MemoryLaw world.geometry (reverse (turn_lines p went device) ++ past)) e law) s)
 
--- An access of its own accord
+-- An access outside a call
 
 write_acted : (world : World) (past device : List Line) (ends : ℕ → End) (places : ℕ → Place) (p word value : ℕ) (b : Bool) → IsWorld world → p < world.geometry.peers → is_link world p ≡ false → AllByRecursion IsQuiet device →
     MemoryLaw world.geometry (reverse (region_access_lines p (access.Write word value) (if b then Some (step_of (access.Write word value) 0 []) else None) device) ++ past) → Stands world past ends places →

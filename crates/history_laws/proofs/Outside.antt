@@ -1,4 +1,4 @@
--- Lines of peers that aren't honest link peers: they leave the honest ones where they stand.
+-- Lines of peers that aren't honest link peers leave the honest ones at their places.
 use Rattle.std.proofs.Common.{◌≡◌, ◌≢◌, ℕ, ◌+◌, ◌*◌, ◌<◌, ◌≤◌, Bool, true, false, List, [], ◌∷◌, ◌++◌, refl, sym, ◌∙◌, ap, subst, arith, eq-eqb, ne_eqb, inl, inr}
 use mathlib.Core.Logic.{dite}
 use native.Mathlib.Decide.{ℕ_discrete}
@@ -55,18 +55,18 @@ outside_stands world past line ends places is o s = record {
   fine = ((o.fine.0, o.fine.1, answers world past line s.settled, o.writes), s.fine);
 }
 
--- what becomes of one word or one side, and not of another
+-- An update of one word or one side leaves every other one.
 pub here_is : {A : Type 0} → (p : ℕ) (a b : A) → (if p == p then a else b) ≡ a
 here_is p a b = yes (p == p) a b (eq-eqb p p refl)
 
 pub there_is : {A : Type 0} → (p q : ℕ) (a b : A) → p ≢ q → (if p == q then a else b) ≡ b
 there_is p q a b ne = no (p == q) a b (ne_eqb p q ne)
 
--- an honest link peer is another than one that isn't
+-- An honest link peer differs from a peer that isn't one.
 pub differ : (world : World) (p q : ℕ) → is_link world p ≡ false → is_link world q ≡ true → p ≢ q
 differ world p q no_link honest e = let same : is_link world p ≡ is_link world q = ap (is_link world) e in cc
 
--- the section of a link peer
+-- The section of a link peer.
 pub section_is : (world : World) (q : ℕ) → section_of (link_config_of world) q ≡ section_start world.geometry q
 section_is world q = let turn : world.geometry.out * q ≡ q * world.geometry.out = mul_comm world.geometry.out q in omega arith
 
@@ -81,7 +81,7 @@ above_table : (g : Shape) (p word : ℕ) → MayWrite g p word → g.table ≤ w
 above_table g p word (inl mine) = omega arith
 above_table g p word (inr common) = common.0
 
--- a read of such a peer
+-- A read of a peer that isn't an honest link peer.
 pub read_stands : (world : World) (past : List Line) (p word value : ℕ) (ends : ℕ → End) (places : ℕ → Place) → IsWorld world → is_link world p ≡ false → Stands world past ends places → Stands world (line.Read p word value ∷ past) ends places
 read_stands world past p word value ends places is no_link = outside_stands world past (line.Read p word value) ends places is record {
   untouched = λ q below honest. record { state = refl; section = λ j small. refl };
@@ -117,7 +117,7 @@ write_stands world past p word value ends places is no_link may = outside_stands
     below_table : (q : ℕ) → q < 2 → word ≢ q
     below_table q below e = let high = above_table world.geometry p word may in let page = is.geometry.table_page in absurd (omega arith)
 
--- a line that sets the state of such a peer
+-- A line that sets the State of a peer that isn't an honest link peer.
 state_untouched : (world : World) (past : List Line) (p value : ℕ) → IsWorld world → p < world.geometry.peers → is_link world p ≡ false → (q : ℕ) → q < 2 → is_link world q ≡ true →
     IsUntouched (link_config_of world) (last_write past) (λ at. (if p == at then value else last_write past at)) q
 state_untouched world past p value is few no_link q below honest = record {

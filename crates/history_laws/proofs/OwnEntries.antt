@@ -1,4 +1,5 @@
--- An honest link peer along its own entries: the calls that it may be given, its turns, and what its end keeps.
+-- An honest link peer along its own event records: its permitted calls, its turns, and the
+-- invariant of its end.
 use Rattle.std.proofs.Common.{◌≡◌, ◌≢◌, ℕ, zero, suc, ◌<◌, ◌⊎◌, inl, inr, Bool, true, false, List, [], ◌∷◌, refl, sym, ap, ◌∙◌, subst}
 use Rattle.std.specs.Prelude.{◌==◌, ◌&&◌, nat_le, if◌then◌else◌, Option, Some, None, slice_get}
 use Rattle.std.specs.List.{AllByRecursion}
@@ -33,14 +34,14 @@ use Rattle.history_laws.proofs.Outside.{here_is}
 use Rattle.history_laws.proofs.StepLines.{stored_at}
 use Rattle.history_laws.proofs.Turns.{ended_is_closed, goes_is_open}
 
--- The calls that a peer may be given
+-- The permitted calls of a peer
 
 abbrev pub IsCalm : Chooser → Type 0
 IsCalm Nobody = Unit {0}
 IsCalm (TheRule expected) = Unit {0}
 IsCalm TheStorm = ⊥
 
--- those that were asked for and the frames of an automatic peer may be given, and it is no storm
+-- The queued calls and the frames of an automatic end are permitted, and the peer has no storm.
 pub record MayCall (world : World) (past : List EventRecord) : Type 0 where
   pub asked : AllByRecursion (IsGivenTo (link_config_of world)) (queued_since_reset past)
   pub frames : AllByRecursion (IsOffered (link_config_of world)) (frames_left past)
@@ -85,7 +86,7 @@ may_call_on world entry past honest proper may = record {
   calm = calm_after world entry.event (chooser past) honest proper may.calm;
 }
 
--- The call that comes next
+-- The next call
 
 rule_suits : (world : World) (finished outside anew offer : Bool) (frames : List (List ℕ)) → AllByRecursion (IsOffered (link_config_of world)) frames →
     HoldsOfOffer (IsOffered (link_config_of world)) (if finished then IsFinished else if outside then ChoosesTick else if anew then first_or_poll frames else if offer then ChoosesPoll else ChoosesTick)
@@ -123,7 +124,7 @@ next_given world peer call may is = next_by_given world peer (slice_get (queued_
 
 -- A turn
 
--- the peer takes this step of such a call
+-- The peer makes this step of the call.
 pub record TakesStep (tree : CallTree) (old : Progress) (went : Option Step) (new : Progress) : Type 0 where
   pub step : Step
   pub left : CallTree
@@ -133,18 +134,18 @@ pub record TakesStep (tree : CallTree) (old : Progress) (went : Option Step) (ne
   pub left_is : new.left ≡ left
   pub past_is : new.past ≡ old.past
 
--- the first step of the call that comes next
+-- The first step of the next call.
 pub record BeginsNext (config : EndConfig) (old : Progress) (went : Option Step) (new : Progress) : Type 0 where
   pub call : Call
   pub next : next_call old ≡ Some call
   pub closed : old.left ≡ Ended
   pub takes : TakesStep (tree_of config old.end call) old went new
 
--- none, that, or a step of the open call
+-- No step, the first step of the next call, or a step of the open call.
 abbrev pub TurnIs : EndConfig → Progress → Option Step → Progress → Type 0
 TurnIs config old went new = ((went ≡ None) × (new ≡ old)) ⊎ (BeginsNext config old went new ⊎ TakesStep old.left old went new)
 
--- no call comes next, or this one, which is open then
+-- There is no next call, or it is this one, which is open then.
 abbrev Opens : EndConfig → Progress → Option Call → Progress → Type 0
 Opens config old next new = ((new ≡ old)) ⊎ ((call : Call) × (next ≡ Some call) × (new.left ≡ tree_of config old.end call) × (new.end ≡ old.end) × (new.past ≡ old.past))
 
@@ -207,7 +208,7 @@ turn_by world p old (Reads word marks rest) went new is calm moves = inr (inr (g
 pub turn_is : (world : World) (p : ℕ) (old : Progress) (went : Option Step) (new : Progress) → IsCalm (chooser old.past) → Turns world p old went new → TurnIs (config_of world p) old went new
 turn_is world p old went new calm turns = turn_by world p old old.left went new refl calm turns
 
--- What the end keeps, over words of its own
+-- The invariant of the end, over words of its own
 
 pub record Keeps (world : World) (p : ℕ) (end : End) (left : CallTree) : Type 0 where
   pub memory : ℕ → ℕ
@@ -237,7 +238,7 @@ keeps_begun world p end call is given k =
       rest = following.begins config end call;
     }
 
--- the words after an access of this end
+-- The words after an access of this end.
 words_after : ℕ → (ℕ → ℕ) → Access → ℕ → ℕ
 words_after p memory (access.Write word written) w = if word == w then written else memory w
 words_after p memory (access.State state) w = if p == w then state else memory w

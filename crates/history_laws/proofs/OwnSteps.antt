@@ -1,4 +1,4 @@
--- What an honest link peer does itself: it begins a call, takes the step at its place, or is reset.
+-- The actions of an honest link peer: it begins a call, makes the step at its place, or is reset.
 use Rattle.std.proofs.Common.{◌≡◌, ◌≢◌, ℕ, ◌-◌, ◌<◌, true, false, List, ◌∷◌, ◌++◌, refl, sym, ◌∙◌, ap, subst, arith, inl, inr, ◌⊎◌, zero, suc, []}
 use mathlib.Core.Logic.{dite}
 use native.Mathlib.Decide.{ℕ_discrete}
@@ -50,14 +50,15 @@ use Rattle.split_ring.specs.declared.ranges.Refused.{Refused}
 use Rattle.call_grammar.specs.Steps.{Mark, Refuse}
 use Rattle.call_grammar.specs.Offers.{refusal}
 
--- a link peer is one of two
+-- A link peer is one of two.
 pub one_or_other : (p q : ℕ) → p < 2 → q < 2 → (q ≡ p) ⊎ (q ≡ 1 - p)
 one_or_other p q below below' = dite (ℕ_discrete q p) (λ e. inl e) (λ ne. inr (omega arith))
 
 other_is : (p : ℕ) → p < 2 → 1 - p ≢ p
 other_is p below e = absurd (omega arith)
 
--- what lines of p keep: its side has become new, and the words, the side and the reads of the other stay
+-- The effect of lines of p: its side is `new`, and the words, the side and the reads of the other
+-- stay.
 pub record Keeps (world : World) (past after : List Line) (p : ℕ) (new : Side) : Type 0 where
   pub here : side_of after p ≡ new
   pub neighbour_word : side_of after (1 - p) ≡ side_of past (1 - p)
@@ -67,7 +68,7 @@ pub record Keeps (world : World) (past after : List Line) (p : ℕ) (new : Side)
   pub settled : Settled world after
   pub fine : EachLine (Fine world) after
 
--- The ends after lines by which end p comes to be this end at this place, and the other side stays
+-- The ends after lines by which end p becomes this end at this place, and the other side stays
 
 come_stands : (world : World) (past after : List Line) (ends after_ends : ℕ → End) (places after_places : ℕ → Place) (p : ℕ) (end : End) (place : Place) (new : Side) → IsWorld world → p < 2 → is_link world p ≡ true →
     OnlyEndChanges ends after_ends places after_places p end place → LinkInvariant (link_config_of world) (is_link world) (last_write after) after_ends after_places → SideIs end place new → ReadsAre (config_of (link_config_of world) p) place (reads_of after p) → UnrungIs world p place after → (has_events world.queue ≡ true → ArmedIs (fields (link_config_of world) (last_write after) p AvailEvent) end place) → Keeps world past after p new → Stands world past ends places →
@@ -145,7 +146,7 @@ begins_stands world past ends after_ends places after_places p call is below hon
 
 -- A step
 
--- an end that bears the mark writes State 0 alone
+-- An end with the mark writes no State except 0.
 abbrev IsZero : Access → Type 0
 IsZero (access.Read word) = Unit {0}
 IsZero (access.Write word written) = Unit {0}
@@ -166,14 +167,14 @@ rests_at world past p (access.State state) none writes = none
 rests_at world past p (access.Ring target vector) none writes = tt
 rests_at world past p access.Nothing none writes = tt
 
--- the phase of RESET
+-- The phase of RESET.
 phase_reset : (phase : Phase) → state_of phase ≡ 0 → phase ≡ Reset
 phase_reset Reset e = refl
 phase_reset Init e = absurd (omega arith)
 phase_reset Ready e = absurd (omega arith)
 phase_reset Run e = absurd (omega arith)
 
--- the marks of a read answer it: where it is out of range they are its refusal
+-- The marks of a read: if the value is out of range, they are its refusal.
 answered_by : (world : World) (past : List Line) (p word value : ℕ) (marks : List Mark) →
     ((refused : Refused) → is_link world p ≡ true → IsReadBeyond (model.config_of world p) (side_of past p) (reads_of past p ++ got word value ∷ []) refused.field refused.value → marks ≡ refusal refused.field refused.value) →
     AnswersMarks world (line.Read p word value ∷ past) p marks

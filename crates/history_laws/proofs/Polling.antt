@@ -1,4 +1,4 @@
--- What a poll delivers between its look and its end.
+-- The frames that a poll delivers between its read of the available index and its end.
 use Rattle.std.proofs.Common.{◌≡◌, ◌≢◌, ℕ, ◌+◌, List, [], ◌∷◌, ◌++◌, length, refl, sym, ◌∙◌, ap, subst, arith, eq-eqb, ne_eqb, length-append}
 use mathlib.Core.Logic.{dite}
 use native.Mathlib.Decide.{ℕ_discrete}
@@ -17,7 +17,7 @@ use Rattle.history_laws.proofs.Outside.{here_is, there_is}
 use Rattle.history_laws.proofs.Lines.{at_line, middle}
 use Rattle.history_laws.proofs.Along.{all_fine}
 
--- how far the side looked stays, and it delivered so many more
+-- The number found stays, and `count` more frames are delivered.
 record Delivers (old new : Side) (count : ℕ) : Type 0 where
   looked : new.looked ≡ old.looked
   delivered : length new.delivered ≡ length old.delivered + count
@@ -41,7 +41,7 @@ told_delivers peer p (Wrote state) side e within = absurd (within e)
 told_delivers peer p (Marked mark) side e within = marked_delivers peer p mark side e within
 told_delivers peer p WasReset side e within = record { looked = refl; delivered = omega arith }
 
--- another peer's line delivers nothing of p
+-- Another peer's line delivers no frame of p.
 none_marked : (peer p : ℕ) (mark : Mark) → peer ≢ p → delivers (Tells peer (Marked mark)) p ≡ 0
 none_marked peer p (Saw value) ne = refl
 none_marked peer p (Reclaim count) ne = refl

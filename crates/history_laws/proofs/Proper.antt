@@ -1,5 +1,5 @@
--- Each event of a scenario is one that its peer may come to: calls and automatic peers are of honest link peers, storms and accesses of
--- their own accord of the others.
+-- Each event of a scenario is permitted to its peer. Calls and automatic ends belong to honest link
+-- peers, storms and accesses outside calls to the others.
 use Rattle.std.proofs.Common.{◌≡◌, ℕ, zero, suc, ◌+◌, ◌<◌, ◌≤◌, Bool, true, false, List, [], ◌∷◌, ◌++◌, refl, arith, replicate}
 use Rattle.std.specs.Prelude.{slice_get, slice_index, Some, nat_lt, nat_le, ◌&&◌, ◌==◌, not, if◌then◌else◌, length}
 use Rattle.std.specs.List.{AllByRecursion}
@@ -18,11 +18,12 @@ use Rattle.link_invariant.specs.LinkConfig.{LinkConfig, IsLinkConfig, IsGivenTo}
 use Rattle.lawful_history.specs.Sides.{traffic_vector}
 use Rattle.lawful_history.specs.Schedule.{Event, CallQueued, AutoStarted, StormStarted, TurnTaken, RegionAccessed, DeviceReset, DeviceAccessed, InterruptDropped, InterruptRepeated, register_event, events_of, schedule}
 
--- the link's configuration of the scenario's link
+-- The configuration of the scenario's link.
 abbrev pub link_config_of : World → LinkConfig
 link_config_of world = record { first = section_start world.geometry 0; words = world.geometry.out; sizes = world.queue; vector = traffic_vector world.wiring }
 
--- an access of its own accord: a doorbell is anyone's, the others are those of peers that aren't honest link peers
+-- An access outside a call: any peer may ring a doorbell, and only peers that aren't honest link
+-- peers may make another access.
 abbrev pub MayAct : Bool → Access → Type 0
 MayAct honest (access.Read word) = honest ≡ false
 MayAct honest (access.Write word written) = honest ≡ false

@@ -1,4 +1,4 @@
--- What a call has read at its place, and how each step goes on with it.
+-- The values that a call has read at its place, and after each step.
 use Rattle.std.proofs.Common.{◌≡◌, ℕ, zero, suc, ◌+◌, ◌-◌, ◌/◌, ◌<◌, ◌≤◌, Bool, true, false, List, [], ◌∷◌, ◌++◌, length, refl, sym, ◌∙◌, ap, subst, arith, ne_eqb}
 use Rattle.std.specs.Prelude.{◌==◌, nat_le, if◌then◌else◌}
 use Rattle.std.proofs.lemmas.Bool.Decides.{nat_tests}
@@ -26,8 +26,8 @@ use Rattle.history_laws.specs.Reads.{Got, got, entry_read, low_read, high_read, 
 flags_tells : (f : ℕ) → (f == 0) ≡ true → IsDescFlags f
 flags_tells f test = grind (arith, nat_tests)
 
--- what the call has read since its last mark: of the item in hand, with the tests that it passed; an offer that has begun to read ids, those, and one that
--- is to ring the other's event
+-- The values that the call has read since its last mark. For an item they are its values, which
+-- passed their tests. An offer has read ids, or reads the other's avail_event next.
 abbrev pub ReadsAre : EndConfig → Place → List Got → Type 0
 ReadsAre config (ReadingUsedId pending freed more) reads = Unit {0}
 ReadsAre config (WritingFrameWord pending at more) reads = Unit {0}
@@ -52,7 +52,7 @@ ReadsAre config (ReadingFrameWord number more entry address bytes words left) re
     (address ≡ item_address read) × IsDescAddress config.sizes (item_address read) × (bytes ≡ read.bytes) × IsDescLength config.sizes (item_address read) read.bytes × IsDescFlags (low_half read.flags_word)
 ReadsAre config place reads = reads ≡ []
 
--- what is read after a step: its marks begin anew
+-- The reads after a step: its marks empty the list.
 abbrev pub reads_taken : Access → ℕ → List Got → List Got
 reads_taken (access.Read word) value reads = reads ++ got word value ∷ []
 reads_taken (access.Write word written) value reads = reads
@@ -64,7 +64,7 @@ abbrev pub reads_marked : List Mark → List Got → List Got
 reads_marked [] reads = reads
 reads_marked (mark ∷ marks) reads = []
 
--- Places that have read nothing of an item
+-- Places without a read of an item
 
 either : (P : Place → Type 0) (b : Bool) (x y : Place) → P x → P y → P (if b then x else y)
 either P true x y px py = px
@@ -104,7 +104,7 @@ by_test : (config : EndConfig) (taken : List Got) (b : Bool) (x y : Place) (mark
 by_test config taken true x y marks others px py = px refl
 by_test config taken false x y marks others px py = py refl
 
--- one more word of a frame
+-- One more word of a frame.
 word_last : (config : EndConfig) (address at value : ℕ) (words : List ℕ) → word_reads config address at (words ++ value ∷ []) ≡ word_reads config address at words ++ got (config.theirs + (address / 4 + (at + length words))) value ∷ []
 word_last config address at value [] = ap (λ (k : ℕ). got (config.theirs + (address / 4 + k)) value ∷ []) (let e : at ≡ at + 0 = omega arith in e)
 word_last config address at value (word ∷ words) =
@@ -117,7 +117,7 @@ next_word config address value words =
     let e : length words ≡ 0 + length words = omega arith in
     ap (λ (k : ℕ). word_reads config address 0 words ++ got (config.theirs + (address / 4 + k)) value ∷ []) e ∙ sym (word_last config address 0 value words)
 
--- The reads after each read of an item, as those of an item in which the value stands
+-- The reads after each read of an item, as reads of an item with that value
 
 abbrev pub with_entry_word : ℕ → Item
 with_entry_word value = record { entry_word = value; low = 0; high = 0; bytes = 0; flags_word = 0; words = [] }
@@ -163,7 +163,7 @@ words_reads : (config : EndConfig) (number more entry address bytes : ℕ) (word
 words_reads config number more entry address bytes words zero reads some is = absurd (omega arith)
 words_reads config number more entry address bytes words (suc left) reads some is = is left
 
--- the marks of an id that passed: full where the frame has no room, or none
+-- The marks of an id that passed its test: Full if the frame doesn't fit, or none.
 ids_marked : (config : EndConfig) (pending : PendingOffer) (freed more : ℕ) (taken : List Got) → ReadsAre config (ids_place config pending freed more) (reads_marked (if more == 0 then full_marks config pending freed else []) taken)
 ids_marked config pending freed zero taken = by_bool (frame_fits config pending freed)
   where

@@ -1,4 +1,4 @@
--- Refusals over the rows.
+-- Refusals in the rows.
 use Rattle.std.proofs.Common.{◌≡◌, ◌≢◌, ℕ, ◌-◌, ◌<◌, true, false, List, [], ◌∷◌, ◌++◌, refl, sym, ◌∙◌, ap, subst, arith, eq-eqb}
 use mathlib.Core.Logic.{dite}
 use native.Mathlib.Decide.{ℕ_discrete}
@@ -35,7 +35,7 @@ never_lem world before after p refused is one other lawful =
     (λ e. let o : 1 - p ≡ 1 = omega arith in let f : true ≡ false = sym other ∙ (ap (is_link world) (sym o) ∙ r.hostile) in absurd (cc))
     (λ ne. let o : 1 - p ≡ 0 = omega arith in let f : true ≡ false = sym one ∙ (ap (is_link world) (sym o) ∙ r.hostile) in absurd (cc))
 
--- A side that refused stays so until its reset
+-- A side that refused stays refused until its reset
 
 marked_refused : (mark : Mark) (side : Side) → side.refused ≡ true → (side_after (Marked mark) side).refused ≡ true
 marked_refused (Saw value) side is = is

@@ -17,7 +17,7 @@ use Rattle.history_laws.proofs.Outside.{here_is, there_is}
 use Rattle.history_laws.proofs.Lines.{at_beginning}
 use Rattle.history_laws.proofs.Along.{all_fine}
 
--- a run of the machine to the sides and sessions of the link peers after these lines
+-- A run of the machine to the sides and sessions of the link peers after these lines.
 record RunsTo (world : World) (past : List Line) : Type 0 where
   sides : ℕ → Side
   logs : ℕ → Log
@@ -28,7 +28,7 @@ record RunsTo (world : World) (past : List Line) : Type 0 where
 runs_alike : (world : World) (past : List Line) (l : Line) → ((q : ℕ) → q < 2 → side_of (l ∷ past) q ≡ side_of past q) → ((q : ℕ) → q < 2 → log_of (l ∷ past) q ≡ log_of past q) → RunsTo world past → RunsTo world (l ∷ past)
 runs_alike world past l same_side same_log r = record { sides = r.sides; logs = r.logs; runs = r.runs; sides_are = λ q below. r.sides_are q below ∙ sym (same_side q below); logs_are = λ q below. r.logs_are q below ∙ sym (same_log q below) }
 
--- a line of the telling t
+-- A line with the side event t.
 side_is : (past : List Line) (l : Line) (t : LineSideEvent) (q : ℕ) → line_side_event_of l ≡ t → side_of (l ∷ past) q ≡ side_after_line t q (side_of past q)
 side_is past l t q e = ap (λ (x : LineSideEvent). side_after_line x q (side_of past q)) e
 
@@ -44,7 +44,7 @@ row_of world past p WasReset new below row = row below
 other_below : (p : ℕ) → p < 2 → 1 - p < 2
 other_below p below = omega arith
 
--- one link peer's side and sessions change
+-- One link peer's side and sessions change.
 module _ {A : Type 0} (f : ℕ → A) (p : ℕ) (x : A) where
   changed : ℕ → A
   changed q = if q == p then x else f q

@@ -24,7 +24,7 @@ use Rattle.history_laws.proofs.AtMarks.{delivered_lem}
 abbrev word_of : Got → ℕ
 word_of read = read.word
 
--- A word that was read once has the value that its read gave
+-- A word that was read once has the value of its read
 
 is_other : (word : ℕ) (read : Got) (before after : List Got) → IsNone word (map word_of (before ++ read ∷ after)) → word ≢ read.word
 is_other word read [] after none = none.0
@@ -36,7 +36,7 @@ found config read place (first ∷ before) after is apart =
     let differs : first.word ≢ config.theirs + place = λ same. is_other first.word read before after apart.0 (same ∙ sym is) in
     no (first.word == config.theirs + place) first.value (words_read config (before ++ read ∷ after) place) (ne_eqb first.word (config.theirs + place) differs) ∙ found config read place before after is apart.1
 
--- so the step that read it met that word
+-- So the step that read it met that word.
 meets : (config : EndConfig) (read : Got) (place : ℕ) (before after : List Got) → read.word ≡ config.theirs + place → AreDistinct (map word_of (before ++ read ∷ after)) → read.value ≡ words_read config (before ++ read ∷ after) (read.word - config.theirs)
 meets config read place before after is apart =
     let at : read.word - config.theirs ≡ place = omega arith in sym (ap (words_read config (before ++ read ∷ after)) at ∙ found config read place before after is apart)

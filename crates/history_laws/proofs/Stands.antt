@@ -1,4 +1,5 @@
--- Where two link peers stand after the lines of a history, and the lines that change nothing of it.
+-- The places of two link peers after the lines of a history, and the lines that change nothing of
+-- them.
 use Rattle.std.proofs.Common.{◌≡◌, ◌≢◌, ℕ, ◌-◌, ◌<◌, Bool, true, false, List, [], ◌∷◌, ◌++◌, length, refl, sym, ◌∙◌, ap, subst, append_assoc}
 use Rattle.std.specs.Prelude.{if◌then◌else◌, Option, Some, None, nat_lt, reverse}
 use Rattle.std.specs.List.{AllByRecursion}
@@ -43,13 +44,17 @@ use Rattle.split_ring.specs.declared.ranges.Refused.{Refused}
 use Rattle.split_ring.specs.declared.steps.Access.{Access}
 use Rattle.split_ring.specs.declared.steps.Access.TheVariants as access
 
--- the newest of these lines is a look of peer p that found nothing
+-- The newest of these lines is a read mark of peer p that found no frame.
 abbrev pub EndsLook : ℕ → List Line → Type 0
 EndsLook p [] = ⊥
 EndsLook p (newest ∷ older) = newest ≡ line.Look p 0
 
--- what stands where a mark does: an accepted frame is spelled, a delivered one was read, a refused value too, and an index once; and where the call of an
--- accepted frame is over without a doorbell, the other's event doesn't ask for one; and where a poll is done that found nothing, the event is at the next frame
+-- The facts at a mark:
+-- - an accepted frame is in the section; a delivered frame and a refused value were read, and an
+--   index once;
+-- - if the call of an accepted frame is over without a doorbell, the other's avail_event wants
+--   none;
+-- - after a finished poll that found no frame, avail_event is the next frame's number.
 abbrev pub MarkRests : World → List Line → ℕ → Mark → Type 0
 MarkRests world older p (Reclaim count) = IsIndexRead (config_of world p) p older UsedIndex (side_of older p).freed count
 MarkRests world older p (Accept frame) = SpellsNext world older p frame
@@ -61,7 +66,7 @@ MarkRests world older p Over = Unrung world p older → wants_doorbell (low_half
 MarkRests world older p Done = has_events world.queue ≡ true → EndsLook p older → EventIs world older p (length (side_of older p).delivered)
 MarkRests world older p mark = Unit {0}
 
--- and an honest side that refused writes 0 alone
+-- An honest side that refused writes only State 0.
 abbrev pub Rests : World → List Line → LineSideEvent → Type 0
 Rests world older (Tells p (Gave value)) = Unit {0}
 Rests world older (Tells p (Wrote state)) = is_link world p ≡ true → (side_of older p).refused ≡ true → state ≡ 0
@@ -69,7 +74,7 @@ Rests world older (Tells p (Marked mark)) = MarkRests world older p mark
 Rests world older (Tells p WasReset) = Unit {0}
 Rests world older Silent = Unit {0}
 
--- After a read of an honest link peer out of range stands the refusal, and nothing else
+-- After an honest link peer's read out of range the next line is the refusal
 
 abbrev pub Answered : World → Reading → List Line → Line → Type 0
 Answered world (Takes p word value) older next = (refused : Refused) → is_link world p ≡ true → IsReadBeyond (config_of world p) (side_of older p) (reads_of older p ++ got word value ∷ []) refused.field refused.value → next ≡ line.Refuse p refused
@@ -85,7 +90,7 @@ SettledBy world (Takes p word value) older = (refused : Refused) → is_link wor
 SettledBy world (Breaks p) older = Unit {0}
 SettledBy world Passes older = Unit {0}
 
--- the newest of these lines is no such read
+-- The newest of these lines isn't a read out of range.
 abbrev pub Settled : World → List Line → Type 0
 Settled world [] = Unit {0}
 Settled world (line ∷ older) = SettledBy world (reading_of line) older
@@ -95,12 +100,12 @@ settled_by world (Takes p word value) older line settled = λ refused honest bey
 settled_by world (Breaks p) older line settled = tt
 settled_by world Passes older line settled = tt
 
--- then any line may come next
+-- Then any line may be next.
 pub answers : (world : World) (past : List Line) (line : Line) → Settled world past → AnswersTo world past line
 answers world [] line settled = tt
 answers world (first ∷ older) line settled = settled_by world (reading_of first) older line settled
 
--- an honest side in RESET writes no word
+-- An honest side in RESET writes no word.
 abbrev pub WritesIn : World → List Line → Line → Type 0
 WritesIn world older (line.Write p word value) = is_link world p ≡ true → (side_of older p).state ≢ 0
 WritesIn world older line = Unit {0}
@@ -113,11 +118,12 @@ pub writes_told : (world : World) (older : List Line) (l : Line) (p : ℕ) (told
 writes_told world older (line.Write p word value) q told tells = absurd (cc)
 writes_told world older l p told tells = tt
 
--- what is kept of each line
+-- The invariant of each line.
 abbrev pub Fine : World → List Line → Line → Type 0
 Fine world older line = HasRow world older line (line_side_event_of line) × Rests world older (line_side_event_of line) × AnswersTo world older line × WritesIn world older line
 
--- after these lines the ends stand at these places, each honest one is the side of the lines and has read what is among them, and the state words are those of the sides
+-- After these lines the ends are at these places. Each honest end is the side of the lines and has
+-- their reads, and the State words are the sides' States.
 pub record Stands (world : World) (past : List Line) (ends : ℕ → End) (places : ℕ → Place) : Type 0 where
   pub holds : LinkInvariant (link_config_of world) (is_link world) (last_write past) ends places
   pub sides : (p : ℕ) → p < 2 → is_link world p ≡ true → SideIs (ends p) (places p) (side_of past p)
@@ -150,7 +156,7 @@ stands_alike world old new ends places a s = record {
   fine = a.fine s.settled s.fine;
 }
 
--- the same ends at the same places
+-- The same ends at the same places.
 pub ends_alike : (world : World) (past : List Line) (ends after_ends : ℕ → End) (places : ℕ → Place) → ((p : ℕ) → p < 2 → is_link world p ≡ true → after_ends p ≡ ends p) → Stands world past ends places → Stands world past after_ends places
 ends_alike world past ends after_ends places same s = record {
   holds = whole_like (link_config_of world) (is_link world) (last_write past) ends after_ends places same s.holds;
@@ -163,7 +169,7 @@ ends_alike world past ends after_ends places same s = record {
   fine = s.fine;
 }
 
--- a line that leaves every word and tells the machine nothing
+-- A line that leaves every word and has no side event.
 pub record IsQuiet (line : Line) : Type 0 where
   pub apart : memory_effect_of line ≡ touch.Apart
   pub silent : line_side_event_of line ≡ Silent
@@ -201,7 +207,7 @@ quiet_line world line past q = record {
 alike_on : (world : World) (old mid new : List Line) → Alike world old mid → Alike world mid new → Alike world old new
 alike_on world old mid new a b = record { memory = b.memory ∙ a.memory; sides = b.sides ∙ a.sides; reads = b.reads ∙ a.reads; unrung = λ p place is. b.unrung p place (a.unrung p place is); settled = λ settled. b.settled (a.settled settled); fine = λ settled f. b.fine (a.settled settled) (a.fine settled f) }
 
--- the first of some new lines is the oldest of them
+-- The first of some new lines is the oldest of them.
 pub first_after : (line : Line) (lines past : List Line) → reverse (line ∷ lines) ++ past ≡ reverse lines ++ (line ∷ past)
 first_after line lines past = ap (λ r. r ++ past) (reverse-append (line ∷ []) lines) ∙ append_assoc (reverse lines) (line ∷ []) past
 
@@ -251,7 +257,7 @@ device_quiet world older losses (DeviceAccessed p a) went = (reached_quiet world
 device_quiet world older losses (InterruptDropped p) went = tt
 device_quiet world older losses (InterruptRepeated p vector) went = (record { apart = refl; silent = refl; passes = refl }, tt)
 
--- a read brings no line of the devices
+-- A read adds no line of the devices.
 abbrev pub BringsNone : Access → List Line → Type 0
 BringsNone (access.Read word) device = device ≡ []
 BringsNone (access.Write word written) device = Unit {0}

@@ -1,4 +1,4 @@
--- The lines of a step of an honest link peer: they go along the rows of the step.
+-- The lines of a step of an honest link peer satisfy the rows of the step.
 use Rattle.std.proofs.Common.{◌≡◌, ◌≢◌, ℕ, ◌-◌, ◌<◌, Bool, true, List, [], ◌∷◌, ◌++◌, refl, sym, ◌∙◌, ap, subst, append_assoc, arith, inl, inr, ◌⊎◌}
 use Rattle.std.specs.Prelude.{◌==◌, if◌then◌else◌, map, reverse}
 use Rattle.std.specs.List.{AllByRecursion}
@@ -24,7 +24,7 @@ use Rattle.history_laws.proofs.MarkLines.{mark_is, after_access}
 use Rattle.history_laws.proofs.Stands.{MarkRests, Rests, Fine, IsQuiet, quiet_lines, memory_after, first_after, AnswersTo, SettledBy, Settled, writes_told, answers}
 use Rattle.history_laws.proofs.Outside.{here_is, there_is}
 
--- The row of what is told determines the side after it
+-- The row of a side event determines the side after it
 
 mark_new : (sizes : Sizes) (honest : Bool) (side other : Side) (mark : Mark) (new : Side) → MarkRow sizes honest side other mark new → new ≡ side_marked mark side
 mark_new sizes honest side other (Saw value) new row = row.2
@@ -45,7 +45,7 @@ row_new sizes mine theirs side other (Wrote state) new row = row.1
 row_new sizes mine theirs side other (Marked mark) new row = mark_new sizes theirs side other mark new row.1
 row_new sizes mine theirs side other WasReset new row = row
 
--- A line that tells something of an honest link peer, and its row
+-- A line of an honest link peer with a side event, and its row
 
 pub record OneTold (world : World) (past : List Line) (line : Line) (p : ℕ) (new other : Side) : Type 0 where
   pub fine : Fine world past line
@@ -90,12 +90,12 @@ marked_none : (marks : List Mark) → reads_marked marks [] ≡ []
 marked_none [] = refl
 marked_none (mark ∷ marks) = refl
 
--- what stands where each of these marks does, after these lines
+-- The facts at each of these marks, after these lines.
 abbrev pub MarksRest : World → List Line → ℕ → List Mark → Type 0
 MarksRest world older p [] = Unit {0}
 MarksRest world older p (mark ∷ marks) = MarkRests world older p mark × MarksRest world (mark_line p mark ∷ older) p marks
 
--- the first of these marks may come next, or where there is none any line
+-- The line of the first of these marks may be next. If there is none, any line may be next.
 abbrev pub AnswersMarks : World → List Line → ℕ → List Mark → Type 0
 AnswersMarks world past p [] = Settled world past
 AnswersMarks world past p (mark ∷ marks) = AnswersTo world past (mark_line p mark)
@@ -107,7 +107,8 @@ settled_marks world past p (mark ∷ marks) settled = answers world past (mark_l
 mark_settled : (world : World) (past : List Line) (p : ℕ) (mark : Mark) → Settled world (mark_line p mark ∷ past)
 mark_settled world past p mark = subst (λ (r : Reading). SettledBy world r past) (sym (mark_is p mark).1) tt
 
--- After some lines with these marks: memory is as before, the side of p has become new and that of its partner stays
+-- After lines with these marks: the words are as before, the side of p is `new`, and the other's
+-- side stays
 
 pub record Went (world : World) (p : ℕ) (old new_lines : List Line) (marks : List Mark) (new : Side) : Type 0 where
   pub memory : last_write new_lines ≡ last_write old
@@ -138,7 +139,8 @@ marks_went world p (mark ∷ marks) past side new below honest is rests answered
       fine = rest.fine;
     }
 
--- the lines of the devices and the marks: where the marks answer the line before, there are none of the devices
+-- The lines of the devices and of the marks. If the marks answer the line before, there are no
+-- lines of the devices.
 abbrev Begins : World → List Line → ℕ → List Line → List Mark → Type 0
 Begins world past p device marks = Settled world past ⊎ ((device ≡ []) × AnswersMarks world past p marks)
 
@@ -178,7 +180,8 @@ pub record StepWent (world : World) (p : ℕ) (past : List Line) (a : Access) (v
   pub settled : Settled world after
   pub fine : EachLine (Fine world) after
 
--- a State access of an honest side that refused is of 0, and one in RESET writes no word
+-- A State access of an honest side that refused is State 0, and an honest side in RESET writes no
+-- word.
 abbrev pub RestsAt : World → List Line → ℕ → Access → Type 0
 RestsAt world past p (access.Read word) = Unit {0}
 RestsAt world past p (access.Write word written) = is_link world p ≡ true → (side_of past p).state ≢ 0
@@ -189,7 +192,7 @@ RestsAt world past p access.Nothing = Unit {0}
 pub stored_at : (word value : ℕ) (memory : ℕ → ℕ) (w : ℕ) → w ≢ word → (if word == w then value else memory w) ≡ memory w
 stored_at word value memory w ne = there_is word w value (memory w) (λ e. ne (sym e))
 
--- a read brings no lines of the devices, and its marks answer it
+-- A read adds no lines of the devices, and its marks answer it.
 abbrev pub ReadsAlone : World → ℕ → Access → ℕ → List Line → List Mark → List Line → Type 0
 ReadsAlone world p (access.Read word) value device marks past = (device ≡ []) × AnswersMarks world (line.Read p word value ∷ past) p marks
 ReadsAlone world p (access.Write word written) value device marks past = Unit {0}

@@ -1,4 +1,4 @@
--- What a peer may have before it: an honest link peer calls that may be given, any other peer none.
+-- The queued calls of a peer: permitted calls for an honest link peer, none for any other peer.
 use Rattle.std.proofs.Common.{◌≡◌, ℕ, Bool, true, false, List, [], ◌∷◌, ◌++◌, refl, sym, ◌∙◌}
 use Rattle.std.specs.List.{AllByRecursion}
 use Rattle.scenario_text.specs.Scenario.{World, is_link}
@@ -16,7 +16,8 @@ use Rattle.lawful_history.specs.History.{driven, moved_by, peer_in}
 use Rattle.lawful_history.proofs.Left.{left_keeps}
 use Rattle.history_laws.proofs.Proper.{link_config_of, IsProper}
 
--- an honest peer isn't a storm, and no other is automatic; the frames of an automatic peer may be offered
+-- An honest peer has no storm, and only an honest one is automatic. The frames of an automatic end
+-- may be offered.
 abbrev pub DriverSuits : World → Bool → Driver → Type 0
 DriverSuits world honest Waits = Unit {0}
 DriverSuits world honest (Chooses auto) = (honest ≡ true) × AllByRecursion (IsOffered (link_config_of world)) auto.frames
@@ -30,7 +31,7 @@ pub record Suits (world : World) (honest : Bool) (peer : Peer) : Type 0 where
 never : {A : Type 0} → (b : Bool) → b ≡ true → b ≡ false → A
 never b is_one is_none = let f : true ≡ false = sym is_one ∙ is_none in absurd (cc)
 
--- A peer is opened
+-- A call of the peer opens
 
 with_choice_suits : (world : World) (config : EndConfig) (peer : Peer) (honest : Bool) (auto : Auto) (choice : Choice) → honest ≡ true → AllByRecursion (IsOffered (link_config_of world)) auto.frames → Suits world honest peer → Suits world honest (with_choice config peer auto choice)
 with_choice_suits world config peer honest auto ChoosesTick is_one given s = record { waiting = s.waiting; driver = (is_one, given); idle = never honest is_one }
@@ -52,7 +53,7 @@ opened_by_suits world config peer honest (Reads word marks rest) waiting is give
 pub opened_suits : (world : World) (config : EndConfig) (peer : Peer) (honest : Bool) → Suits world honest peer → Suits world honest (opened config peer)
 opened_suits world config peer honest s = opened_by_suits world config peer honest peer.left peer.waiting refl s.waiting s
 
--- It moves
+-- The peer makes a step
 
 driver_suits : (world : World) (honest : Bool) (driver : Driver) (marks : List Mark) → DriverSuits world honest driver → DriverSuits world honest (driver_after driver marks)
 driver_suits world honest Waits marks given = tt
@@ -69,7 +70,7 @@ moved_suits world honest peer Ended past is s = driven_suits world honest peer p
 moved_suits world honest peer (Does a marks rest) past is s = record { waiting = s.waiting; driver = driver_suits world honest peer.driver marks s.driver; idle = λ is_none. let none = is ∙ (s.idle is_none).0 in absurd (cc) }
 moved_suits world honest peer (Reads word marks rest) past is s = record { waiting = s.waiting; driver = driver_suits world honest peer.driver (marks (last_write past word)) s.driver; idle = λ is_none. let none = is ∙ (s.idle is_none).0 in absurd (cc) }
 
--- It is asked, or reset
+-- A call is queued, or the peer is reset
 
 pub waiting_given : (P : Call → Type 0) (waiting : List Call) (call : Call) → AllByRecursion P waiting → P call → AllByRecursion P (waiting ++ call ∷ [])
 waiting_given P [] call given this = (this, tt)
@@ -101,7 +102,7 @@ cut_suits world honest Waits given = tt
 cut_suits world honest (Chooses auto) given = given
 cut_suits world honest (Storms x) given = given
 
--- after each event its peer suits
+-- After each event its peer satisfies `Suits`.
 pub event_suits : (world : World) (peer : Peer) (past : List Line) (event : Event) → IsProper world event → Suits world (is_link world (event_peer event)) peer → Suits world (is_link world (event_peer event)) (peer_in world peer past event)
 event_suits world peer past (CallQueued p call) proper s = asked_suits world (is_link world p) peer peer.driver call proper.0 s.driver proper.1 s
 event_suits world peer past (AutoStarted p expected) proper s = record { waiting = s.waiting; driver = (proper, tt); idle = s.idle }

@@ -1,4 +1,4 @@
--- A turn: where no call is open the next one begins, and the step at its place is taken.
+-- A turn: if no call is open, the next one begins. Then the peer makes the step at its place.
 use Rattle.std.proofs.Common.{◌≡◌, ◌≢◌, ℕ, ◌<◌, true, false, List, [], ◌∷◌, ◌++◌, refl, sym, ◌∙◌, ap, subst, inl, inr, ◌⊎◌, eq-eqb, ne_eqb}
 use mathlib.Core.Logic.{dite}
 use native.Mathlib.Decide.{ℕ_discrete}
@@ -35,7 +35,7 @@ use Rattle.history_laws.proofs.Grounds.{who_is}
 use Rattle.history_laws.proofs.OwnSteps.{begins_stands, step_stands}
 use Rattle.history_laws.proofs.Suits.{DriverSuits, Suits, opened_suits}
 
--- one peer's place changed
+-- One peer's place changed.
 pub placed : (ℕ → Place) → ℕ → Place → ℕ → Place
 placed places p place q = if q == p then place else places q
 
@@ -47,7 +47,8 @@ pub placed_beside : (places : ℕ → Place) (p q : ℕ) (place : Place) → q �
 unfolding placed
 placed_beside places p q place ne = no (q == p) place (places q) (ne_eqb q p ne)
 
--- What the turn of an honest link peer comes to: the places after it, where the rest of its call is at its place
+-- The result of a turn of an honest link peer: the places after it, where the rest of its call is
+-- at its place
 
 pub record Came (world : World) (after : List Line) (after_ends : ℕ → End) (places : ℕ → Place) (p : ℕ) (left : CallTree) : Type 0 where
   pub after_places : ℕ → Place
@@ -55,7 +56,7 @@ pub record Came (world : World) (after : List Line) (after_ends : ℕ → End) (
   pub here : remaining (pair.config_of (link_config_of world) p) (after_places p) ≡ left
   pub neighbour_word : (q : ℕ) → q ≢ p → after_places q ≡ places q
 
--- no call is open, or one is
+-- No call is open, or one is.
 open_or_closed : (place : Place) → (is_open place ≡ true) ⊎ (place ≡ Closed)
 open_or_closed Closed = inr refl
 open_or_closed place = inl refl
@@ -74,7 +75,7 @@ goes_is_open config place step left goes = elim (open_or_closed place) [
 
 -- A call is opened
 
--- the place of the peer once it is opened: as before, or the first one of a call that it may be given
+-- The place of the peer after a call opens: as before, or the first place of a permitted call.
 abbrev OpensAs : World → EndConfig → End → Place → CallTree → Type 0
 OpensAs world config end place left = ((remaining config place ≡ left)) ⊎ ((place ≡ Closed) × ((call : Call) × IsGivenTo (link_config_of world) call × (tree_of config end call ≡ left)))
 
@@ -97,7 +98,7 @@ opened_by_opens world config peer place Ended (call ∷ waiting) at is given s =
 opened_by_opens world config peer place (Does a marks rest) waiting at is given s = inl (at ∙ is)
 opened_by_opens world config peer place (Reads word marks rest) waiting at is given s = inl (at ∙ is)
 
--- its end stays
+-- The peer's end stays.
 with_choice_end : (config : EndConfig) (peer : Peer) (auto : Auto) (choice : Choice) → (with_choice config peer auto choice).end ≡ peer.end
 with_choice_end config peer auto ChoosesTick = refl
 with_choice_end config peer auto (ChoosesOffer frame) = refl
@@ -118,7 +119,7 @@ opened_by_end config peer (Reads word marks rest) waiting = refl
 opened_end : (config : EndConfig) (peer : Peer) → (opened config peer).end ≡ peer.end
 opened_end config peer = opened_by_end config peer peer.left peer.waiting
 
--- the places once it is opened
+-- The places after a call opens.
 opens_stands : (world : World) (past : List Line) (ends : ℕ → End) (places : ℕ → Place) (p : ℕ) (left : CallTree) → IsWorld world → p < 2 → is_link world p ≡ true → OpensAs world (pair.config_of (link_config_of world) p) (ends p) (places p) left →
     Stands world past ends places → Came world past ends places p left
 opens_stands world past ends places p left is below honest (inl same) s = record { after_places = places; refines = s; here = same; neighbour_word = λ q ne. refl }
@@ -135,7 +136,7 @@ opens_stands world past ends places p left is below honest (inr (closed, (call, 
 
 -- The step of a call that is open
 
--- a read meets what its step met
+-- A read meets the value of its step.
 meets_like : (memory : ℕ → ℕ) (a : Access) (value met : ℕ) → value ≡ value_given a met → ReadsMemory memory a value → ReadsMemory memory a met
 meets_like memory (access.Read word) value met is m = sym is ∙ m
 meets_like memory (access.Write word written) value met is m = tt
@@ -209,7 +210,7 @@ moves_stands world past device ends after_ends places p peer (Reads word marks r
     let step = step_of (access.Read word) value (marks value) in
     going world past (device (Some step)) ends after_ends places p step (rest value) is below honest (quiet (Some step)) (brought step) (subst (λ (t : CallTree). Goes t step (rest value)) (sym at) (value, refl, refl)) refl (after_is ∙ ap (λ (e : End). end_after e step) end_is) ends_stay s
 
--- the turn of an honest link peer that is opened as the link's configuration has it
+-- The turn of an honest link peer with the link's configuration.
 turn_as : (world : World) (past : List Line) (device : Option Step → List Line) (ends after_ends : ℕ → End) (places : ℕ → Place) (p : ℕ) (peer : Peer) (config : EndConfig) → config ≡ pair.config_of (link_config_of world) p → IsWorld world → p < 2 → is_link world p ≡ true → ((went : Option Step) → AllByRecursion IsQuiet (device went)) → ((step : Step) → BringsNone step.access (device (Some step))) →
     StaysInReach config (opened config peer).left → remaining config (places p) ≡ peer.left → peer.end ≡ ends p → Suits world true peer → after_ends p ≡ (moved_by (opened config peer) (opened config peer).left past).end →
     ((q : ℕ) → q ≢ p → after_ends q ≡ ends q) → Stands world past ends places →

@@ -1,4 +1,4 @@
--- An offer whose frame is accepted and whose doorbell hasn't come yet, by the lines of its peer.
+-- An offer whose frame is accepted and whose doorbell hasn't rung yet, by the lines of its peer.
 use Rattle.std.proofs.Common.{◌≡◌, ◌≢◌, ℕ, ◌⊎◌, inl, inr, Bool, true, false, List, [], ◌∷◌, ◌++◌, refl, ap, ◌∙◌, subst, append_assoc}
 use Rattle.std.specs.Prelude.{map, reverse, if◌then◌else◌}
 use Rattle.std.specs.List.{AllByRecursion}
@@ -23,7 +23,7 @@ use Rattle.history_laws.specs.Wake.{doorbell_of}
 use Rattle.history_laws.proofs.Proper.{link_config_of}
 use Rattle.history_laws.proofs.MarkLines.{mark_is, after_access}
 
--- the last mark of peer p since its reset is an accept, and its doorbell hasn't come since
+-- The last mark of peer p since its reset is an accept, and its doorbell hasn't rung since.
 
 abbrev pub IsAccept : ℕ → Line → Type 0
 IsAccept p l = (frame : List ℕ) × (l ≡ line.Accept p frame)
@@ -46,7 +46,7 @@ unrung_before : (world : World) (p : ℕ) (l : Line) (older : List Line) → (Is
 unrung_before world p l older none (inl accept) = absurd (none accept)
 unrung_before world p l older none (inr stays) = was_unrung (reading_of l) p (Unrung world p older) stays.1
 
--- where an end is at a place, this is so only in an offer that is to hear the event or to ring
+-- Only an offer before the read of avail_event or before the doorbell is in this state.
 abbrev pub UnrungIs : World → ℕ → Place → List Line → Type 0
 UnrungIs world p (ReadingAvailEvent number) past = Unit {0}
 UnrungIs world p RingingOffer past = Unit {0}
@@ -137,7 +137,7 @@ over_last world p lines past unrung =
     let now : Unrung world p (line.Over p ∷ (reverse lines ++ past)) = subst (λ (ls : List Line). Unrung world p (ls ++ past)) (reverse-append lines (line.Over p ∷ [])) unrung in
     marked_ends world p (line.Over p) (reverse lines ++ past) refl (λ accept. let e = accept.1 in cc) now
 
--- what its step leaves
+-- The state after the step.
 module _ (world : World) (p : ℕ) (past device : List Line) (value : ℕ) (silent : AreSilent device) where
   told_is : (b : Bool) (number : ℕ) (after : List Line) → UnrungIs world p (if b then ReadingAvailEvent number else RingingOffer) after
   told_is true number after = tt
@@ -156,7 +156,7 @@ module _ (world : World) (p : ℕ) (past device : List Line) (value : ℕ) (sile
       at_place world p (next_place config place value) _ (λ unrung. is (lines_unrung world p (step_lines p (step_at config place value) device) past
       (step_none p p (access_at config place) value device (marks_at config place value) silent (inr (refl, marks_none config place value (λ pending e. cc)))) unrung))
 
--- where its marks stand, after its access
+-- The state at the step's marks, after its access.
 abbrev pub UnrungAt : World → ℕ → Place → List Line → Type 0
 UnrungAt world p (ReadingAvailEvent number) older = Unit {0}
 UnrungAt world p place older = ¬ Unrung world p older

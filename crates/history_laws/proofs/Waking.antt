@@ -1,4 +1,4 @@
--- A peer that found nothing is rung at the next frame.
+-- A peer that found no frame is rung at the next one.
 use Rattle.std.proofs.Common.{◌≡◌, ◌≢◌, ℕ, ◌-◌, ◌%◌, ◌<◌, ◌⊎◌, inl, inr, true, false, List, [], ◌∷◌, ◌++◌, length, length-append, refl, sym, ap, ◌∙◌, subst, append_assoc, arith, eq-eqb, ne_eqb}
 use mathlib.Core.Logic.{dite}
 use native.Mathlib.Decide.{ℕ_discrete}
@@ -69,7 +69,7 @@ rung_or_not world p (l ∷ offer) past goes unrung = elim (doorbell_or_not world
   ]
 ]
 
--- What lines keep: a word in which they leave no value, and the frames that a peer accepted
+-- Lines leave a word in which they leave no value, and the frames that a peer accepted
 
 touch_keeps : (t : MemoryEffect) (word before : ℕ) → ((value : ℕ) → ¬ ((t ≡ Set word value) ⊎ ((peer : ℕ) × (t ≡ Stored peer word value)))) → value_after t word before ≡ before
 touch_keeps (touch.Gave at value) word before spares = refl
@@ -128,7 +128,7 @@ goes_accepts : (p : ℕ) (lines : List Line) → AllByRecursion (λ l. GoesOn p 
 goes_accepts p [] goes = tt
 goes_accepts p (l ∷ lines) goes = (goes_told p (line_side_event_of l) goes.0, goes_accepts p lines goes.1)
 
--- the lines up to an accept
+-- The lines up to an accept.
 abbrev accepted_past : ℕ → List ℕ → List Line → List Line
 accepted_past p frame lines = line.Accept p frame ∷ reverse lines
 
@@ -187,7 +187,7 @@ next_lem world before after p is honest lawful =
     let found : MayLook world.queue true (side_of (reverse before) p) (side_of (reverse before) (1 - p)) 0 =
     subst (λ (b : _). MayLook world.queue b (side_of (reverse before) p) (side_of (reverse before) (1 - p)) 0) honest row in omega arith
 
--- a look changes no frames
+-- A read of the available index changes no frames.
 looked_delivered : (p : ℕ) (past : List Line) → length (side_of (line.Look p 0 ∷ past) p).delivered ≡ length (side_of past p).delivered
 looked_delivered p past = ap (λ (x : Side). length x.delivered) (here_is p (side_after (Marked (Look 0)) (side_of past p)) (side_of past p))
 
@@ -231,7 +231,7 @@ wakes_lem world before since offer after p frame is has below honest lawful spar
     other : p ≢ 1 - p
     other e = absurd (omega arith)
 
-    -- the lines of the look tell nothing of the other
+    -- The lines of the poll have no side event of the other.
     beside : (side_of (line.Done p ∷ (line.Look p 0 ∷ reverse before)) (1 - p)) ≡ side_of (reverse before) (1 - p)
     beside =
         let looked = line.Look p 0 ∷ reverse before in

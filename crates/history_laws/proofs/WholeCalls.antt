@@ -1,4 +1,4 @@
--- A call that was begun: where it has ended it is finished within its bound, else it is open.
+-- A call that began: if it has ended, it is finished within its bound. If not, it is open.
 use Rattle.std.proofs.Common.{◌≡◌, ◌≢◌, ℕ, ◌+◌, ◌*◌, ◌<◌, ◌≤◌, inl, inr, Bool, true, false, List, [], ◌∷◌, ◌++◌, length, refl, sym, ap, ◌∙◌, subst, arith, length-append, ne_eqb}
 use Rattle.std.specs.Prelude.{◌==◌, if◌then◌else◌}
 use Rattle.std.proofs.lemmas.List.{append-nil}
@@ -20,7 +20,7 @@ use Rattle.call_grammar.proofs.Cuts.{cuts}
 use Rattle.call_grammar.proofs.Lists.{lists}
 use Rattle.history_laws.specs.Calls.{Begun, IsFinishedCall, IsOpenCall, most_of}
 
--- The way along a tree
+-- The steps along a tree
 
 goes_one_way : (tree left other : CallTree) (step : Step) → Goes tree step left → Goes tree step other → left ≡ other
 goes_one_way Ended left other step goes goes' = absurd goes
@@ -35,12 +35,12 @@ along_one_way tree left other (step ∷ steps) along along' =
     let same = goes_one_way tree along.0 along'.0 step along.1 along'.1 in
     along_one_way along'.0 left other steps (subst (λ (t : CallTree). GoesAlong t steps left) same along.2) along'.2
 
--- one step more
+-- One more step.
 pub along_on : (tree left new : CallTree) (steps : List Step) (step : Step) → GoesAlong tree steps left → Goes left step new → GoesAlong tree (steps ++ step ∷ []) new
 along_on tree left new [] step along goes = (new, subst (λ (t : CallTree). Goes t step new) along goes, refl)
 along_on tree left new (first ∷ steps) step along goes = (along.0, along.1, along_on along.0 left new steps step along.2 goes)
 
--- what is left can be made whole
+-- The rest of a call has a whole list of steps.
 ends_somehow : (tree : CallTree) → (steps : List Step) × Makes tree steps
 ends_somehow Ended = ([], refl)
 ends_somehow (Does access marks rest) = let later = ends_somehow rest in (step_of access 0 marks ∷ later.0, (refl, later.1))
@@ -51,9 +51,9 @@ made_of_none Ended makes = refl
 made_of_none (Does access marks rest) makes = absurd makes
 made_of_none (Reads word marks rest) makes = absurd makes
 
--- A poll takes no more steps than the items that it may find
+-- The number of a poll's steps is bounded by the items that it may find
 
--- a read that isn't the last has no marks
+-- A read that isn't the last has no marks.
 unmarked : (n : ℕ) (marks : List Mark) → 0 < n → marks_bound (if n == 0 then marks else []) ≡ 0
 unmarked n marks some = ap marks_bound (no (n == 0) marks [] (ne_eqb n 0 (λ e. omega arith)))
 
@@ -85,7 +85,7 @@ refused_most config number read steps (inr (inl is)) = let b = ap items_bound is
 refused_most config number read steps (inr (inr (inl is))) = let b = ap items_bound is.3 in omega arith
 refused_most config number read steps (inr (inr (inr is))) = let b = ap items_bound is.4 in omega arith
 
--- the items that a look finds take so many steps at most
+-- The greatest number of steps of the items that a poll finds.
 abbrev items_most_of : EndConfig → ℕ
 items_most_of config = size_of config.sizes * (8 + words_for 65553)
 
@@ -127,7 +127,7 @@ bound_most config end Poll steps is =
     let most = by_phase end.handshake.phase (IsPoll config (length end.delivered) last steps) steps (items_most_of config) (poll_most config (length end.delivered) last steps) is in
     omega arith
 
--- What a call comes to
+-- The result of a call
 
 pub finished_call : (config : EndConfig) (begun : Begun) → HasFewInFlight config begun.at.end → GoesAlong (tree_of config begun.at.end begun.call) begun.steps Ended → IsFinishedCall config begun
 finished_call config begun few along =
@@ -135,7 +135,7 @@ finished_call config begun few along =
     let whole = lists.listed config begun.at.end begun.call begun.steps (subst (λ (steps : List Step). Makes (tree_of config begun.at.end begun.call) steps) (append-nil begun.steps) makes) in
     record { whole = whole; bound = bounding config begun.at.end begun.call begun.steps few whole }
 
--- the steps to come aren't none
+-- An open call has steps left.
 some_more : (config : EndConfig) (begun : Begun) (left : CallTree) → GoesAlong (tree_of config begun.at.end begun.call) begun.steps left → left ≢ Ended → (more : List Step) →
     IsCall config begun.at.end begun.call (begun.steps ++ more) → length begun.steps < length (begun.steps ++ more)
 some_more config begun left along unfinished [] whole =

@@ -1,4 +1,4 @@
--- Which events and which lines are the devices' alone, and that the link stands apart from them.
+-- The events and lines of devices alone, on which the link doesn't depend.
 use Rattle.std.specs.Prelude.{◌≡◌, Bool, true, false, not, List}
 use Rattle.std.specs.List.{filter}
 use Rattle.scenario_text.specs.declared.acts.Act.{Act}
@@ -8,7 +8,7 @@ use Rattle.lawful_history.specs.declared.line.Line.TheVariants as line
 use Rattle.lawful_history.specs.Schedule.{Event, DeviceAccessed, InterruptDropped, InterruptRepeated, schedule}
 use Rattle.lawful_history.specs.Lawful.{IsLawful}
 
--- the event is of a device alone: a peer reaches a part of it, or an interrupt is to be lost or is repeated
+-- The event is of a device alone: a device access, or an interrupt to be dropped or repeated.
 abbrev pub is_of_device_event : Event → Bool
 is_of_device_event (DeviceAccessed peer a) = true
 is_of_device_event (InterruptDropped peer) = true
@@ -18,7 +18,7 @@ is_of_device_event _ = false
 abbrev pub without_device_events : List Event → List Event
 without_device_events events = filter (λ event. not (is_of_device_event event)) events
 
--- the line is of a device alone: an interrupt that came or was lost, or an access to one of its parts
+-- The line is of a device alone: an interrupt delivered or lost, or a device access.
 abbrev pub is_of_device : Line → Bool
 is_of_device (line.Interrupt peer vector) = true
 is_of_device (line.Lost peer vector) = true
@@ -33,8 +33,9 @@ is_of_device _ = false
 abbrev pub without_devices : List Line → List Line
 without_devices lines = filter (λ line. not (is_of_device line)) lines
 
--- where two schedules of one world differ in events of devices alone, their lawful histories differ in lines of devices alone: each access
--- to the region, each value read, each mark and each frame is the same, in the same order
+-- If two schedules of one world differ only in events of devices, their lawful histories differ
+-- only in lines of devices. Each access to the region, each value read, each mark and each frame is
+-- the same, in the same order.
 abbrev pub DeviceActsChangeNothing : Type 0
 DeviceActsChangeNothing = (world : World) (others : List Act) (lines other_lines : List Line) → IsWorld world → IsWorld (record world { acts = others }) →
     without_device_events (schedule world.acts) ≡ without_device_events (schedule others) → IsLawful world lines →

@@ -15,24 +15,25 @@ use Rattle.lawful_history.specs.Lawful.{IsLawful}
 use Rattle.history_laws.specs.SideEvents.{side_of}
 use Rattle.history_laws.specs.Reads.{reads_of}
 
--- the newest of these lines is peer p's read of this index of the other's section, which gave this value, and since its mark or its reset before that p has
--- read nothing
+-- The newest of these lines is peer p's read of this index of the other's section, which met this
+-- value. Peer p has read nothing else since its last mark or reset.
 abbrev pub IsLoneRead : EndConfig → ℕ → List Line → Field → ℕ → Type 0
 IsLoneRead config p past field index =
     (word : ℕ) × (older : List Line) × (past ≡ line.Read p (config.theirs + word_offset config.sizes field) word ∷ older) × (reads_of older p ≡ []) × (index ≡ high_half word)
 
--- and so far the index is from the peer's own count
+-- `count` is the distance from the peer's own count to the index read.
 abbrev pub IsIndexRead : EndConfig → ℕ → List Line → Field → (own count : ℕ) → Type 0
 IsIndexRead config p past field own count = (index : ℕ) × IsLoneRead config p past field index × (count ≡ distance (own % 65536) index)
 
--- what was read of a field that is an index
+-- The value read of a field that is an index.
 abbrev pub IsLoneIndex : EndConfig → ℕ → List Line → FieldName → ℕ → Type 0
 IsLoneIndex config p past field_name.AvailIndex value = IsLoneRead config p past AvailIndex value
 IsLoneIndex config p past field_name.UsedIndex value = IsLoneRead config p past UsedIndex value
 IsLoneIndex config p past field value = Unit {0}
 
--- Each look, each reclaim and each refusal of an index has a read of its own, which is the line right before it: since the mark or the reset before that its
--- peer has read nothing else, and what it finds is counted from what was read
+-- Each mark of a read of the available index, each reclaim and each refusal of an index has its own
+-- read, the line directly before it. Since its last mark or reset the peer has read nothing else.
+-- The number found is counted from the index read.
 pub record IndexesAreReadOnce : Type 0 where
   pub looks : (world : World) (before after : List Line) (p count : ℕ) → IsWorld world → IsLawful world (before ++ line.Look p count ∷ after) →
       IsIndexRead (config_of world p) p (reverse before) AvailIndex (length (side_of (reverse before) p).delivered) count

@@ -1,4 +1,4 @@
--- A poll that is done has delivered all that its look found.
+-- A poll that is done has delivered all frames that it found.
 use Rattle.std.specs.Prelude.{ℕ, ◌≡◌, ◌≢◌, ◌+◌, ◌==◌, if◌then◌else◌, List, [], ◌∷◌, ◌++◌, All}
 use Rattle.scenario_text.specs.Scenario.{World, IsWorld}
 use Rattle.call_grammar.specs.Steps as mark
@@ -8,25 +8,26 @@ use Rattle.lawful_history.specs.declared.line.Line.TheVariants.{Look, Done}
 use Rattle.lawful_history.specs.Lawful.{IsLawful}
 use Rattle.history_laws.specs.SideEvents.{LineSideEvent, Tells, Silent, line_side_event_of}
 
--- whether a line is a delivery of peer p, as a number
+-- 1 if the line is a delivery of peer p, else 0.
 abbrev pub delivers : LineSideEvent → ℕ → ℕ
 delivers (Tells peer (Marked (mark.Deliver frame))) p = if peer == p then 1 else 0
 delivers (Tells peer _) p = 0
 delivers Silent p = 0
 
--- how many frames peer p delivers in these lines
+-- The number of frames that peer p delivers in these lines.
 abbrev pub deliver_count : ℕ → List Line → ℕ
 deliver_count p [] = 0
 deliver_count p (line ∷ lines) = delivers (line_side_event_of line) p + deliver_count p lines
 
--- the line is no other look of peer p, and no write of its state
+-- The line is neither another read of the available index of peer p nor a write of its State.
 abbrev pub IsWithin : ℕ → LineSideEvent → Type 0
 IsWithin p (Tells peer (Wrote state)) = peer ≢ p
 IsWithin p (Tells peer (Marked (mark.Look count))) = peer ≢ p
 IsWithin p (Tells peer _) = Unit {0}
 IsWithin p Silent = Unit {0}
 
--- between a look and the end of its poll as many frames are delivered as the look found
+-- Between a read of the available index and the end of its poll, the number of frames delivered is
+-- the number found.
 abbrev pub DonePollsDeliverAll : Type 0
 DonePollsDeliverAll = (world : World) (before between after : List Line) (p count : ℕ) → IsWorld world →
     IsLawful world (before ++ Look p count ∷ between ++ Done p ∷ after) → All (λ line. IsWithin p (line_side_event_of line)) between → deliver_count p between ≡ count

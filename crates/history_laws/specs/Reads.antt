@@ -1,4 +1,5 @@
--- What a link peer has read, and what it makes of it: the frame that it delivers, or the value that it refuses.
+-- The reads of a link peer, and their result: the frame that it delivers, or the value that it
+-- refuses.
 use Rattle.std.specs.Prelude.{ℕ, ◌≡◌, ◌+◌, ◌/◌, ◌==◌, if◌then◌else◌, List, [], ◌∷◌, ◌++◌, length, reverse, ◌-◌, ◌%◌, ◌≤◌, ◌<◌, true}
 use Rattle.split_ring.specs.declared.ranges.FieldName.{FieldName}
 use Rattle.split_ring.specs.declared.ranges.FieldName.TheVariants as field_name
@@ -18,7 +19,7 @@ use Rattle.lawful_history.specs.Sides.{config_of}
 use Rattle.lawful_history.specs.Lawful.{IsLawful}
 use Rattle.history_laws.specs.SideEvents.{side_of}
 
--- a word, and the value that a read of it gave
+-- A word, and the value that a read of it met.
 pub record Got : Type 0 where
   pub word : ℕ
   pub value : ℕ
@@ -26,7 +27,8 @@ pub record Got : Type 0 where
 abbrev pub got : ℕ → ℕ → Got
 got word value = record { word = word; value = value }
 
--- what a line says of a peer's reads: one more; or a mark or a reset, after which they begin anew; or nothing
+-- The effect of a line on a peer's reads: one more read; or a mark or a reset, after which the list
+-- is empty; or no effect.
 pub data Reading : Type 0 where
   Takes : (peer word value : ℕ) → Reading
   Breaks : (peer : ℕ) → Reading
@@ -53,7 +55,8 @@ reads_with (Takes peer word value) p reads = if peer == p then reads ++ got word
 reads_with (Breaks peer) p reads = if peer == p then [] else reads
 reads_with Passes p reads = reads
 
--- what peer p has read since its last mark or reset after these lines, of which the newest is the first; of the reads the oldest is the first
+-- The reads of peer p since its last mark or reset after these lines, which are listed newest
+-- first. The reads are listed oldest first.
 abbrev pub reads_of : List Line → ℕ → List Got
 reads_of [] p = []
 reads_of (line ∷ older) p = reads_with (reading_of line) p (reads_of older p)
@@ -75,12 +78,13 @@ length_read config number read = got (config.theirs + word_offset config.sizes (
 abbrev pub flags_read : EndConfig → ℕ → Item → Got
 flags_read config number read = got (config.theirs + word_offset config.sizes (DescFlags (item_entry config number read))) read.flags_word
 
--- the reads of these words of a frame from this place on
+-- The reads of these words of a frame from word `at` on.
 abbrev pub word_reads : EndConfig → (address at : ℕ) → List ℕ → List Got
 word_reads config address at [] = []
 word_reads config address at (word ∷ words) = got (config.theirs + (address / 4 + at)) word ∷ word_reads config address (at + 1) words
 
--- these are the reads of a good item, each field read once and in range, and the frame is the bytes of the words that were read
+-- These are the reads of a valid item, each field read once and in range, and the frame is the
+-- bytes of the words read.
 pub record IsReadFrame (config : EndConfig) (number : ℕ) (reads : List Got) (frame : List ℕ) : Type 0 where
   pub read : Item
   pub reads_are : reads ≡ entry_read config number read ∷ low_read config number read ∷ high_read config number read ∷ length_read config number read
@@ -88,8 +92,9 @@ pub record IsReadFrame (config : EndConfig) (number : ℕ) (reads : List Got) (f
   pub good : IsValidItem config number read
   pub frame_is : frame ≡ frame_in read.bytes read.words
 
--- the last of these reads is of this field of the other's section, and the value that stands in it is outside the field's range, counted from the side's own
--- counts. Of an item the reads before passed their tests, and an id is that of a frame that the side counts as freed
+-- The last of these reads is of this field of the other's section, and its value is outside the
+-- field's range, relative to the side's own counts. For a field of an item the earlier reads passed
+-- their tests. An id is the id of a frame that the side counts as freed.
 abbrev pub IsReadBeyond : EndConfig → Side → List Got → FieldName → ℕ → Type 0
 IsReadBeyond config side reads field_name.AvailIndex value =
     (earlier : List Got) × (word : ℕ) × (reads ≡ earlier ++ got (config.theirs + word_offset config.sizes AvailIndex) word ∷ []) × (value ≡ high_half word) ×
@@ -120,19 +125,22 @@ IsReadBeyond config side reads field_name.UsedId value =
     (reads ≡ earlier ++ got (config.theirs + word_offset config.sizes (UsedId (avail_entry_of config number))) value ∷ []) ×
     (¬ IsUsedId (number % limit_of config.sizes) value)
 
--- a delivered frame is the one that was read for its item, whatever the other side writes meanwhile
+-- A delivered frame is the frame that was read for its item, for all writes of the other side in
+-- between.
 abbrev pub DeliveredFramesAreRead : Type 0
 DeliveredFramesAreRead = (world : World) (before after : List Line) (p : ℕ) (frame : List ℕ) → IsWorld world →
     IsLawful world (before ++ line.Deliver p frame ∷ after) →
     IsReadFrame (config_of world p) (length (side_of (reverse before) p).delivered) (reads_of (reverse before) p) frame
 
--- a refused value stands in what the peer read last, in the field by whose name it is refused, and is outside its range
+-- A refused value is in the peer's last read, in the field that the refusal names, and is outside
+-- its range.
 abbrev pub RefusedValuesAreRead : Type 0
 RefusedValuesAreRead = (world : World) (before after : List Line) (p : ℕ) (refused : Refused) → IsWorld world →
     IsLawful world (before ++ line.Refuse p refused ∷ after) →
     IsReadBeyond (config_of world p) (side_of (reverse before) p) (reads_of (reverse before) p) refused.field refused.value
 
--- and each value that an honest link peer reads outside its field's range is refused at once, by the name of its field
+-- An honest link peer refuses each value that it reads outside its field's range immediately, and
+-- names the field.
 abbrev pub OutOfRangeIsRefused : Type 0
 OutOfRangeIsRefused = (world : World) (before after : List Line) (p word value : ℕ) (refused : Refused) → IsWorld world → is_link world p ≡ true →
     IsLawful world (before ++ line.Read p word value ∷ after) →

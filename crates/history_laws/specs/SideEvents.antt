@@ -1,12 +1,14 @@
--- What the lines of a history tell the link machine, and which side each link peer is after them. Of lines the newest is the first.
--- Each question on a line is answered once, by a function over all lines; every definition looks at its answer alone.
+-- The side events of the lines of a history, and the side of each link peer after them. Lines are
+-- listed newest first. Each property of a line has one function over all lines; every definition
+-- uses only its result.
 use Rattle.std.specs.Prelude.{ℕ, ◌+◌, ◌==◌, true, false, if◌then◌else◌, Some, None, List, [], ◌∷◌, ◌++◌, length}
 use Rattle.call_grammar.specs.Steps.{Mark, Saw, Reclaim, Full, Accept, Look, Deliver, Return, Done, Down, Refuse, Over}
 use Rattle.link_machine.specs.LinkMachine.{Side, initial_side, SideEvent, Gave, Wrote, Marked, WasReset, side_with}
 use Rattle.lawful_history.specs.declared.line.Line.{Line}
 use Rattle.lawful_history.specs.declared.line.Line.TheVariants as line
 
--- what a line tells the machine of a peer: the value of a read, a write of its state, a mark, or the reset of its device; or nothing
+-- The side event of a line and its peer: the value of a read, a write of its State, a mark, or the
+-- reset of its device; or none.
 pub data LineSideEvent : Type 0 where
   Tells : (peer : ℕ) (told : SideEvent) → LineSideEvent
   Silent : LineSideEvent
@@ -28,7 +30,7 @@ line_side_event_of (line.Refuse peer refused) = Tells peer (Marked (Refuse refus
 line_side_event_of (line.Over peer) = Tells peer (Marked Over)
 line_side_event_of _ = Silent
 
--- the side after a mark, as the row of the mark determines it
+-- The side after a mark, as the row of the mark determines it.
 abbrev pub side_marked : Mark → Side → Side
 side_marked (Saw value) side = record side { seen = Some value; read = [] }
 side_marked (Reclaim count) side = record side { freed = side.freed + count; reclaimed = count; read = [] }
@@ -39,7 +41,7 @@ side_marked Return side = record side { returned = side.returned + 1; read = [] 
 side_marked (Refuse refused) side = record side { refused = true; read = [] }
 side_marked mark side = record side { read = [] }
 
--- and after whatever is told
+-- The side after a side event.
 abbrev pub side_after : SideEvent → Side → Side
 side_after (Gave value) side = record side { read = side.read ++ value ∷ [] }
 side_after (Wrote state) side = side_with side state
@@ -50,7 +52,7 @@ abbrev pub side_after_line : LineSideEvent → ℕ → Side → Side
 side_after_line (Tells peer told) p side = if peer == p then side_after told side else side
 side_after_line Silent p side = side
 
--- the side that peer p is after these lines
+-- The side of peer p after these lines.
 abbrev pub side_of : List Line → ℕ → Side
 side_of [] p = initial_side
 side_of (line ∷ older) p = side_after_line (line_side_event_of line) p (side_of older p)

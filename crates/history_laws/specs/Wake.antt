@@ -1,5 +1,8 @@
--- The rule of wakes in a link with events: a peer whose poll found nothing is rung at the next frame. Of lines so far the newest is the first.
--- Source: VIRTIO 1.1 section 2.6.10, by which avail_event asks for a notification; profile for the order of steps.
+-- The notification rule in a link with events: a peer whose poll found no frame is rung at the next
+-- one. Lines are listed newest first.
+--
+-- Source: VIRTIO 1.1 section 2.6.10, by which avail_event wants a notification; profile for the
+-- order of steps.
 use Rattle.std.specs.Prelude.{ℕ, ◌≡◌, ◌≢◌, ◌+◌, ◌-◌, ◌%◌, ◌<◌, true, List, [], ◌∷◌, ◌++◌, length, reverse, All}
 use Rattle.section_map.specs.Geometry.{section_start}
 use Rattle.split_ring.specs.Layout.{has_events, word_offset, AvailEvent}
@@ -14,33 +17,34 @@ use Rattle.lawful_history.specs.Sides.{traffic_vector}
 use Rattle.lawful_history.specs.Lawful.{IsLawful}
 use Rattle.history_laws.specs.SideEvents.{LineSideEvent, Tells, Silent, line_side_event_of, side_of}
 
--- the word in which the event of peer p stands
+-- The word that holds the avail_event of peer p.
 abbrev pub event_word : World → ℕ → ℕ
 event_word world p = section_start world.geometry p + word_offset world.queue AvailEvent
 
--- after these lines the event of peer p stands at the frame with this number
+-- After these lines the avail_event of peer p is `number`, modulo 65,536.
 abbrev pub EventIs : World → List Line → (p number : ℕ) → Type 0
 EventIs world past p number = low_half (last_write past (event_word world p)) ≡ number % 65536
 
--- the line leaves the event of peer p: it is neither written anew nor cleared
+-- The line doesn't change the avail_event of peer p.
 abbrev pub LeavesEvent : World → ℕ → Line → Type 0
 LeavesEvent world p line = DoesNotWrite (event_word world p) line
 
--- the doorbell of peer p at its partner
+-- The doorbell of peer p to the other peer.
 abbrev pub doorbell_of : World → ℕ → Line
 doorbell_of world p = Doorbell p (1 - p) (traffic_vector world.wiring)
 
--- an open call of peer p goes on: the line is no mark, no write of the state and no reset of p
+-- An open call of peer p stays open: the line is neither a mark of p, nor a write of its State, nor
+-- its reset.
 abbrev pub GoesOn : ℕ → LineSideEvent → Type 0
 GoesOn p (Tells peer (Gave value)) = Unit {0}
 GoesOn p (Tells peer _) = peer ≢ p
 GoesOn p Silent = Unit {0}
 
--- of these lines one is the doorbell of peer p
+-- One of these lines is the doorbell of peer p.
 abbrev pub IsRungIn : World → ℕ → List Line → Type 0
 IsRungIn world p lines = (earlier later : List Line) × (lines ≡ earlier ++ doorbell_of world p ∷ later)
 
--- the line is no accept of peer p and doesn't open a session of p, which a write of State 2 does
+-- The line is no accept of peer p and opens no session of p, which a write of State 2 does.
 abbrev pub AcceptsNothing : ℕ → LineSideEvent → Type 0
 AcceptsNothing p (Tells peer (Wrote state)) = peer ≡ p → state ≢ 2
 AcceptsNothing p (Tells peer (Marked (mark.Accept frame))) = peer ≢ p
@@ -48,19 +52,22 @@ AcceptsNothing p (Tells peer _) = Unit {0}
 AcceptsNothing p Silent = Unit {0}
 
 pub record WakesAreRung : Type 0 where
-  -- a poll that is done and found nothing leaves its peer's event at the next frame to be delivered
+  -- A finished poll that found no frame leaves its peer's avail_event at the number of the next
+  -- frame to be delivered.
   pub armed : (world : World) (before after : List Line) (p : ℕ) → IsWorld world → has_events world.queue ≡ true →
       IsLawful world (before ++ Look p 0 ∷ Done p ∷ after) → EventIs world (reverse before) p (length (side_of (reverse before) p).delivered)
-  -- and where the other peer is honest, that is the next frame which it accepts
+  -- If the other peer is honest, that is the next frame that it accepts.
   pub next : (world : World) (before after : List Line) (p : ℕ) → IsWorld world → is_link world (1 - p) ≡ true →
       IsLawful world (before ++ Look p 0 ∷ after) →
       length (side_of (reverse before) (1 - p)).accepted ≡ length (side_of (reverse before) p).delivered
-  -- an honest peer rings whose partner's event stands at the frame that it accepts, until this offer is over
+  -- An honest peer rings before its offer is over if the other's avail_event is the number of the
+  -- frame that it accepts.
   pub rung : (world : World) (before since offer after : List Line) (p : ℕ) (frame : List ℕ) → IsWorld world → p < 2 → is_link world (1 - p) ≡ true →
       IsLawful world (before ++ since ++ Accept (1 - p) frame ∷ offer ++ Over (1 - p) ∷ after) →
       EventIs world (reverse before) p (length (side_of (reverse (before ++ since)) (1 - p)).accepted) →
       All (LeavesEvent world p) since → All (LeavesEvent world p) offer → All (λ line. GoesOn (1 - p) (line_side_event_of line)) offer → IsRungIn world (1 - p) offer
-  -- so beside an honest peer one whose poll found nothing, and whose event is left, is rung at the next frame that the other accepts in its session
+  -- So a peer whose poll found no frame, and whose avail_event stays, is rung at the next frame
+  -- that an honest other accepts in its session.
   pub wakes : (world : World) (before since offer after : List Line) (p : ℕ) (frame : List ℕ) → IsWorld world → has_events world.queue ≡ true →
       p < 2 → is_link world (1 - p) ≡ true →
       IsLawful world (before ++ Look p 0 ∷ Done p ∷ [] ++ since ++ Accept (1 - p) frame ∷ offer ++ Over (1 - p) ∷ after) →

@@ -1,4 +1,4 @@
--- A word of fewer than four bytes is read as one whose missing bytes are 0.
+-- A word of fewer than four bytes is the word with its missing bytes 0.
 use Rattle.std.proofs.Common.{◌≡◌, ℕ, ◌≤◌, List, [], ◌∷◌, ◌++◌, length, drop, refl, arith}
 use Rattle.byteorder.specs.Endian.{little_number}
 use Rattle.ivs_base.specs.Numbers.{word_of}

@@ -1,9 +1,9 @@
--- Sources and sinks in memory, which fail at the calls that they were told to fail at (profile).
+-- Sources and sinks in memory, which fail at listed calls (profile).
 use Rattle.std.specs.Prelude.{ℕ, ◌-◌, ◌==◌, Bool, true, false, if◌then◌else◌, List, ◌++◌, Some, length, drop, min}
 use Rattle.ivs_base.specs.SourceAndSink.{Input, Output, counted}
 
--- a source: the bytes left, the most that a call gives, the numbers of the calls that fail, the calls
--- and the faults so far, and that the last call failed
+-- A source: the bytes left; the greatest number of bytes of a call; the numbers of the calls that
+-- fail; the counts of calls and of faults; and whether the last call failed.
 pub record MemoryInput : Type 0 where
   pub left : List ℕ
   pub piece : ℕ
@@ -12,8 +12,9 @@ pub record MemoryInput : Type 0 where
   pub faults : ℕ
   pub failed : Bool
 
--- a sink: the bytes written, the room for them, the most that a call takes, the numbers of the calls
--- that fail, the calls and the faults so far, and that the last call failed
+-- A sink: the bytes written and the number of bytes reserved; the greatest number of bytes of a
+-- call and the numbers of the calls that fail; the counts of calls and of faults, and whether the
+-- last call failed.
 pub record MemoryOutput : Type 0 where
   pub written : List ℕ
   pub room : ℕ
@@ -23,8 +24,8 @@ pub record MemoryOutput : Type 0 where
   pub faults : ℕ
   pub failed : Bool
 
--- what is known of a source in memory: it tells its bytes, has ended where none is left, and never fails where no call is
--- listed
+-- The view of a source in memory: its bytes are known, it has ended if none is left, and it never
+-- fails if no call is listed.
 abbrev pub input_of : MemoryInput → Input
 input_of source = record {
   left = Some source.left;
@@ -34,34 +35,35 @@ input_of source = record {
   never_fails = length source.fails == 0;
 }
 
--- how many bytes a call gives into this much room
+-- The number of bytes that a call reads into `room` bytes.
 abbrev pub given_count : MemoryInput → ℕ → ℕ
 given_count source room = min (min (length source.left) source.piece) room
 
--- the source after a call that gave so many bytes
+-- The source after a call that gave `count` bytes.
 abbrev pub source_after : MemoryInput → ℕ → MemoryInput
 source_after source count = record source { left = drop count source.left; calls = counted source.calls; failed = false }
 
--- the source after a call that failed
+-- The source after a call that failed.
 abbrev pub source_failed : MemoryInput → MemoryInput
 source_failed source = record source { calls = counted source.calls; faults = counted source.faults; failed = true }
 
--- how many bytes more a sink in memory takes for certain: its room, where no call is listed
+-- The number of further bytes that a sink in memory is sure to write: its free bytes if no call is
+-- listed, else 0.
 abbrev pub room_of : MemoryOutput → ℕ
 room_of sink = if length sink.fails == 0 then sink.room - length sink.written else 0
 
--- what is known of a sink in memory: it tells its bytes
+-- The view of a sink in memory: its bytes are known.
 abbrev pub output_of : MemoryOutput → Output
 output_of sink = record { written = Some sink.written; failed = sink.failed; faults = sink.faults; room = room_of sink }
 
--- how many of these bytes a call takes
+-- The number of these bytes that a call writes.
 abbrev pub taken_count : MemoryOutput → List ℕ → ℕ
 taken_count sink bytes = min (length bytes) sink.piece
 
--- the sink after a call that took these bytes
+-- The sink after a call that wrote these bytes.
 abbrev pub sink_after : MemoryOutput → List ℕ → MemoryOutput
 sink_after sink bytes = record sink { written = sink.written ++ bytes; calls = counted sink.calls; failed = false }
 
--- the sink after a call that failed
+-- The sink after a call that failed.
 abbrev pub sink_failed : MemoryOutput → MemoryOutput
 sink_failed sink = record sink { calls = counted sink.calls; faults = counted sink.faults; failed = true }

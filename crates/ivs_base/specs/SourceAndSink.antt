@@ -1,9 +1,9 @@
--- What a source gives and a sink takes (profile). Bytes that an end doesn't tell are None.
+-- The bytes that a source gives and a sink writes (profile). Bytes that aren't known are None.
 use Rattle.std.specs.Prelude.{ℕ, ◌≡◌, ◌+◌, ◌-◌, ◌^◌, ◌<◌, ◌≤◌, ◌⊎◌, Bool, List, Option, Some, IsTrue, length, min}
 use Rattle.std.specs.Io.KnownBytes.{Consumes, Appends, IsAtEnd}
 
--- what is known of a source: the bytes left, where they are told; that its last read found the end; that its last read
--- failed; its faults; that none of its reads fails
+-- The view of a source: the bytes left, if they are known; whether its last read found the end;
+-- whether its last read failed; its fault count; and whether none of its reads fails.
 pub record Input : Type 0 where
   pub left : Option (List ℕ)
   pub ended : Bool
@@ -11,60 +11,60 @@ pub record Input : Type 0 where
   pub faults : ℕ
   pub never_fails : Bool
 
--- what is known of a sink: the bytes written, where they are told; that its last write failed; its faults; as many bytes
--- more as it takes for certain before one of its writes fails
+-- The view of a sink: the bytes written, if they are known; whether its last write failed; its
+-- fault count; and the number of further bytes that it is sure to write before a write fails.
 pub record Output : Type 0 where
   pub written : Option (List ℕ)
   pub failed : Bool
   pub faults : ℕ
   pub room : ℕ
 
--- the source gave these bytes
+-- The source gave these bytes.
 abbrev pub Gave : Input → List ℕ → Input → Type 0
 Gave before bytes now = Consumes before.left now.left bytes
 
--- the source gave so many bytes
+-- The source gave `count` bytes.
 abbrev pub GaveMany : Input → ℕ → Input → Type 0
 GaveMany before count now = (bytes : List ℕ) × Gave before bytes now × (length bytes ≡ count)
 
--- the source gave so many bytes at most
+-- The source gave at most `count` bytes.
 abbrev pub GaveAtMost : Input → ℕ → Input → Type 0
 GaveAtMost before count now = (bytes : List ℕ) × Gave before bytes now × (length bytes ≤ count)
 
--- the source was read to its end
+-- The source was read to its end.
 abbrev pub HasEnded : Input → Type 0
 HasEnded now = IsTrue now.ended × IsAtEnd now.left
 
--- the source tells what is left of it: these bytes
+-- The bytes left of the source are known: they are `bytes`.
 abbrev pub Tells : Input → List ℕ → Type 0
 Tells now bytes = now.left ≡ Some bytes
 
--- the sink took these bytes
+-- The sink wrote these bytes.
 abbrev pub Took : Output → List ℕ → Output → Type 0
 Took before bytes now = Appends before.written now.written bytes
 
--- one more, up to the last number that a count reaches
+-- `count` + 1, up to the greatest number of a count, 2^64 - 1.
 abbrev pub counted : ℕ → ℕ
 counted count = min (count + 1) (2 ^ 64 - 1)
 
--- the count rose, or stands at its last value
+-- The count rose, or is at its greatest number.
 abbrev pub Rose : ℕ → ℕ → Type 0
 Rose before now = (before < now) ⊎ (now ≡ 2 ^ 64 - 1)
 
--- the source failed between these two
+-- The source failed between these two states.
 abbrev pub SourceFailed : Input → Input → Type 0
 SourceFailed before now = Rose before.faults now.faults
 
--- the sink failed between these two
+-- The sink failed between these two states.
 abbrev pub SinkFailed : Output → Output → Type 0
 SinkFailed before now = Rose before.faults now.faults
 
--- one read failed between these two, and it was the last
+-- One read failed between these two states, and it was the last.
 pub record LastReadFailed (before now : Input) : Type 0 where
   pub last : IsTrue now.failed
   pub once : now.faults ≡ counted before.faults
 
--- one write failed between these two, and it was the last
+-- One write failed between these two states, and it was the last.
 pub record LastWriteFailed (before now : Output) : Type 0 where
   pub last : IsTrue now.failed
   pub once : now.faults ≡ counted before.faults

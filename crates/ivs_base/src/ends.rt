@@ -1,5 +1,5 @@
-//! Where bytes come from and where they go. A call may give or take less than was asked for, and may
-//! fail, so a whole read and a whole write are loops over calls.
+//! Sources and sinks of bytes. A call may read or write fewer bytes than it was passed, and may
+//! fail. So `read_all` and `write_whole` are loops over calls.
 ghost use Rattle.std.specs.Prelude.{◌≡◌, ◌≢◌, ℕ, ◌+◌, ◌-◌, ◌<◌, ◌≤◌, ◌^◌, [], IfOk, IsOk, IsTrue, OnOk, OnErr, IsErrOf, length, take};
 ghost use Rattle.ivs_base.specs.SourceAndSink.{Input, Output, Gave, GaveMany, GaveAtMost, HasEnded, Took, SourceFailed, SinkFailed, LastReadFailed, LastWriteFailed};
 ghost use Rattle.ivs_base.specs.declared.ends.ReadEnd.TheVariants.{ReadFault as SourceFault, NoMemory as OutOfMemory};
@@ -7,21 +7,26 @@ ghost use Rattle.ivs_base.specs.declared.ends.ReadEnd.TheVariants.{ReadFault as 
 use std::alloc::{AllocError, Global};
 use thiserror::Error;
 
-/// The most bytes that `read_all` asks for in one call.
+/// The greatest number of bytes that `read_all` reads in one call.
 const CHUNK: usize = 65536;
 
-/// A call of a source or a sink failed.
+/// The error of a call of a source or a sink.
 #[derive(Clone, Copy, Debug, PartialEq, Eq, Error)]
 #[error("the call failed")]
 pub struct Failed;
 
-/// Where bytes come from.
+/// A source of bytes.
 pub trait Source {
-    /// What is known of the source.
+    /// The view of the source.
     ghost input: { Self → Input };
 
-    /// The next bytes into the front of `into`, and how many they are. 0 is the end. A call that fails
-    /// takes nothing of what is left, and adds one to the count of faults, which no other call changes.
+    /// Reads the next bytes into the front of `into`, and returns their number. 0 is the end of the
+    /// source. A failed call consumes no bytes and increments the fault count, which no other call
+    /// changes.
+    // claim nothing, fault, cause: A failed read takes no bytes, and leaves the account of a failed
+    //    source.
+    // claim fits, gives, end: A read returns the next bytes of the source, at most as many as it
+    //    has room for; 0 is returned at the end alone.
     fn read(&mut self, into: &mut [u8]) -> Result<usize, Failed>
         requires { 0 < length into.old }
         ensures fits { IfOk result (λ k. k ≤ length into.old) }
@@ -36,13 +41,19 @@ pub trait Source {
         ensures same { (input self.new).never_fails ≡ (input self.old).never_fails };
 }
 
-/// Where bytes go.
+/// A sink of bytes.
 pub trait Sink {
-    /// What is known of the sink.
+    /// The view of the sink.
     ghost output: { Self → Output };
 
-    /// Takes bytes from the front of `bytes`, one at least, and tells how many they were. A call that
-    /// fails takes nothing, and adds one to the count of faults, which no other call changes.
+    /// Writes a non-empty prefix of `bytes` and returns its length. A failed call writes no bytes
+    /// and increments the fault count, which no other call changes.
+    // claim some, fits, appends: A write takes at least one byte from the front of its input, and
+    //    appends exactly these.
+    // claim nothing, fault, cause, quiet, later: A failed write takes no bytes and adds one to the
+    //    count of faults; no other write adds to it.
+    // claim sound, room: A write succeeds if the sink is certain to have room for all its bytes,
+    //    and uses no more room than it took bytes.
     fn write(&mut self, bytes: &[u8]) -> Result<usize, Failed>
         requires { 0 < length bytes.now }
         ensures some { IfOk result (λ k. 0 < k) }
@@ -57,7 +68,7 @@ pub trait Sink {
         ensures room { IfOk result (λ k. (output self.old).room ≤ (output self.new).room + k) };
 }
 
-/// Why a source wasn't read to its end.
+/// The reason for which a source wasn't read to its end.
 #[derive(Clone, Copy, Debug, PartialEq, Eq, Error)]
 pub enum ReadEnd {
     /// A call of the source failed.
@@ -66,7 +77,7 @@ pub enum ReadEnd {
     /// The source has more bytes than the limit.
     #[error("the source has too many bytes")]
     TooLong,
-    /// There was no memory for the bytes.
+    /// An allocation for the bytes failed.
     #[error("out of memory")]
     NoMemory,
 }
@@ -87,15 +98,24 @@ impl From<AllocError> for ReadEnd {
     }
 }
 
-/// All bytes of a source up to its end, `limit` bytes at most. It never takes more than `limit + 1`, and
-/// nothing after a call that failed.
+/// Reads all bytes of a source up to its end, at most `limit` bytes. It never consumes more than
+/// `limit + 1` bytes, and calls the source no more after a failed call.
+// claim bytes, end, within: A whole read returns exactly the bytes up to the end of the source, at
+//    most `limit` of them.
+// claim too_long, no_memory: `TooLong` is returned exactly if one byte past the limit was taken; no
+//    call takes more.
+// claim fault, last, front: `ReadFault` is returned only if a call of the source failed. That call
+//    was the last one, and the bytes before it were within the limit.
+// claim quiet, sound, later with Source::read.quiet, Source::read.sound, Source::read.later,
+//    Source::read.same: A call adds one to the count of faults exactly if it fails. A source that
+//    never fails gives no `ReadFault`.
 pub fn read_all<S: Source>(alloc: Global, source: &mut S, limit: u64) -> Result<Vec<u8>, ReadEnd>
     requires { limit < 2 ^ 64 - 1 }
     ensures bytes { IfOk result (λ v. Gave (S.input source.old) v.items (S.input source.new)) }
     ensures end { OnOk result (HasEnded (S.input source.new)) }
     ensures within { IfOk result (λ v. length v.items ≤ limit) }
 
-    // The byte after the limit shows that there are too many; none after it is taken.
+    // The byte after the limit shows that there are too many; no byte after it is consumed.
     ensures too_long { IsErrOf result ReadEnd.TooLong → GaveMany (S.input source.old) (limit + 1) (S.input source.new) }
     ensures fault { IsErrOf result ReadEnd.ReadFault → SourceFailed (S.input source.old) (S.input source.new) }
     ensures last { IsErrOf result ReadEnd.ReadFault → LastReadFailed (S.input source.old) (S.input source.new) }
@@ -119,7 +139,7 @@ pub fn read_all<S: Source>(alloc: Global, source: &mut S, limit: u64) -> Result<
     Err(ReadEnd::TooLong)
 }
 
-/// A sink didn't take all bytes.
+/// The error of a write of which the sink wrote only a part.
 #[derive(Clone, Copy, Debug, PartialEq, Eq, Error)]
 #[error("the sink failed")]
 pub struct WriteFault;
@@ -130,8 +150,11 @@ impl From<Failed> for WriteFault {
     }
 }
 
-/// Writes all bytes, in their order. After a fault a front of the bytes is written, and nothing more is
-/// tried. It never answers NoMemory.
+/// Writes all bytes in order. After a fault a prefix of the bytes is written, and the sink is
+/// called no more. It never returns NoMemory.
+// claim whole, quiet: A whole write appends all bytes, and no call of the sink failed.
+// claim front, fault, last, sound, later: If a call fails, a front of the bytes was written, the
+//    failed call was the last one, and the sink had no certain room for all bytes.
 pub fn write_whole<K: Sink>(sink: &mut K, bytes: &[u8]) -> Result<(), WriteFault>
     ensures whole { OnOk result (Took (K.output sink.old) bytes.now (K.output sink.new)) }
     ensures quiet { OnOk result ((K.output sink.new).faults ≡ (K.output sink.old).faults) }

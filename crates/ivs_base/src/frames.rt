@@ -1,4 +1,4 @@
-//! Ethernet frames, and NoMemory.
+//! Ethernet frames, and the error NoMemory.
 ghost use Rattle.std.specs.Prelude.{◌≡◌, ℕ, List, IfOk};
 ghost use Rattle.std.specs.Str.{bytes_eq};
 ghost use Rattle.std.specs.Cmp.Rules.{comparing};
@@ -8,7 +8,7 @@ use std::alloc::{AllocError, AllocFailed, Global};
 use std::marker::Model;
 use thiserror::Error;
 
-/// There was no memory left. Nothing was kept of what the call was to make.
+/// An allocation failed. The call made nothing.
 #[derive(Clone, Copy, Debug, PartialEq, Eq, Error)]
 #[error("out of memory")]
 pub struct NoMemory;
@@ -19,7 +19,7 @@ impl From<AllocError> for NoMemory {
     }
 }
 
-/// So that `?` serves after `push`. The value that found no room is dropped.
+/// The conversion for `?` after `push`. The value that wasn't stored is dropped.
 impl<T> From<AllocFailed<T>> for NoMemory
 where
     T: Drop,
@@ -42,7 +42,8 @@ impl Model for Frame {
 }
 
 impl Frame {
-    /// A frame of these bytes. NoMemory says that memory ran out.
+    /// Returns a frame of these bytes. Returns `Err(NoMemory)` if the allocation fails.
+    // claim with Frame::bytes: A frame has exactly the bytes that it was made of.
     pub fn of(alloc: Global, bytes: &[u8]) -> Result<Frame, NoMemory>
         ensures { IfOk result (λ frame. frame ≡ bytes.now) }
     {
@@ -50,7 +51,7 @@ impl Frame {
         Ok(Frame { bytes })
     }
 
-    /// The bytes of the frame, from its first.
+    /// Returns the bytes of the frame, in order.
     pub fn bytes(&self) -> &[u8]
         ensures { result.now ≡ self.now }
     {

@@ -1,5 +1,5 @@
-//! A source and a sink in memory, which fail at the calls that they were told to fail at. Their calls
-//! are told exactly, so that a test can follow what a fault does to whoever reads or writes.
+//! A source and a sink in memory, which fail at listed calls. Their contracts determine each call,
+//! so that a test can follow the effect of a fault on its caller.
 ghost use Rattle.std.specs.Prelude.{◌≡◌, ◌<◌, ◌≤◌, ◌+◌, ◌↔◌, ◌⊎◌, [], false, IfOk, IsOk, IsTrue, OnOk, OnErr, IsErr, Contains, length, take};
 ghost use Rattle.ivs_base.specs.SourceAndSink.{counted, Gave, HasEnded, Took, SourceFailed, SinkFailed, LastReadFailed, LastWriteFailed};
 ghost use Rattle.ivs_base.specs.MemorySourceAndSink.{input_of, given_count, source_after, source_failed, output_of, taken_count, sink_after, sink_failed};
@@ -9,8 +9,8 @@ use super::frames::NoMemory;
 use std::alloc::Global;
 use std::marker::Model;
 
-/// A source over bytes in memory. A call gives the least of `piece`, the room handed in and what is
-/// left. It fails exactly where its number, from 1, is listed.
+/// A source over bytes in memory. A call reads the least of `piece`, the length of `into` and the
+/// number of bytes left. It fails exactly if its number, counted from 1, is listed.
 #[derive(Debug, Drop)]
 pub struct MemorySource {
     bytes: Vec<u8>,
@@ -34,8 +34,12 @@ impl Model for MemorySource {
 }
 
 impl MemorySource {
-    /// A source of these bytes that gives at most `piece` of them in one call, and fails at the calls
-    /// whose numbers, from 1, are in `fails`.
+    /// Returns a source of these bytes that gives at most `piece` of them in one call. It fails at
+    /// the calls whose numbers, counted from 1, are in `fails`.
+    // claim with MemorySink::new, MemorySink::bytes, MemorySource::faults, MemorySink::faults,
+    //    InputSource::new, InputSource::faults, OutputSink::new, OutputSink::faults: A new source
+    //    or sink has the account that its definition gives; its bytes and its count of faults are
+    //    that account's.
     pub fn new(
         alloc: Global,
         bytes: &[u8],
@@ -58,7 +62,7 @@ impl MemorySource {
         })
     }
 
-    /// How many calls failed so far.
+    /// Returns the number of failed calls.
     pub fn faults(&self) -> u64
         ensures { result ≡ self.now.faults }
     {
@@ -69,6 +73,11 @@ impl MemorySource {
 impl Source for MemorySource {
     ghost input = { input_of };
 
+    // claim fails with MemorySink::write.fails: A source or sink in memory fails exactly at the
+    //    calls listed, a sink also past its room.
+    // claim given, bytes, after, failed with MemorySink::write.taken, MemorySink::write.after,
+    //    MemorySink::write.failed: A source or sink in memory moves exactly the bytes that its
+    //    piece size and its content allow.
     fn read(&mut self, into: &mut [u8]) -> Result<usize, Failed>
         requires { 0 < length into.old }
         ensures fails { IsErr result ↔ Contains self.old.fails (counted self.old.calls) }
@@ -77,7 +86,7 @@ impl Source for MemorySource {
         ensures after { IfOk result (λ k. self.new ≡ source_after self.old k) }
         ensures failed { OnErr result (self.new ≡ source_failed self.old) }
 
-        // what every source ensures
+        // The contract of every source.
         ensures fits { IfOk result (λ k. k ≤ length into.old) }
         ensures gives { IfOk result (λ k. Gave (input_of self.old) (take k into.new) (input_of self.new)) }
         ensures end { IfOk result (λ k. k ≡ 0 → HasEnded (input_of self.new)) }
@@ -104,9 +113,9 @@ impl Source for MemorySource {
     }
 }
 
-/// A sink into memory that was reserved for it. A call takes the lesser of `piece` and what is handed
-/// in. It fails exactly where its number, from 1, is listed, or where the bytes that it would take
-/// pass the room.
+/// A sink into memory that was reserved for it. A call writes the lesser of `piece` and the length
+/// of `bytes`. It fails exactly if its number, counted from 1, is listed, or if the bytes that it
+/// would write don't fit into `room`.
 #[derive(Debug, Drop)]
 pub struct MemorySink {
     bytes: Vec<u8>,
@@ -130,8 +139,8 @@ impl Model for MemorySink {
 }
 
 impl MemorySink {
-    /// An empty sink with `room` bytes of room that takes at most `piece` bytes in one call, and fails
-    /// at the calls whose numbers, from 1, are in `fails`.
+    /// Returns an empty sink for `room` bytes that writes at most `piece` bytes in one call. It
+    /// fails at the calls whose numbers, counted from 1, are in `fails`.
     pub fn new(
         alloc: Global,
         room: usize,
@@ -154,14 +163,14 @@ impl MemorySink {
         })
     }
 
-    /// The bytes written so far.
+    /// Returns the bytes written.
     pub fn bytes(&self) -> &[u8]
         ensures { result.now ≡ self.now.written }
     {
         self.bytes.as_slice()
     }
 
-    /// How many calls failed so far.
+    /// Returns the number of failed calls.
     pub fn faults(&self) -> u64
         ensures { result ≡ self.now.faults }
     {
@@ -180,7 +189,7 @@ impl Sink for MemorySink {
         ensures after { IfOk result (λ k. self.new ≡ sink_after self.old (take k bytes.now)) }
         ensures failed { OnErr result (self.new ≡ sink_failed self.old) }
 
-        // what every sink ensures
+        // The contract of every sink.
         ensures some { IfOk result (λ k. 0 < k) }
         ensures fits { IfOk result (λ k. k ≤ length bytes.now) }
         ensures appends { IfOk result (λ k. Took (output_of self.old) (take k bytes.now) (output_of self.new)) }

@@ -1,5 +1,6 @@
-//! Standard input and standard output as a source and a sink. Their view passes on what a reader and a
-//! writer tell of their bytes. Standard input and standard output tell nothing: that edge is trusted.
+//! Standard input and standard output as a source and a sink. Their views are the views of their
+//! reader and writer. The bytes of standard input and standard output are unknown to contracts:
+//! that boundary is trusted.
 ghost use Rattle.std.specs.Prelude.{◌≡◌, ◌+◌, ◌<◌, ◌≤◌, ◌↔◌, [], IfOk, IsOk, OnOk, OnErr, IsTrue, false, length, take};
 ghost use Rattle.ivs_base.specs.SourceAndSink.{counted, Gave, HasEnded, Took, SourceFailed, SinkFailed, LastReadFailed, LastWriteFailed};
 
@@ -7,7 +8,7 @@ use super::ends::{Failed, Sink, Source};
 use std::io::{Read, Write};
 use std::marker::Model;
 
-/// Standard input, or another reader. It counts each error of the reader.
+/// Standard input, or another reader. It counts each error of the reader as a fault.
 #[derive(Drop)]
 pub struct InputSource<R: Read> {
     reader: R,
@@ -26,7 +27,7 @@ impl<R: Read> Model for InputSource<R> {
 }
 
 impl<R: Read> InputSource<R> {
-    /// A source over a reader, with no faults so far. What is left of it is what the reader gives.
+    /// Returns a source over a reader, with no faults. Its bytes left are the reader's.
     pub fn new(reader: R) -> Self
         ensures { result ≡ record { left = R.remaining reader; ended = false; failed = false; faults = 0; never_fails = false } }
     {
@@ -38,7 +39,7 @@ impl<R: Read> InputSource<R> {
         }
     }
 
-    /// How many calls failed so far, up to 2^64 - 1.
+    /// Returns the number of failed calls, at most 2^64 - 1.
     pub fn faults(&self) -> u64
         ensures { result ≡ self.now.faults }
     {
@@ -49,13 +50,16 @@ impl<R: Read> InputSource<R> {
 impl<R: Read> Source for InputSource<R> {
     ghost input = { λ s. s };
 
+    // claim end, last, counts, kept with OutputSink::write.counts, OutputSink::write.kept: Standard
+    //    ends count every error; the error of a reader is never its end, and a write that takes
+    //    nothing is an error.
     fn read(&mut self, into: &mut [u8]) -> Result<usize, Failed>
         requires { 0 < length into.old }
         ensures end { IfOk result (λ k. IsTrue self.new.ended ↔ (k ≡ 0)) }
         ensures kept { OnOk result (self.new.faults ≡ self.old.faults) }
         ensures counts { OnErr result (self.new.faults ≡ counted self.old.faults) }
 
-        // what every source ensures
+        // The contract of every source.
         ensures fits { IfOk result (λ k. k ≤ length into.old) }
         ensures gives { IfOk result (λ k. Gave self.old (take k into.new) self.new) }
         ensures last { IfOk result (λ k. k ≡ 0 → HasEnded self.new) }
@@ -82,8 +86,8 @@ impl<R: Read> Source for InputSource<R> {
     }
 }
 
-/// Standard output, or another writer. It counts each error of the writer, and each write that takes
-/// nothing as one.
+/// Standard output, or another writer. It counts each error of the writer as a fault, and each
+/// write of no bytes.
 #[derive(Drop)]
 pub struct OutputSink<W: Write> {
     writer: W,
@@ -100,7 +104,7 @@ impl<W: Write> Model for OutputSink<W> {
 }
 
 impl<W: Write> OutputSink<W> {
-    /// A sink over a writer, with no faults so far. What is written is what the writer holds.
+    /// Returns a sink over a writer, with no faults. Its bytes written are the writer's.
     pub fn new(writer: W) -> Self
         ensures { result ≡ record { written = W.contents writer; failed = false; faults = 0; room = 0 } }
     {
@@ -111,7 +115,7 @@ impl<W: Write> OutputSink<W> {
         }
     }
 
-    /// How many calls failed so far, up to 2^64 - 1.
+    /// Returns the number of failed calls, at most 2^64 - 1.
     pub fn faults(&self) -> u64
         ensures { result ≡ self.now.faults }
     {
@@ -127,7 +131,7 @@ impl<W: Write> Sink for OutputSink<W> {
         ensures kept { OnOk result (self.new.faults ≡ self.old.faults) }
         ensures counts { OnErr result (self.new.faults ≡ counted self.old.faults) }
 
-        // what every sink ensures
+        // The contract of every sink.
         ensures some { IfOk result (λ k. 0 < k) }
         ensures fits { IfOk result (λ k. k ≤ length bytes.now) }
         ensures appends { IfOk result (λ k. Took self.old (take k bytes.now) self.new) }

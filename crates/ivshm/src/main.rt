@@ -1,6 +1,6 @@
-//! The program `ivshm`: it hands its words, standard input and standard output to the top call, and ends with the number
-//! of its status. It stands on `ivshm_cli` for all that it does; the arguments and the two real ends are the trusted edge,
-//! of which no contract tells.
+//! The program `ivshm`: it passes its words, standard input and standard output to the top call,
+//! and ends with the number of its status. `ivshm_cli` does the work. The arguments and the two
+//! real streams are the trusted edge: no contract describes them.
 #![tactic(auto)]
 
 use ivs_base::{InputSource, OutputSink};

@@ -1,4 +1,4 @@
--- Answers with their causes, and what notes tell.
+-- Answers with their causes, and the outcomes of notes.
 use Rattle.std.proofs.Common.{◌≡◌, ◌*◌, ◌++◌, ℕ, List, sym, ap, ◌∙◌, subst, length, take, drop, Option, Some, None, IfSome, true, false, nat_lt, if◌then◌else◌}
 use Rattle.std.proofs.Math.Seq.{take-append_seam, drop-append_seam}
 use Rattle.section_map.specs.Geometry.{Shape, IsShape}
@@ -24,14 +24,14 @@ use Rattle.ivshm_c.specs.EndStates.{IsNext, IsAhead, AreBursts, AreBurstTail}
 use Rattle.ivshm_c.specs.Sizes.{shape_found, sizes_found, layout_of, LaysOut, laid_out}
 use Rattle.ivshm_c.specs.Answers.{IsNew, MayMake, RefusesNew, MakesAnswered, GivesNext, GivesBursts, GivesTail, Where, room_answer, bursts_answer, took_tail_answer, tail_answer, made, has_end, refused}
 
--- the words of the sizes that were found
+-- The words of the sizes that were found.
 pub words_told : (found : Found) (peers mtu : ℕ) (before after : Layout) (shape : Shape) (queue : Sizes) → shape ≡ shape_found found peers → IsShape shape
     → queue ≡ sizes_found found 1 mtu → IsQueue queue → after ≡ layout_of shape queue → LaysOut found peers mtu before Done after
 words_told found peers mtu before after shape queue s shaped q queued is =
     subst (LaysOut found peers mtu before Done) (sym (is ∙ ap (λ (x : Shape). layout_of x queue) s ∙ ap (layout_of (shape_found found peers)) q))
     (laid_out (subst IsShape s shaped) (subst IsQueue q queued))
 
--- the access of an open call is told, with what comes after it
+-- The access of an open call is written, with the burst that it begins.
 pub told_next : (port : EndState) (before after : Access) (next : steps.Access) (order : Ordering) → is_busy port.endpoint ≡ true → IsNext port.endpoint next → IsAhead port.endpoint order →
     after ≡ access_crossed next (reads_ahead port.endpoint) (writes_ahead port.endpoint) order → GivesNext port before after
 told_next port before after next order busy is_next ahead crossed =
@@ -40,7 +40,8 @@ told_next port before after next order busy is_next ahead crossed =
     (after ≡ access_crossed next (reads_ahead port.endpoint) (writes_ahead port.endpoint) order))
     (after ≡ before)) (sym busy) (next, order, is_next, ahead, crossed)
 
--- the words that come before the index are told, where they fit, and what is behind them in the room stays
+-- The words of the bursts before the index are written if they fit, and the bytes after them in
+-- `room` stay.
 pub told_bursts : (port : EndState) (before after : crossed.Bursts) (room front : List ℕ) (bursts : Bursts) (bytes : ℕ) → is_busy port.endpoint ≡ true → bursts_of port.endpoint ≡ Some bursts →
     bytes ≡ 4 * words_of (Some bursts) → nat_lt (length room) bytes ≡ false → length front ≡ bytes → after ≡ bursts_crossed bursts →
     ((config : EndConfig) (end : End) (place : places.Place) → RefinesAt port.endpoint config end place → IfSome (bursts_of port.endpoint) (λ s. WritesAll config place (listed s) front)) →
@@ -61,7 +62,7 @@ told_bursts port before after room front bursts bytes busy some bytes_is fits si
     (drop (4 * words_of (Some told)) filled ≡ drop (4 * words_of (Some told)) room))
     ((after ≡ before) × (filled ≡ room))) (sym done) (bursts, some, crossed_is, written, rest_is)
 
--- the same of those behind the frame
+-- The same for the words after the frame.
 pub told_tail : (port : EndState) (before after : crossed.Bursts) (room front : List ℕ) (bursts : Bursts) → is_busy port.endpoint ≡ true → bursts_of port.endpoint ≡ Some bursts →
     nat_lt (length room) 20 ≡ false → length front ≡ 20 → after ≡ bursts_crossed bursts →
     ((config : EndConfig) (end : End) (place : places.Place) → RefinesAt port.endpoint config end place → IfSome (bursts_of port.endpoint) (λ s. WritesAll config place (listed s) (last_words (offered port.endpoint) s.frame.count ++ front))) →
@@ -83,14 +84,14 @@ told_tail port before after room front bursts busy some fits sized crossed_is wr
     ((after ≡ before) × (filled ≡ room))) (sym done) (bursts, some, crossed_is, written, rest_is)
 
 module _ (found : Found) (version peers me mtu vector : ℕ) (old new : Option EndState) where
-  -- a handle that holds an end keeps it
+  -- A handle with an end keeps it.
   pub holds_one : (port : EndState) → old ≡ Some port → new ≡ Some port → MakesAnswered old found version peers me mtu vector HasEnd new
   holds_one port was is = subst (MakesAnswered old found version peers me mtu vector HasEnd) (was ∙ sym is) (has_end (λ e. let wrong : Some port ≡ None = sym was ∙ e in absurd cc))
 
-  -- an empty one holds the new end
+  -- An empty handle gets the new end.
   pub new_one : (port : EndState) → old ≡ None → MayMake found version peers me mtu vector → IsNew found version peers me mtu vector port → new ≡ Some port → MakesAnswered old found version peers me mtu vector Done new
   new_one port was right is_new is = subst (MakesAnswered old found version peers me mtu vector Done) (sym is) (made port was right is_new)
 
-  -- an empty one stays so where none is made
+  -- An empty handle stays empty if no end is made.
   pub none_made : (status : Status) → RefusesNew found version peers me mtu vector status → old ≡ None → old ≡ new → MakesAnswered old found version peers me mtu vector status new
   none_made status why was is = subst (MakesAnswered old found version peers me mtu vector status) is (refused status was why)

@@ -1,4 +1,4 @@
--- What crosses is read back.
+-- The crossed numbers determine the values.
 use Rattle.std.proofs.Common.{ℕ, ◌≡◌, Bool, true, false, refl, sym, ap, ◌∙◌, ◌==◌, if◌then◌else◌}
 use Rattle.split_ring.specs.declared.steps.Access.{Access}
 use Rattle.split_ring.specs.declared.steps.Access.TheVariants as access
@@ -14,7 +14,7 @@ use Rattle.ivshm_c.specs.declared.crossing.Access as crossed_access
 use Rattle.ivshm_c.specs.declared.crossing.Note as crossed_note
 use Rattle.ivshm_c.specs.Crossing.{field_number, order_number, numbered, access_crossed, note_crossed, CrossingsHaveContracts}
 
--- an access by its numbers
+-- An access from its numbers.
 abbrev access_back : crossed_access.Access → Access
 access_back c =
     if c.kind == 0 then access.Nothing
@@ -30,7 +30,7 @@ access_is_back (access.Write word value) reads writes ordering = refl
 access_is_back (access.State value) reads writes ordering = refl
 access_is_back (access.Ring target vector) reads writes ordering = refl
 
--- an order by its numbers
+-- An order from its numbers.
 abbrev order_back : ℕ → Order
 order_back n = if n == 0 then Relaxed else if n == 1 then Acquire else Release
 
@@ -81,7 +81,7 @@ field_is_back DescFlags = refl
 field_is_back UsedIndex = refl
 field_is_back UsedId = refl
 
--- a note by its numbers
+-- A note from its numbers.
 abbrev note_back : crossed_note.Note → Note
 note_back c =
     if c.kind == 0 then note.Over

@@ -52,14 +52,14 @@ pub global_out : {M : Type 1} {𝓤 : Ura M} {𝓛 : Logic 𝓤} {K : Type 0} {�
     → ((h : Val) → vs ≡ h ∷ [] → Good (layout Z) h → Seq K 𝓛 (‵ (Z.own_val a (h ∷ [])) ∷ Γ) G) → Seq K 𝓛 (‵ (Z.own_val a vs) ∷ Γ) G
 global_out = handle_tells al
 
--- a block that may be freed has a pointer that may be compared with null
+-- A block that may be freed has a pointer that may be compared with null.
 tested : {M : Type 1} {𝓤 : Ura M} (𝓛 : Logic 𝓤) (alloc : Z.Denot) (p : Ptr) (n : R.Denot)
     → ent 𝓤 (sem 𝓛 (box_owns (ghosts.dealloc_token alloc) R p n)) (guard 𝓤 (Testable p) (sem 𝓛 (box_owns (ghosts.dealloc_token alloc) R p n)))
 tested {𝓤 = 𝓤} 𝓛 alloc p n = let B = sem 𝓛 (box_owns (ghosts.dealloc_token alloc) R p n) in
     fact_use 𝓤 (Testable p) (via 𝓤 _ (snd∗ 𝓤 (sem 𝓛 (lies_at R full_share p n)) (sem 𝓛 (ghosts.dealloc_token alloc (bare (lone R.mir)) p))) (dealloc_token-Testable 𝓛 alloc (bare (lone R.mir)) p)) (guard_i 𝓤 (Testable p) B)
 
 module _ {M : Type 1} {𝓤 : Ura M} {𝓛 : Logic 𝓤} {K : Type 0} {Γ : List (Item 𝓤)} {G : Goal 𝓤 𝓛.H} where
-  -- a handle holds no end, and is null; or it holds one, whose pointer may be compared with null
+  -- A handle has no end, and is null; or it has one, whose pointer may be compared with null.
   either_held : K → (at : Ptr) (alloc : Z.Denot) (x : Option EndState)
       → (x ≡ None → at ≡ null_ptr → Seq K 𝓛 Γ G)
       → ((n : R.Denot) (b o : ℕ) → x ≡ Some n → at ≡ block_ptr b o → Testable (block_ptr b o) → Seq K 𝓛 (‵ (box_owns (ghosts.dealloc_token alloc) R (block_ptr b o) n) ∷ Γ) G)

@@ -1,4 +1,4 @@
--- The exact answer of each export, and what it does to the end of a handle.
+-- The exact answer of each export, and its effect on the end of a handle.
 use Rattle.std.specs.Prelude.{ℕ, ◌≡◌, ◌≢◌, ◌+◌, ◌*◌, ◌/◌, ◌%◌, ◌==◌, ◌<◌, ◌≤◌, nat_lt, if◌then◌else◌, List, length, take, drop, Option, Some, None, is_none, IfSome}
 use Rattle.section_map.specs.Geometry.{IsShape}
 use Rattle.split_ring.specs.Layout.{IsVersion, IsQueue}
@@ -16,22 +16,24 @@ use Rattle.ivshm_c.specs.declared.end_state.EndState.{EndState}
 use Rattle.ivshm_c.specs.declared.end_state.Outcome.TheVariants.{Never, Open}
 use Rattle.ivshm_c.specs.declared.status.Status.{Status}
 use Rattle.ivshm_c.specs.declared.status.Status.TheVariants.{Done, NoEnd, HasEnd, CallOpen, NoCall, NoMemory, BadCall, ShortFrame, LongFrame, ShortRoom, BadPeer, OtherAccess, BadCount, BadVersion, BadVector}
+use Rattle.ivshm_c.specs.Counts.{no_counts, counts_after}
 use Rattle.ivshm_c.specs.Crossing.{call_numbered, access_crossed, bursts_crossed, notes_crossed}
 use Rattle.ivshm_c.specs.EndStates.{Begins, Offers, IsNext, IsAhead, AreWritten, AreBursts, AreBurstTail, ReadsAtOnce, ReadsWhole, WritesAtOnce, Steps, IsStarted, Restarts, outcome_after, outcome_cut}
 use Rattle.ivshm_c.specs.Sizes.{shape_found, sizes_found, IsSizeFault}
 
--- a handle that holds no end answers so, whatever is asked
+-- A handle without an end has the answer NoEnd for every call.
 abbrev pub answer_at : Option EndState → (EndState → Status) → Status
 answer_at None answer = NoEnd
 answer_at (Some port) answer = answer port
 
--- a handle that holds no end stays so; the end of another takes this step, and stays in the handle
+-- A handle without an end stays so. The end of another handle makes this step, and stays in the
+-- handle.
 abbrev pub Leads : Option EndState → (EndState → EndState → Type 0) → Option EndState → Type 0
 Leads None step None = Unit {0}
 Leads (Some old) step (Some new) = step old new
 Leads old step new = ⊥
 
--- where the answer is that it is done, the end takes the step; else nothing of it changes
+-- If the answer is Done, the end makes the step. If not, nothing changes.
 abbrev pub Where : Status → Type 0 → Type 0 → Type 0
 Where Done step rest = step
 Where status step rest = rest
@@ -51,14 +53,14 @@ offer_answer frame port =
     else if is_busy port.endpoint then CallOpen
     else Done
 
--- the frame offered last is offered again
+-- The answer for another offer of the frame offered last.
 abbrev pub again_answer : EndState → Status
 again_answer port = offer_answer (offered port.endpoint) port
 
 abbrev pub step_answer : EndState → Status
 step_answer port = if is_busy port.endpoint then Done else NoCall
 
--- where some steps are taken at once: so many are told to come, and so many are asked for
+-- The answer for a burst: `ahead` steps are next, and `count` are to be completed.
 abbrev pub count_answer : (ahead count : ℕ) → Status
 count_answer ahead count =
     if ahead == 0 then OtherAccess
@@ -66,7 +68,7 @@ count_answer ahead count =
     else if nat_lt ahead count then BadCount
     else Done
 
--- the same by the bytes of their words, four each
+-- The answer for a burst by the bytes of its words, four each.
 abbrev pub bytes_answer : (ahead bytes : ℕ) → Status
 bytes_answer ahead bytes =
     if ahead == 0 then OtherAccess
@@ -82,7 +84,8 @@ words_answer bytes port = if is_busy port.endpoint then bytes_answer (writes_ahe
 abbrev pub writes_answer : (count : ℕ) → EndState → Status
 writes_answer count port = if is_busy port.endpoint then count_answer (writes_ahead port.endpoint) count else NoCall
 
--- where all that an offer writes before its index is asked for: no word of a frame is next, or the room is too short for these words
+-- The answer for the bursts of an offer before its index: OtherAccess if no word of a frame is
+-- next, ShortRoom if the words don't fit.
 abbrev pub room_answer : Option Bursts → (room : ℕ) → Status
 room_answer None room = OtherAccess
 room_answer (Some bursts) room = if nat_lt room (4 * words_of (Some bursts)) then ShortRoom else Done
@@ -90,7 +93,7 @@ room_answer (Some bursts) room = if nat_lt room (4 * words_of (Some bursts)) the
 abbrev pub bursts_answer : (room : ℕ) → EndState → Status
 bursts_answer room port = if is_busy port.endpoint then room_answer (bursts_of port.endpoint) room else NoCall
 
--- where those behind the frame are asked for, which have 20 bytes
+-- The answer for the words after the frame, which have 20 bytes.
 abbrev pub took_tail_answer : Option Bursts → (room : ℕ) → Status
 took_tail_answer None room = OtherAccess
 took_tail_answer (Some bursts) room = if nat_lt room 20 then ShortRoom else Done
@@ -98,7 +101,7 @@ took_tail_answer (Some bursts) room = if nat_lt room 20 then ShortRoom else Done
 abbrev pub tail_answer : (room : ℕ) → EndState → Status
 tail_answer room port = if is_busy port.endpoint then took_tail_answer (bursts_of port.endpoint) room else NoCall
 
--- where their steps are taken
+-- The answer for the completion of these bursts.
 abbrev pub took_bursts_answer : EndState → Status
 took_bursts_answer port = if is_busy port.endpoint then (if is_none (bursts_of port.endpoint) then OtherAccess else Done) else NoCall
 
@@ -110,96 +113,112 @@ done_answer port = Done
 
 -- The steps of the calls
 
--- a call begins, and the outcome of the last offer stays
+-- The outcome of the last offer and the counts stay.
+abbrev pub Keeps : EndState → EndState → Type 0
+Keeps old new = (new.outcome ≡ old.outcome) × (new.counts ≡ old.counts)
+
+-- An offer is open, and the counts stay.
+abbrev pub IsOffered : EndState → EndState → Type 0
+IsOffered old new = (new.outcome ≡ Open) × (new.counts ≡ old.counts)
+
+-- The outcome of the last offer and the counts follow these notes of a step.
+abbrev pub Follows : List Note → EndState → EndState → Type 0
+Follows notes old new =
+    (new.outcome ≡ outcome_after notes old.outcome) × (new.counts ≡ counts_after old.endpoint.phase new.endpoint.phase notes old.counts)
+
+-- A call begins.
 abbrev pub BeginsAnswered : ℕ → EndState → EndState → Type 0
 BeginsAnswered call old new = Where (begin_answer call old)
-    (IfSome (call_numbered call) (λ named. Begins named old.endpoint new.endpoint) × (new.outcome ≡ old.outcome))
+    (IfSome (call_numbered call) (λ named. Begins named old.endpoint new.endpoint) × Keeps old new)
     (new ≡ old)
 
--- an offer begins
+-- An offer begins.
 abbrev pub OffersAnswered : List ℕ → EndState → EndState → Type 0
-OffersAnswered frame old new = Where (offer_answer frame old) (Offers frame old.endpoint new.endpoint × (new.outcome ≡ Open)) (new ≡ old)
+OffersAnswered frame old new = Where (offer_answer frame old) (Offers frame old.endpoint new.endpoint × IsOffered old new) (new ≡ old)
 
--- an offer of the frame offered last begins
+-- Another offer of the frame offered last begins.
 abbrev pub OffersAgain : EndState → EndState → Type 0
 OffersAgain old new = OffersAnswered (offered old.endpoint) old new
 
--- the access of the open call is told
+-- The next access of the open call is written.
 abbrev pub GivesNext : EndState → Access → Access → Type 0
 GivesNext port before after = Where (step_answer port)
     ((next : steps.Access) × (order : Ordering) × IsNext port.endpoint next × IsAhead port.endpoint order ×
     (after ≡ access_crossed next (reads_ahead port.endpoint) (writes_ahead port.endpoint) order))
     (after ≡ before)
 
--- a step of the open call is taken, with its notes
+-- A step of the open call is completed, with its notes.
 abbrev pub TakesAnswered : ℕ → Notes → Notes → EndState → EndState → Type 0
 TakesAnswered value before after old new = Where (step_answer old)
-    ((notes : List Note) × Steps old.endpoint value notes new.endpoint × (new.outcome ≡ outcome_after notes old.outcome) × (after ≡ notes_crossed notes))
+    ((notes : List Note) × Steps old.endpoint value notes new.endpoint × Follows notes old new × (after ≡ notes_crossed notes))
     ((new ≡ old) × (after ≡ before))
 
--- reads of the open call are taken at once, with the notes of the last; all words of a frame are the frame delivered
+-- Reads of the open call are completed together, with the notes of the last. If they are all words
+-- of a frame, they are the frame delivered.
 abbrev pub TakesWords : List ℕ → Notes → Notes → EndState → EndState → Type 0
 TakesWords words before after old new = Where (reads_answer (length words) old)
     ((notes : List Note) × ReadsAtOnce old.endpoint words notes new.endpoint × ReadsWhole old.endpoint words new.endpoint ×
-    (new.outcome ≡ outcome_after notes old.outcome) × (after ≡ notes_crossed notes))
+    Follows notes old new × (after ≡ notes_crossed notes))
     ((new ≡ old) × (after ≡ before))
 
--- the words of the writes that come are told
+-- The values of the next writes are written.
 abbrev pub GivesWords : EndState → List ℕ → List ℕ → Type 0
 GivesWords port before after = Where (words_answer (length before) port) (AreWritten port.endpoint after) (after ≡ before)
 
--- writes of the open call are taken at once
+-- Writes of the open call are completed together.
 abbrev pub TakesWrites : ℕ → EndState → EndState → Type 0
-TakesWrites count old new = Where (writes_answer count old) (WritesAtOnce old.endpoint count new.endpoint × (new.outcome ≡ old.outcome)) (new ≡ old)
+TakesWrites count old new = Where (writes_answer count old) (WritesAtOnce old.endpoint count new.endpoint × Keeps old new) (new ≡ old)
 
--- the words that an offer writes before its index are told, and put at the front of the room
+-- The bursts of an offer before its index are written, and their words are at the front of `room`.
 abbrev pub GivesBursts : EndState → (before after : crossed.Bursts) → (room filled : List ℕ) → Type 0
 GivesBursts port before after room filled = Where (bursts_answer (length room) port)
     ((bursts : Bursts) × (bursts_of port.endpoint ≡ Some bursts) × (after ≡ bursts_crossed bursts) × AreBursts port.endpoint bursts filled ×
     (drop (4 * words_of (Some bursts)) filled ≡ drop (4 * words_of (Some bursts)) room))
     ((after ≡ before) × (filled ≡ room))
 
--- the same words are told, and those behind the frame alone are put at the front of the room
+-- The same bursts are written, and only the words after the frame are at the front of `room`.
 abbrev pub GivesTail : EndState → (before after : crossed.Bursts) → (room filled : List ℕ) → Type 0
 GivesTail port before after room filled = Where (tail_answer (length room) port)
     ((bursts : Bursts) × (bursts_of port.endpoint ≡ Some bursts) × (after ≡ bursts_crossed bursts) × AreBurstTail port.endpoint bursts filled ×
     (drop 20 filled ≡ drop 20 room))
     ((after ≡ before) × (filled ≡ room))
 
--- all of them are taken at once
+-- All these writes are completed together.
 abbrev pub TakesBursts : EndState → EndState → Type 0
 TakesBursts old new = Where (took_bursts_answer old)
-    (WritesAtOnce old.endpoint (words_of (bursts_of old.endpoint)) new.endpoint × (new.outcome ≡ old.outcome))
+    (WritesAtOnce old.endpoint (words_of (bursts_of old.endpoint)) new.endpoint × Keeps old new)
     (new ≡ old)
 
--- the frame delivered last is copied to the front
+-- The frame delivered last is copied to the front of the room.
 abbrev pub CopiesFrame : EndState → List ℕ → List ℕ → Type 0
 CopiesFrame port before after = Where (frame_answer (length before) port)
     (take (length (delivered port.endpoint)) after ≡ delivered port.endpoint)
     (after ≡ before)
 
--- the device was reset
+-- The end is reset after a reset of the device. The counts stay.
 abbrev pub Renews : EndState → EndState → Type 0
-Renews old new = Restarts old.endpoint new.endpoint × (new.outcome ≡ outcome_cut old.outcome)
+Renews old new = Restarts old.endpoint new.endpoint × (new.outcome ≡ outcome_cut old.outcome) × (new.counts ≡ old.counts)
 
--- a new end of a link of this version, in a region of these sizes
+-- A new end of a link of this version, in a region of these sizes.
 abbrev pub IsNew : Found → (version peers me mtu vector : ℕ) → EndState → Type 0
 IsNew found version peers me mtu vector port =
-    IsStarted (config_of (shape_found found peers) (sizes_found found version mtu) me vector) port.endpoint × (port.outcome ≡ Never)
+    IsStarted (config_of (shape_found found peers) (sizes_found found version mtu) me vector) port.endpoint × (port.outcome ≡ Never) × (port.counts ≡ no_counts)
 
--- the numbers by which an end is made are right, but for the sizes: it is one of the link's two peers, the version is known, and a vector has 16 bits
+-- The numbers of a new end other than its sizes are valid: the peer is 0 or 1, the version is
+-- known, and the vector has 16 bits.
 pub record AreNumbers (version me vector : ℕ) : Type 0 where
   pub one_of_two : me ≤ 1
   pub known : IsVersion version
   pub has_16_bits : vector < 65536
 
--- all is right: there is a region of these sizes, and a queue in its sections
+-- All arguments are valid: a region of these sizes exists, and a queue in its sections.
 pub record MayMake (found : Found) (version peers me mtu vector : ℕ) : Type 0 where
   pub numbers : AreNumbers version me vector
   pub shape : IsShape (shape_found found peers)
   pub queue : IsQueue (sizes_found found version mtu)
 
--- why no end is made: the first of these that is wrong, and where nothing is, for want of memory, which is free to come
+-- The reason for which no end is made: the first of these tests that fails, or NoMemory if all
+-- arguments are valid and the allocation fails.
 pub data RefusesNew (found : Found) (version peers me mtu vector : ℕ) : Status → Type 0 where
   bad_peer : 2 ≤ me → RefusesNew found version peers me mtu vector BadPeer
   bad_version : me ≤ 1 → ¬ IsVersion version → RefusesNew found version peers me mtu vector BadVersion
@@ -207,7 +226,8 @@ pub data RefusesNew (found : Found) (version peers me mtu vector : ℕ) : Status
   bad_sizes : (status : Status) → AreNumbers version me vector → IsSizeFault found version peers mtu status → RefusesNew found version peers me mtu vector status
   no_memory : MayMake found version peers me mtu vector → RefusesNew found version peers me mtu vector NoMemory
 
--- the answer where an end is to be made, and what the handle holds then. A handle that holds an end keeps it, whatever else is wrong
+-- The answer for a new end, and the handle after it. A handle with an end keeps it, for all other
+-- arguments.
 pub data MakesAnswered (old : Option EndState) (found : Found) (version peers me mtu vector : ℕ) : Status → Option EndState → Type 0 where
   made : (port : EndState) → old ≡ None → MayMake found version peers me mtu vector → IsNew found version peers me mtu vector port →
       MakesAnswered old found version peers me mtu vector Done (Some port)

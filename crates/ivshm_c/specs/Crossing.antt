@@ -1,4 +1,4 @@
--- What crosses to C and back: numbers in the place of enums.
+-- The values that cross to C and back: numbers instead of enums.
 use Rattle.std.specs.Prelude.{ℕ, ◌≡◌, ◌+◌, List, [], ◌∷◌, length, Option, Some, None, ◌==◌, if◌then◌else◌}
 use Rattle.link_handshake.specs.declared.Phase.{Phase}
 use Rattle.link_handshake.specs.declared.Phase.TheVariants.{Reset, Init, Ready, Run}
@@ -28,11 +28,11 @@ use Rattle.ivshm_c.specs.declared.end_state.Outcome.{Outcome}
 use Rattle.ivshm_c.specs.declared.end_state.Outcome.TheVariants as outcome
 use Rattle.ivshm_c.specs.Sizes.{flag}
 
--- a call by its number
+-- The call with this number.
 abbrev pub call_numbered : ℕ → Option Call
 call_numbered number = if number == 0 then Some Tick else if number == 1 then Some Poll else if number == 2 then Some Stop else None
 
--- a phase as the state that stands for it
+-- The State value of a phase.
 abbrev pub state_of : Phase → ℕ
 state_of Reset = 0
 state_of Init = 1
@@ -53,7 +53,8 @@ order_number Relaxed = 0
 order_number Acquire = 1
 order_number Release = 2
 
--- numbers in the place of an access: its kind, the two numbers with it, how many words may be read or written at once from it on, and its order
+-- The numbers of an access: its kind, its two numbers, the number of words of the burst that it
+-- begins, and its order.
 abbrev pub numbered : (kind word value count : ℕ) → Ordering → crossed_access.Access
 numbered kind word value count ordering = record {
   kind = kind;
@@ -65,7 +66,7 @@ numbered kind word value count ordering = record {
   fence_after = flag ordering.fence_after;
 }
 
--- an access, with so many words ahead to be read or written at once, and its order
+-- An access with its order and the number of words of the burst that it begins.
 abbrev pub access_crossed : Access → (reads writes : ℕ) → Ordering → crossed_access.Access
 access_crossed access.Nothing reads writes ordering = numbered 0 0 0 0 ordering
 access_crossed (access.Read word) reads writes ordering = numbered 1 word 0 reads ordering
@@ -73,18 +74,18 @@ access_crossed (access.Write word value) reads writes ordering = numbered 2 word
 access_crossed (access.State value) reads writes ordering = numbered 3 0 value 0 ordering
 access_crossed (access.Ring target vector) reads writes ordering = numbered 4 target vector 0 ordering
 
--- words that come one after the other, and three times such words
+-- One burst, and three bursts.
 abbrev pub burst_crossed : Burst → crossed_burst.Burst
 burst_crossed s = record { word = s.word; count = s.count }
 
 abbrev pub bursts_crossed : Bursts → crossed_bursts.Bursts
 bursts_crossed s = record { frame = burst_crossed s.frame; descriptor = burst_crossed s.descriptor; entry = burst_crossed s.entry }
 
--- what was refused
+-- The note of a refusal.
 abbrev pub refusal_crossed : Refused → crossed_note.Note
 refusal_crossed refused = record { kind = 10; field = field_number refused.field; value = refused.value }
 
--- a note: its kind, the field of a refusal, and the number with it
+-- A note: its kind, the field of a refusal, and its number.
 abbrev pub note_crossed : Note → crossed_note.Note
 note_crossed note.Over = record { kind = 0; field = 0; value = 0 }
 note_crossed (note.Saw state) = record { kind = 1; field = 0; value = state }
@@ -101,7 +102,7 @@ note_crossed (note.Refuse refused) = refusal_crossed refused
 abbrev pub blank : crossed_note.Note
 blank = record { kind = 0; field = 0; value = 0 }
 
--- the notes of a step, two at most
+-- The notes of a step, at most two.
 abbrev pub notes_crossed : List Note → crossed_notes.Notes
 notes_crossed [] = record { count = 0; first = blank; second = blank }
 notes_crossed (a ∷ []) = record { count = 1; first = note_crossed a; second = blank }
@@ -124,7 +125,7 @@ abbrev pub value_of : Option Refused → ℕ
 value_of None = 0
 value_of (Some refused) = refused.value
 
--- what an end tells of itself
+-- The state of an end.
 abbrev pub view_of : EndState → View
 view_of port = let end = port.endpoint in record {
   refused_value = value_of end.refused;
@@ -136,7 +137,7 @@ view_of port = let end = port.endpoint in record {
   longest = end.config.sizes.mtu + 18;
 }
 
--- what crosses is told apart: accesses by their numbers, with their orders, and notes by theirs
+-- The crossed numbers determine the values: accesses and their orders, and notes.
 pub record CrossingsHaveContracts : Type 0 where
   pub accesses : (a b : Access) (reads writes others more : ℕ) (at by : Ordering) →
       access_crossed a reads writes at ≡ access_crossed b others more by → a ≡ b

@@ -1,4 +1,4 @@
--- An end and the outcome of its last offer: what its calls do.
+-- An end and the outcome of its last offer: the effect of its calls.
 use Rattle.std.specs.Prelude.{ℕ, ◌≡◌, ◌*◌, ◌↔◌, List, [], ◌∷◌, ◌++◌, length, take, flat_map, true, not, IsTrue, Some, IfSome}
 use Rattle.split_ring.specs.declared.steps.Access.{Access}
 use Rattle.split_ring.specs.declared.steps.Access.TheVariants.{Nothing, Read, Write, State}
@@ -26,7 +26,7 @@ use Rattle.ivshm_c.specs.declared.end_state.Outcome.TheVariants as outcome
 
 -- The clauses of an endpoint's calls
 
--- a call opens: for whatever end the endpoint stands, it stands at the first place of the call
+-- A call opens: for every end that the endpoint refines, it is at the first place of the call.
 pub record Begins (call : Call) (old new : Engine) : Type 0 where
   pub refines : (config : EndConfig) (end : End) → RefinesAt old config end places.Closed → RefinesAt new config end (places.first_place config end (call_of call))
   pub opened : is_busy new ≡ true
@@ -35,7 +35,7 @@ pub record Begins (call : Call) (old new : Engine) : Type 0 where
   pub offered : offered new ≡ offered old
   pub kept : Opens old new
 
--- an offer of this frame opens
+-- An offer of this frame opens.
 pub record Offers (frame : List ℕ) (old new : Engine) : Type 0 where
   pub refines : (config : EndConfig) (end : End) → RefinesAt old config end places.Closed → RefinesAt new config end (places.first_place config end (Offer frame))
   pub few : (config : EndConfig) (end : End) (place : places.Place) → RefinesAt old config end place → HasFewInFlight config end
@@ -44,49 +44,52 @@ pub record Offers (frame : List ℕ) (old new : Engine) : Type 0 where
   pub holds : offered new ≡ frame
   pub kept : Opens old new
 
--- this is the access of the open call: the one at its place, and in reach of the peer. It is none exactly where the call is down, and State 0
--- after a refusal
+-- The access of the open call: the access of its place, which is permitted to the peer. It is none
+-- exactly if the call is down, and State 0 after a refusal.
 pub record IsNext (engine : Engine) (next : Access) : Type 0 where
   pub access : (config : EndConfig) (end : End) (place : places.Place) → RefinesAt engine config end place → next ≡ places.access_at config place
   pub reach : IsPermittedAccess engine.config next
   pub nothing : (next ≡ Nothing) ↔ IsTrue (is_down engine)
   pub leaves : is_refusing engine ≡ true → next ≡ State 0
 
--- what may be made at once from the access on, and the order that it needs
+-- The bursts that begin with the access, and the order that it needs.
 pub record IsAhead (engine : Engine) (told : Ordering) : Type 0 where
   pub reads : (config : EndConfig) (end : End) (place : places.Place) (word : ℕ) → RefinesAt engine config end place →
       places.access_at config place ≡ Read word → ReadsBurst config place word (reads_ahead engine)
   pub order : (config : EndConfig) (end : End) (place : places.Place) → RefinesAt engine config end place → told ≡ order_at place
 
--- these bytes are the words that are written next, each after the other
+-- These bytes are the values of the next writes, in order.
 abbrev pub AreWritten : Engine → List ℕ → Type 0
 AreWritten engine bytes = (config : EndConfig) (end : End) (place : places.Place) (word value : ℕ) → RefinesAt engine config end place →
     places.access_at config place ≡ Write word value → WritesBurst config place word bytes
 
--- the first of these bytes are the words of these bursts, which are written next, one behind the other
+-- The first of these bytes are the words of these bursts, which are written next, in order.
 abbrev pub AreBursts : Engine → Bursts → (bytes : List ℕ) → Type 0
 AreBursts engine bursts bytes = (config : EndConfig) (end : End) (place : places.Place) → RefinesAt engine config end place →
     WritesAll config place (listed bursts) (take (4 * words_of (Some bursts)) bytes)
 
--- the first of these bytes are the words of the descriptor and of the entry, which are written next behind those of the frame: the last words of the frame
--- offered last
+-- The first of these bytes are the words of the descriptor and of the available entry, which are
+-- written after the words of the frame. The words of the frame are the last words of the frame
+-- offered last.
 abbrev pub AreBurstTail : Engine → Bursts → (bytes : List ℕ) → Type 0
 AreBurstTail engine bursts bytes = (config : EndConfig) (end : End) (place : places.Place) → RefinesAt engine config end place →
     WritesAll config place (listed bursts) (last_words (offered engine) bursts.frame.count ++ take 20 bytes)
 
--- steps of the open call at once, whose reads gave the words that these bytes spell, four each: as many single steps
+-- A burst of reads whose values are these bytes, four each: equivalent to one step for each value.
 abbrev pub ReadsAtOnce : Engine → (bytes : List ℕ) → List Note → Engine → Type 0
 ReadsAtOnce old bytes notes new = (values : List ℕ) → bytes ≡ flat_map word_bytes values → StepsThrough IsTaken old values notes new
 
--- where these are all the words of a frame, from its first one on, the frame delivered is their first bytes
+-- If these are all words of a frame, from its first one on, the frame delivered is their first
+-- bytes.
 abbrev pub ReadsWhole : Engine → (bytes : List ℕ) → Engine → Type 0
 ReadsWhole old bytes new = IfSome (frame_ahead old) (λ size. length bytes ≡ 4 * reads_ahead old → delivered new ≡ take size bytes)
 
--- so many steps of the open call at once, which write
+-- A burst of `count` writes of the open call.
 abbrev pub WritesAtOnce : Engine → (count : ℕ) → Engine → Type 0
 WritesAtOnce old count new = (values : List ℕ) → length values ≡ count → StepsThrough IsTaken old values [] new
 
--- a step of the open call, with these notes. A value that is refused is kept, and State 0 follows, with which the end is in RESET and stays there
+-- A step of the open call, with these notes. After a refusal the value is stored, and State 0 is
+-- next, which puts the end into RESET, where it stays.
 pub record Steps (old : Engine) (value : ℕ) (notes : List Note) (new : Engine) : Type 0 where
   pub takes : Takes old value notes new
   pub refuses : Refuses notes new
@@ -94,12 +97,13 @@ pub record Steps (old : Engine) (value : ℕ) (notes : List Note) (new : Engine)
   pub keeps : KeepsRefused old new
   pub stays : Stays old value notes new
 
--- a new end of this peer: its one open call is a Stop, which begins with State 0
+-- A new end of this peer: its only open call is a Stop, which begins with State 0.
 pub record IsStarted (config : EndConfig) (new : Engine) : Type 0 where
   pub refines : RefinesAt new config fresh (places.first_place config fresh (call_of Stop))
   pub begins : Begins Stop (fresh_engine config) new
 
--- the device was reset: the open call is cut, and a Stop is open, which begins with State 0. The frame delivered last stays, and the one offered last
+-- The end after a reset of the device: the open call is cut, and a Stop is open, which begins with
+-- State 0. The frame delivered last and the frame offered last stay.
 pub record Restarts (old new : Engine) : Type 0 where
   pub refines : (config : EndConfig) (end : End) (place : places.Place) → RefinesAt old config end place →
       RefinesAt new config (after_reset end) (places.first_place config (after_reset end) (call_of Stop))
@@ -109,7 +113,7 @@ pub record Restarts (old new : Engine) : Type 0 where
 
 -- The outcome of the last offer
 
--- what a note tells of an open offer
+-- The outcome of an open offer after a note.
 abbrev pub outcome_noted : Note → Outcome
 outcome_noted note.Accept = outcome.Accepted
 outcome_noted note.Full = outcome.Full
@@ -117,22 +121,22 @@ outcome_noted (note.Refuse refused) = outcome.Refused
 outcome_noted note.Down = outcome.Down
 outcome_noted _ = outcome.Open
 
--- an open offer's outcome is told once
+-- The first note with an outcome determines the outcome of an open offer.
 abbrev pub outcome_with : Note → Outcome → Outcome
 outcome_with n outcome.Open = outcome_noted n
 outcome_with n before = before
 
--- what the notes of a step tell of an open offer
+-- The outcome of an open offer after the notes of a step.
 abbrev pub noted_by : List Note → Outcome → Outcome
 noted_by [] before = before
 noted_by (n ∷ notes) before = noted_by notes (outcome_with n before)
 
--- the outcome after these notes: that of an offer that isn't open stays
+-- The outcome after these notes. The outcome of an offer that isn't open stays.
 abbrev pub outcome_after : List Note → Outcome → Outcome
 outcome_after notes outcome.Open = noted_by notes outcome.Open
 outcome_after notes before = before
 
--- a reset cuts an open offer
+-- A reset cuts an open offer.
 abbrev pub outcome_cut : Outcome → Outcome
 outcome_cut outcome.Open = outcome.Cut
 outcome_cut before = before

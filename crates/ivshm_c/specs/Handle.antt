@@ -1,4 +1,4 @@
--- What the handle of an end owns.
+-- The ownership of a handle.
 use Rattle.std.specs.Prelude.{◌≡◌, Option, Some, None}
 use base.Fml.{Fml, ftrue, fex}
 use denote.RawPtr.{Ptr, null_ptr}
@@ -8,7 +8,8 @@ use Rattle.std.specs.contracts.impls.GlobalAllocator.TheImpl.{ghosts}
 use Rattle.ivshm_c.specs.declared.end_state.EndState.{EndState}
 use Rattle.ivshm_c.specs.contracts.end_state.EndState as port
 
--- a handle of no end is the null pointer, and owns nothing; else it owns the end at its pointer, and the right to free the block
+-- A handle of no end is the null pointer, and owns nothing. Any other handle owns the end at its
+-- pointer, and the right to free the block.
 abbrev pub held : Ptr → Global → Option EndState → Fml
 held at alloc None = fex (at ≡ null_ptr) (λ _. ftrue)
 held at alloc (Some end) = box_owns (ghosts.dealloc_token alloc) port.the_row at end

@@ -1,6 +1,9 @@
 pub mod Handle
 pub mod Statuses
 pub mod Crossing
+pub mod Counts
+pub mod Sessions
+pub mod Versions
 pub mod EndStates
 pub mod Sizes
 pub mod Answers

@@ -1,4 +1,5 @@
--- What a program in C is told of a device and of a section, and which sizes are refused.
+-- The description of a device and of a section that the C interface returns, and the sizes that it
+-- refuses.
 use Rattle.std.specs.Prelude.{ℕ, ◌≡◌, ◌+◌, ◌-◌, ◌%◌, min, Bool, true, false, unwrap_or, is_some, Result, Ok, Err}
 use Rattle.section_map.specs.Geometry.{Shape, IsShape, section_start}
 use Rattle.section_map.specs.Faults.{shape_of, IsFirstFault}
@@ -16,7 +17,7 @@ use Rattle.ivshm_c.specs.declared.status.Status.{Status}
 use Rattle.ivshm_c.specs.declared.status.Status.TheVariants.{Done}
 use Rattle.ivshm_c.specs.Statuses.{geometry_status, queue_status, capability_status}
 
--- yes is 1, no is 0
+-- The number of a flag: 1 for true, 0 for false.
 abbrev pub flag : Bool → ℕ
 flag true = 1
 flag false = 0
@@ -24,7 +25,8 @@ flag false = 0
 abbrev pub no_msix : MsixFound
 no_msix = record { vectors = 0; table = 0; pending = 0 }
 
--- what a walk found, as numbers: of each place of MSI-X the Base Address Register and the offset after it, and 0 vectors where there is none
+-- The result of a walk, as numbers. Each place of MSI-X has the Base Address Register and the
+-- offset in it, and 0 vectors if there is no MSI-X.
 abbrev pub found_crossed : walked.Found → Found
 found_crossed found = let msix = unwrap_or found.msix no_msix in record {
   common = found.common;
@@ -41,7 +43,7 @@ found_crossed found = let msix = unwrap_or found.msix no_msix in record {
   pending_offset = msix.pending - msix.pending % 8;
 }
 
--- the answer of a walk, and what the program's place for it holds then
+-- The answer of a walk, and the program's result structure after it.
 abbrev pub walk_status : Result walked.Found CapabilityFault → Status
 walk_status (Ok found) = Done
 walk_status (Err fault) = capability_status fault
@@ -50,25 +52,25 @@ abbrev pub found_after : Result walked.Found CapabilityFault → Found → Found
 found_after (Ok found) before = found_crossed found
 found_after (Err fault) before = before
 
--- the sizes of a region of so many peers, and of its queues in a link of this version
+-- The sizes of a region with this number of peers, and of its queues in a link of this version.
 abbrev pub shape_found : Found → ℕ → Shape
 shape_found found peers = shape_of peers found.table found.common found.out
 
 abbrev pub sizes_found : Found → (version mtu : ℕ) → Sizes
 sizes_found found version mtu = record { version = version; out = found.out; mtu = mtu }
 
--- the first thing that is wrong with the sizes of a region, or else with its queues
+-- The first test that the sizes of a region, or else its queues, fail.
 pub data IsSizeFault (found : Found) (version peers mtu : ℕ) (status : Status) : Type 0 where
   no_region : (fault : GeometryFault) → IsFirstFault peers found.table found.common found.out fault → status ≡ geometry_status fault →
       IsSizeFault found version peers mtu status
   no_queue : (fault : QueueFault) → IsShape (shape_found found peers) → IsQueueFault (sizes_found found version mtu) fault → status ≡ queue_status fault →
       IsSizeFault found version peers mtu status
 
--- the most bytes that a frame may have which is taken: those of a frame, and of the data area
+-- The greatest length in bytes of a delivered frame: at most the longest frame and the data area.
 abbrev pub longest_delivery : Sizes → ℕ
 longest_delivery q = min 65553 (data_area_len q)
 
--- the words of a region by name
+-- The words of a region by name.
 abbrev pub layout_of : Shape → Sizes → Layout
 layout_of shape q = record {
   first = section_start shape 0;
@@ -87,13 +89,14 @@ layout_of shape q = record {
   longest_delivery = longest_delivery q;
 }
 
--- the answer where the words are told, which are those of each version, with the slots and the limit of the first: each refusal has its cause, and
--- writes nothing
+-- The answer of the layout, whose words are the same in each version, with the slots and the limit
+-- of version 1. Each refusal has its cause, and writes nothing.
 pub data LaysOut (found : Found) (peers mtu : ℕ) (before : Layout) : Status → (after : Layout) → Type 0 where
   laid_out : IsShape (shape_found found peers) → IsQueue (sizes_found found 1 mtu) →
       LaysOut found peers mtu before Done (layout_of (shape_found found peers) (sizes_found found 1 mtu))
   refused : (status : Status) → IsSizeFault found 1 peers mtu status → LaysOut found peers mtu before status before
 
--- the link's highest version and the bounds of its numbers (profile; the shortest frame is an Ethernet header, the longest one has the greatest MTU and 18 bytes more)
+-- The link's highest version and the bounds of its numbers (profile). The shortest frame is an
+-- Ethernet header; the longest one has the greatest MTU and 18 bytes more.
 abbrev pub limits : Limits
 limits = record { version = 3; least_mtu = 256; most_mtu = 65535; shortest_frame = 14; longest_frame = 65553; largest_region = 16777216 }

@@ -42,7 +42,7 @@ number_of status.BadCount = 27
 number_of status.BadVersion = 28
 number_of status.BadVector = 29
 
--- why sizes make no region
+-- The answer for each reason for which sizes make no region.
 abbrev pub geometry_status : GeometryFault → Status
 geometry_status (geometry.BadPeers peers) = status.BadPeers
 geometry_status (geometry.BadPage Table size) = status.BadTable
@@ -51,13 +51,13 @@ geometry_status (geometry.BadPage Out size) = status.BadOut
 geometry_status (geometry.TableTooSmall need found) = status.SmallTable
 geometry_status (geometry.TooLarge bytes) = status.LargeRegion
 
--- why a section has no queue
+-- The answer for each reason for which a section has no queue.
 abbrev pub queue_status : QueueFault → Status
 queue_status (queue.BadMtu mtu) = status.BadMtu
 queue_status (queue.TooSmall bytes) = status.SmallOut
 queue_status (queue.NoSlot slot room) = status.NoSlot
 
--- why a walk found no device
+-- The answer for each reason for which a walk finds no device.
 abbrev pub capability_status : CapabilityFault → Status
 capability_status (capability.NotThisDevice vendor device) = status.OtherDevice
 capability_status (capability.BadClass class) = status.BadClass

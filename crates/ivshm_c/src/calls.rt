@@ -1,4 +1,4 @@
-//! The calls of an end with their answers, where what a program in C hands over is tested.
+//! The calls of an end with their answers. Each call tests the arguments of the C program.
 ghost use Rattle.std.specs.Prelude.{◌≡◌, ◌*◌, ◌%◌, ◌<◌, ◌≤◌, length, Some, IfOk, IfErr};
 ghost use Rattle.tx_engine.specs.Ahead.{words_of};
 ghost use Rattle.link_endpoint.specs.Engine.{delivered, offered};
@@ -13,7 +13,8 @@ use link_endpoint::Endpoint;
 use split_ring::steps;
 use std::alloc::Global;
 
-/// Makes an end of a link of this version. The tests are in this order: the peer, the version, the vector, and then the sizes.
+/// Makes an end of a link of this version. The tests are in this order: the peer, the version, the
+/// vector, and then the sizes.
 pub(crate) fn made(
     alloc: Global,
     found: &Found,
@@ -49,7 +50,7 @@ pub(crate) fn made(
     }
 }
 
-/// Opens the call of this number.
+/// Opens the call with this number.
 pub(crate) fn begun(port: &mut EndState, call: u32) -> Status
     ensures answer { result ≡ begin_answer call port.old }
     ensures step { BeginsAnswered call port.old port.new }
@@ -64,7 +65,7 @@ pub(crate) fn begun(port: &mut EndState, call: u32) -> Status
     Status::Done
 }
 
-/// Opens an offer of this frame.
+/// Opens an offer of `frame`.
 pub(crate) fn offered(port: &mut EndState, frame: &[u8]) -> Status
     ensures answer { result ≡ offer_answer frame.now port.old }
     ensures step { OffersAnswered frame.now port.old port.new }
@@ -83,7 +84,7 @@ pub(crate) fn offered(port: &mut EndState, frame: &[u8]) -> Status
     Status::Done
 }
 
-/// Opens an offer of the frame offered last again.
+/// Opens another offer of the frame offered last.
 pub(crate) fn offered_again(port: &mut EndState) -> Status
     ensures answer { result ≡ offer_answer (offered port.old.endpoint) port.old }
     ensures step { OffersAnswered (offered port.old.endpoint) port.old port.new }
@@ -98,7 +99,7 @@ pub(crate) fn offered_again(port: &mut EndState) -> Status
     Status::Done
 }
 
-/// Tells the access of the open call.
+/// Writes the next access of the open call into `access`.
 pub(crate) fn next(port: &EndState, access: &mut Access) -> Status
     ensures answer { result ≡ step_answer port.now }
     ensures access { GivesNext port.now access.old access.new }
@@ -116,7 +117,7 @@ pub(crate) fn next(port: &EndState, access: &mut Access) -> Status
     Status::Done
 }
 
-/// Takes the step of that access.
+/// Completes the step of that access.
 pub(crate) fn took(port: &mut EndState, value: u32, notes: &mut Notes) -> Status
     ensures answer { result ≡ step_answer port.old }
     ensures step { TakesAnswered value notes.old notes.new port.old port.new }
@@ -130,7 +131,7 @@ pub(crate) fn took(port: &mut EndState, value: u32, notes: &mut Notes) -> Status
     Status::Done
 }
 
-/// The answer where so many steps are told to come, and so many are to be taken at once.
+/// Returns the answer for `count` steps to be completed, if `ahead` steps are next.
 fn counted(ahead: u32, count: usize) -> Status
     ensures answer { result ≡ count_answer ahead count }
     ensures done { result ≡ Status.Done → (0 < count) × (count ≤ ahead) }
@@ -144,7 +145,7 @@ fn counted(ahead: u32, count: usize) -> Status
     Status::Done
 }
 
-/// The same by the bytes of their words.
+/// Returns the answer for steps whose words have `bytes` bytes, if `ahead` steps are next.
 fn measured(ahead: u32, bytes: usize) -> Status
     ensures answer { result ≡ bytes_answer ahead bytes }
     ensures done { result ≡ Status.Done → (0 < bytes) × (bytes % 4 ≡ 0) × (bytes ≤ 4 * ahead) }
@@ -158,7 +159,7 @@ fn measured(ahead: u32, bytes: usize) -> Status
     counted(ahead, bytes / 4)
 }
 
-/// Takes some of the reads that come, whose words are these.
+/// Completes the next reads, whose values are `words`.
 pub(crate) fn took_reads(port: &mut EndState, words: &[u8], notes: &mut Notes) -> Status
     ensures answer { result ≡ reads_answer (length words.now) port.old }
     ensures step { TakesWords words.now notes.old notes.new port.old port.new }
@@ -175,7 +176,7 @@ pub(crate) fn took_reads(port: &mut EndState, words: &[u8], notes: &mut Notes) -
     status
 }
 
-/// Tells the words of some of the writes that come.
+/// Writes the values of the next writes into `into`.
 pub(crate) fn words(port: &EndState, into: &mut [u8]) -> Status
     ensures answer { result ≡ words_answer (length into.old) port.now }
     ensures words { GivesWords port.now into.old into.new }
@@ -191,7 +192,7 @@ pub(crate) fn words(port: &EndState, into: &mut [u8]) -> Status
     status
 }
 
-/// Takes so many of the writes that come.
+/// Completes the next `count` writes.
 pub(crate) fn took_writes(port: &mut EndState, count: u32) -> Status
     ensures answer { result ≡ writes_answer count port.old }
     ensures step { TakesWrites count port.old port.new }
@@ -206,7 +207,8 @@ pub(crate) fn took_writes(port: &mut EndState, count: u32) -> Status
     status
 }
 
-/// Tells the words that an offer writes before its index, and puts them at the front of the room.
+/// Writes the bursts of an offer before its index into `told`, and their words into the front of
+/// `room`.
 pub(crate) fn bursts(port: &EndState, told: &mut Bursts, room: &mut [u8]) -> Status
     ensures answer { result ≡ bursts_answer (length room.old) port.now }
     ensures words { GivesBursts port.now told.old told.new room.old room.new }
@@ -226,7 +228,7 @@ pub(crate) fn bursts(port: &EndState, told: &mut Bursts, room: &mut [u8]) -> Sta
     Status::Done
 }
 
-/// The bytes of these words.
+/// Returns the number of bytes of the words of these bursts.
 fn bytes_of(bursts: &link_endpoint::Bursts) -> usize
     ensures { result ≡ 4 * words_of (Some bursts.now) }
 {
@@ -234,7 +236,7 @@ fn bytes_of(bursts: &link_endpoint::Bursts) -> usize
     4 * (frame + bursts.descriptor.count as usize + bursts.entry.count as usize)
 }
 
-/// Tells the same words, and puts those behind the frame alone at the front of the room.
+/// Writes the same bursts into `told`, and only the words after the frame into the front of `room`.
 pub(crate) fn tail(port: &EndState, told: &mut Bursts, room: &mut [u8]) -> Status
     ensures answer { result ≡ tail_answer (length room.old) port.now }
     ensures words { GivesTail port.now told.old told.new room.old room.new }
@@ -253,7 +255,7 @@ pub(crate) fn tail(port: &EndState, told: &mut Bursts, room: &mut [u8]) -> Statu
     Status::Done
 }
 
-/// Takes the steps of all these writes.
+/// Completes the steps of all these writes.
 pub(crate) fn took_bursts(port: &mut EndState) -> Status
     ensures answer { result ≡ took_bursts_answer port.old }
     ensures step { TakesBursts port.old port.new }
@@ -268,7 +270,8 @@ pub(crate) fn took_bursts(port: &mut EndState) -> Status
     Status::Done
 }
 
-/// Copies the frame delivered last, where it fits, and tells its length.
+/// Copies the frame delivered last into `room` if it fits, and writes its length in bytes into
+/// `size`.
 pub(crate) fn framed(port: &EndState, room: &mut [u8], size: &mut usize) -> Status
     ensures answer { result ≡ frame_answer (length room.old) port.now }
     ensures length { size.new ≡ length (delivered port.now.endpoint) }

@@ -1,4 +1,4 @@
-//! What crosses to C of an end.
+//! The values of an end that cross to C.
 ghost use Rattle.std.specs.Prelude.{◌≡◌, ◌≤◌, length};
 ghost use Rattle.ivshm_c.specs.Crossing.{call_numbered, state_of, field_number, outcome_number, order_number, access_crossed, burst_crossed, bursts_crossed, refusal_crossed, note_crossed, notes_crossed, field_of, value_of, view_of, CrossingsHaveContracts};
 
@@ -7,9 +7,14 @@ use link_endpoint::{Call, Order, Ordering};
 use link_handshake::Phase;
 use split_ring::{FieldName, Refused, steps};
 
-/// An access. Kind 0 is none, 1 a read of `word`, 2 a write of `value` to `word`, 3 a write of `value` to the own State, and 4 a doorbell,
-/// to the peer `word` by the vector `value`. `count` is how many words may be read or written at once from this one on, or 0. Order 0 is
-/// relaxed, 1 acquires and 2 releases; a full fence stands before the access or after it where that field is 1.
+/// An access.
+///
+/// - `kind` 0 is none, 1 a read of `word`, 2 a write of `value` to `word`. Kind 3 is a write of
+///   `value` to the own State, and 4 a doorbell to the peer `word` by the vector `value`.
+/// - `count` is the number of words of the burst of reads or writes that begins with this access,
+///   or 0.
+/// - `order` 0 is relaxed, 1 acquire and 2 release. A full fence is directly before or after the
+///   access if that field is 1.
 #[repr(C)]
 #[derive(Clone, Copy)]
 pub struct Access {
@@ -22,7 +27,8 @@ pub struct Access {
     pub fence_after: u32,
 }
 
-/// Some words of the region, one after the other: the first, and how many.
+/// A burst of consecutive words of the region: the number of the first word, and the number of
+/// words.
 #[repr(C)]
 #[derive(Clone, Copy)]
 pub struct Burst {
@@ -30,7 +36,8 @@ pub struct Burst {
     pub count: u32,
 }
 
-/// The words that an offer writes before its index: those of its frame, of the descriptor and of the entry.
+/// The bursts that an offer writes before its index: the words of its frame, of the descriptor and
+/// of the available entry.
 #[repr(C)]
 #[derive(Clone, Copy)]
 pub struct Bursts {
@@ -39,8 +46,12 @@ pub struct Bursts {
     pub entry: Burst,
 }
 
-/// A note of a step. Kind 0 is Over, 1 Saw, 2 Reclaim, 3 Full, 4 Accept, 5 Look, 6 Deliver, 7 Return, 8 Done, 9 Down and 10 Refuse; `field`
-/// is that of a refusal, from 1, and `value` its value, the state seen or the count.
+/// A note of a step.
+///
+/// - `kind` 0 is Over, 1 Saw, 2 Reclaim, 3 Full, 4 Accept, 5 Look, 6 Deliver, 7 Return, 8 Done, 9
+///   Down and 10 Refuse.
+/// - `field` is the field of a refusal, from 1, else 0.
+/// - `value` is the value of a refusal, the State read, or the count.
 #[repr(C)]
 #[derive(Clone, Copy)]
 pub struct Note {
@@ -49,7 +60,7 @@ pub struct Note {
     pub value: u64,
 }
 
-/// The notes of a step: how many, and the notes.
+/// The notes of a step: their number, and the notes.
 #[repr(C)]
 #[derive(Clone, Copy)]
 pub struct Notes {
@@ -58,9 +69,10 @@ pub struct Notes {
     pub second: Note,
 }
 
-/// What an end tells of itself: the value and the field of what it refused since its reset, with field 0 for none; the bytes of the frame
-/// delivered last; the state; whether a call is open; the outcome of the last offer; and the bytes of the longest frame that may be
-/// offered.
+/// The state of an end. It has the value and the field that the end refused since its reset, with
+/// field 0 for none. It has the State, whether a call is open, and the outcome of the last offer.
+/// The lengths, in bytes, are those of the frame delivered last and of the longest frame that may
+/// be offered.
 #[repr(C)]
 #[derive(Clone, Copy)]
 pub struct View {
@@ -119,7 +131,7 @@ fn order_number(order: Order) -> u32
     }
 }
 
-/// An access, with so many words ahead to be read or written at once, and its order.
+/// Returns an access with its order and the number of words of the burst that it begins.
 pub(crate) fn access_crossed(
     access: steps::Access,
     reads: u32,
@@ -175,7 +187,7 @@ pub(crate) fn refusal_crossed(refused: Refused) -> Note
     }
 }
 
-/// A note of this kind with this number.
+/// Returns a note of this kind with this number.
 fn plain(kind: u32, value: u32) -> Note
     ensures { result ≡ record { kind = kind; field = 0; value = value } }
 {
@@ -274,7 +286,10 @@ pub(crate) fn view_of(port: &EndState) -> View
     }
 }
 
-/// Law: the numbers of an access, and those of a note, tell it apart from every other; those of an access tell its order too.
+/// Law: the numbers of an access, and those of a note, determine it. The numbers of an access also
+/// determine its order.
+// claim: The numbers of an access, and those of a note, distinguish it from every other; those of
+//    an access include its order.
 #[tactic(auto, using(crate::proofs::Told::crossings_told))]
 pub fn crossings_have_contracts()
     ensures { CrossingsHaveContracts }

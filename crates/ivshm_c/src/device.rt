@@ -1,4 +1,4 @@
-//! What a program in C is told of a device and of its sections.
+//! The description of a device and its sections that the C interface returns.
 ghost use Rattle.std.specs.Prelude.{◌≡◌, ◌+◌, ◌*◌, IfOk, IfErr, unwrap_or};
 ghost use Rattle.section_map.specs.Geometry.{IsShape};
 ghost use Rattle.split_ring.specs.Layout.{IsQueue, IsVersion};
@@ -9,10 +9,10 @@ use pci_space::MsixFound;
 use section_map::Geometry;
 use split_ring::Queue;
 
-/// What a walk over a device's configuration space found. Sizes are in bytes.
+/// The result of a walk over a device's configuration space. Sizes are in bytes.
 ///
-/// A Base Address Register is named by its number, 0 to 7, and what lies behind it by the offset. Without a base the region lies behind
-/// register 2.
+/// A place has the number of its Base Address Register, 0 to 7, and the offset in it. Without a
+/// base the region is in Base Address Register 2.
 #[repr(C)]
 #[derive(Clone, Copy)]
 pub struct Found {
@@ -30,8 +30,9 @@ pub struct Found {
     pub pending_offset: u32,
 }
 
-/// The words of a region by name. `first` is the first word of peer 0's output section, which has `words` words, and those of the others
-/// follow; the words of the rings count from the start of a section. `slot` and `data_area` are bytes, the latter from the start of a
+/// The words of a region by name. `first` is the first word of peer 0's output section, which has
+/// `words` words; the sections of the other peers follow. The words of the rings are numbered from
+/// the start of a section. `slot` and `data_area` are in bytes, the latter from the start of a
 /// section.
 #[repr(C)]
 #[derive(Clone, Copy)]
@@ -52,7 +53,7 @@ pub struct Layout {
     pub longest_delivery: u32,
 }
 
-/// The version of the link, and the bounds of its numbers in bytes.
+/// The highest version of the link, and the bounds of its numbers in bytes.
 #[repr(C)]
 #[derive(Clone, Copy)]
 pub struct Limits {
@@ -64,14 +65,14 @@ pub struct Limits {
     pub largest_region: u32,
 }
 
-/// The number of a flag.
+/// Returns the number of a flag: 1 or 0.
 fn flag(yes: bool) -> u32
     ensures { result ≡ flag yes }
 {
     if yes { 1 } else { 0 }
 }
 
-/// MSI-X as a walk found it, with no vector where it isn't there.
+/// Returns MSI-X as a walk found it, without a vector if there is none.
 fn msix_of(found: Option<MsixFound>) -> MsixFound
     ensures { result ≡ unwrap_or found no_msix }
 {
@@ -85,7 +86,7 @@ fn msix_of(found: Option<MsixFound>) -> MsixFound
     }
 }
 
-/// A base, or 0 where there is none.
+/// Returns a base, or 0 if there is none.
 fn base_of(found: Option<u64>) -> u64
     ensures { result ≡ unwrap_or found 0 }
 {
@@ -115,7 +116,8 @@ pub(crate) fn found_crossed(found: &pci_space::Found) -> Found
     }
 }
 
-/// The geometry of these sizes and the queue of its sections in a link of this version, or the status of the first that is refused.
+/// Returns the geometry of these sizes and the queue of its sections in a link of this version.
+/// Returns the status of the first test that fails.
 pub(crate) fn sized(
     found: &Found,
     version: u32,
@@ -159,7 +161,7 @@ pub(crate) fn layout_of(geometry: &Geometry, queue: &Queue) -> Layout
     }
 }
 
-/// The most bytes that a delivered frame has.
+/// Returns the greatest length in bytes of a delivered frame.
 fn longest_delivery(queue: &Queue) -> u32
     ensures { result ≡ longest_delivery queue.now }
 {

@@ -1,51 +1,57 @@
-//! An end of the link, with the outcome of its last offer.
+//! An end of the link, with the outcome of its last offer and its counts.
 ghost use Rattle.std.specs.Prelude.{◌≡◌, ℕ, ◌+◌, ◌*◌, ◌%◌, ◌<◌, ◌≤◌, [], true, false, length};
 ghost use Rattle.tx_engine.specs.Ahead.{words_of};
 ghost use Rattle.link_endpoint.specs.Engine.{is_busy, reads_ahead, writes_ahead, bursts_of, offered};
 ghost use Rattle.link_endpoint.specs.declared.place.Call.TheVariants.{Stop};
+ghost use Rattle.ivshm_c.specs.Counts.{no_counts, counts_after};
 ghost use Rattle.ivshm_c.specs.EndStates.{Begins, Offers, Steps, ReadsAtOnce, ReadsWhole, WritesAtOnce, Restarts, outcome_after, outcome_cut, outcome_with, outcome_noted, noted_by};
 
+use crate::counts::Counts;
 use link_endpoint::{Call, Endpoint};
+use link_handshake::Phase;
 use split_ring::steps::{Note, Notes};
 
-/// What came of the last offer.
+/// The outcome of the last offer.
 #[derive(Clone, Copy, Debug, PartialEq, Eq)]
 pub(crate) enum Outcome {
-    /// Nothing was offered yet.
+    /// There was no offer.
     Never,
     /// The offer is open.
     Open,
     /// The frame is published.
     Accepted,
-    /// The frame has no room.
+    /// The frame didn't fit.
     Full,
-    /// The other peer's value was refused.
+    /// A value of the other peer was refused.
     Refused,
-    /// The offer came outside RUN.
+    /// The offer was made outside RUN.
     Down,
-    /// The device was reset in the offer.
+    /// A reset of the device cut the offer.
     Cut,
 }
 
-/// An end and the outcome of its last offer.
+/// An end, the outcome of its last offer, and its counts.
 #[derive(Debug, Drop)]
 pub(crate) struct EndState {
     pub(crate) endpoint: Endpoint,
     pub(crate) outcome: Outcome,
+    pub(crate) counts: Counts,
 }
 
 impl EndState {
-    /// A new end, before the State step with which it begins: its Stop is open.
+    /// Returns a new end before its first State step: a Stop is open.
     pub(crate) fn of(endpoint: Endpoint) -> EndState
         requires { is_busy endpoint ≡ false }
         ensures begins { Begins Stop endpoint result.endpoint }
         ensures outcome { result.outcome ≡ Outcome.Never }
+        ensures counts { result.counts ≡ no_counts }
     {
         let mut endpoint = endpoint;
         endpoint.begin(Call::Stop);
         EndState {
             endpoint,
             outcome: Outcome::Never,
+            counts: Counts::new(),
         }
     }
 
@@ -53,6 +59,7 @@ impl EndState {
         requires { is_busy self.old.endpoint ≡ false }
         ensures begins { Begins call self.old.endpoint self.new.endpoint }
         ensures outcome { self.new.outcome ≡ self.old.outcome }
+        ensures counts { self.new.counts ≡ self.old.counts }
     {
         self.endpoint.begin(call);
     }
@@ -62,6 +69,7 @@ impl EndState {
         requires frame { (14 ≤ length frame.now) × (length frame.now ≤ self.old.endpoint.config.sizes.mtu + 18) }
         ensures offers { Offers frame.now self.old.endpoint self.new.endpoint }
         ensures outcome { self.new.outcome ≡ Outcome.Open }
+        ensures counts { self.new.counts ≡ self.old.counts }
     {
         self.endpoint.offer(frame);
         self.outcome = Outcome::Open;
@@ -72,23 +80,26 @@ impl EndState {
         requires some { 14 ≤ length (offered self.old.endpoint) }
         ensures offers { Offers (offered self.old.endpoint) self.old.endpoint self.new.endpoint }
         ensures outcome { self.new.outcome ≡ Outcome.Open }
+        ensures counts { self.new.counts ≡ self.old.counts }
     {
         self.endpoint.offer_again();
         self.outcome = Outcome::Open;
     }
 
-    /// Takes the step of the next access, and puts what it notes into an empty list.
+    /// Completes the step of the next access, and puts its notes into an empty list.
     pub(crate) fn took(&mut self, value: u32, notes: &mut Notes)
         requires open { is_busy self.old.endpoint ≡ true }
         requires empty { notes.old.items ≡ [] }
         ensures steps { Steps self.old.endpoint value notes.new.items self.new.endpoint }
         ensures outcome { self.new.outcome ≡ outcome_after notes.new.items self.old.outcome }
+        ensures counts { self.new.counts ≡ counts_after self.old.endpoint.phase self.new.endpoint.phase notes.new.items self.old.counts }
     {
+        let before = self.endpoint.phase();
         self.endpoint.took_into(value, notes);
-        self.outcome = outcome_after(notes, self.outcome);
+        self.record(before, notes);
     }
 
-    /// Takes the reads that come, whose words are these, and puts what they note into an empty list.
+    /// Completes the next reads, whose values are `words`, and puts their notes into an empty list.
     pub(crate) fn took_reads(&mut self, words: &[u8], notes: &mut Notes)
         requires some { 0 < length words.now }
         requires whole { length words.now % 4 ≡ 0 }
@@ -97,34 +108,50 @@ impl EndState {
         ensures steps { ReadsAtOnce self.old.endpoint words.now notes.new.items self.new.endpoint }
         ensures frame { ReadsWhole self.old.endpoint words.now self.new.endpoint }
         ensures outcome { self.new.outcome ≡ outcome_after notes.new.items self.old.outcome }
+        ensures counts { self.new.counts ≡ counts_after self.old.endpoint.phase self.new.endpoint.phase notes.new.items self.old.counts }
     {
+        let before = self.endpoint.phase();
         self.endpoint.took_reads_into(words, notes);
-        self.outcome = outcome_after(notes, self.outcome);
+        self.record(before, notes);
     }
 
-    /// Takes so many of the writes that come.
+    /// Follows the notes of a step that the endpoint has made from the phase `before`.
+    fn record(&mut self, before: Phase, notes: &Notes)
+        ensures endpoint { self.new.endpoint ≡ self.old.endpoint }
+        ensures outcome { self.new.outcome ≡ outcome_after notes.now.items self.old.outcome }
+        ensures counts { self.new.counts ≡ counts_after before self.old.endpoint.phase notes.now.items self.old.counts }
+    {
+        self.outcome = outcome_after(notes, self.outcome);
+        self.counts.step(before, self.endpoint.phase(), notes);
+    }
+
+    /// Completes the next `count` writes.
     pub(crate) fn took_writes(&mut self, count: u32)
         requires some { 0 < count }
         requires within { count ≤ writes_ahead self.old.endpoint }
         ensures steps { WritesAtOnce self.old.endpoint count self.new.endpoint }
         ensures outcome { self.new.outcome ≡ self.old.outcome }
+        ensures counts { self.new.counts ≡ self.old.counts }
     {
         self.endpoint.took_writes(count);
     }
 
-    /// Takes all the writes that come before the index.
+    /// Completes all writes before the index.
     pub(crate) fn took_bursts(&mut self)
         requires { 0 < words_of (bursts_of self.old.endpoint) }
         ensures steps { WritesAtOnce self.old.endpoint (words_of (bursts_of self.old.endpoint)) self.new.endpoint }
         ensures outcome { self.new.outcome ≡ self.old.outcome }
+        ensures counts { self.new.counts ≡ self.old.counts }
     {
         self.endpoint.took_bursts();
     }
 
-    /// The device was reset: the open call is cut, and the State step comes with which the end begins anew.
+    /// Resets the end after a reset of the device: cuts the open call, and opens a Stop, whose
+    /// State step is next.
     pub(crate) fn reset(&mut self)
         ensures restarts { Restarts self.old.endpoint self.new.endpoint }
         ensures outcome { self.new.outcome ≡ outcome_cut self.old.outcome }
+        ensures counts { self.new.counts ≡ self.old.counts }
     {
         self.endpoint.reset();
         self.endpoint.begin(Call::Stop);
@@ -135,7 +162,7 @@ impl EndState {
     }
 }
 
-/// The outcome after these notes: that of an offer that isn't open stays.
+/// Returns the outcome after these notes. The outcome of an offer that isn't open stays.
 fn outcome_after(notes: &Notes, before: Outcome) -> Outcome
     ensures { result ≡ outcome_after notes.now.items before }
 {
@@ -145,7 +172,8 @@ fn outcome_after(notes: &Notes, before: Outcome) -> Outcome
     }
 }
 
-/// What these notes tell of an open offer. Each is looked at by its own place, so that the compiler need not put them into memory.
+/// Returns the outcome of an open offer after these notes. Each note is read by its own position,
+/// so that the compiler can keep the notes out of memory.
 fn noted_by(notes: &Notes) -> Outcome
     ensures { result ≡ noted_by notes.now.items Outcome.Open }
 {
@@ -156,7 +184,7 @@ fn noted_by(notes: &Notes) -> Outcome
     }
 }
 
-/// The outcome after a note: an open offer's is told once.
+/// Returns the outcome after a note: the first note with an outcome determines it.
 fn outcome_with(note: &Note, before: Outcome) -> Outcome
     ensures { result ≡ outcome_with note.now before }
 {
@@ -166,7 +194,7 @@ fn outcome_with(note: &Note, before: Outcome) -> Outcome
     }
 }
 
-/// The outcome that a note tells of an open offer.
+/// Returns the outcome of an open offer after a note.
 fn outcome_noted(note: &Note) -> Outcome
     ensures { result ≡ outcome_noted note.now }
 {

@@ -13,11 +13,16 @@ use crate::calls::{
 use crate::crossing::view_of;
 use crate::device::Found;
 use crate::status::Status;
-use crate::{Access, Bursts, End, Notes, View};
+use crate::{Access, Bursts, Counts, End, Notes, View};
 use std::alloc::Global;
 
-/// Makes the end of peer `me` of a region of these sizes, with so many peers, for frames of this MTU; its doorbells have the vector
-/// `vector`. The State step is open with which it begins. The link is of version 1.
+/// Makes the end of peer `me` of a region of these sizes with `peers` peers, for frames of this
+/// MTU. Its doorbells have the vector `vector`. The State step with which it begins is open. The
+/// link is of version 1.
+// claim with ivshm_end_new_version: An end is made exactly if the handle is empty, the peer is 0 or
+//    1, the version 1 to 3, the vector of 16 bits, and the sizes are right; or the answer is
+//    NO_MEMORY. The refusals have their causes in this order, so one answer alone is right, except
+//    for want of memory. The end has that version, or version 1.
 #[unsafe(no_mangle)]
 pub extern "C" fn ivshm_end_new(
     alloc: Global,
@@ -33,8 +38,8 @@ pub extern "C" fn ivshm_end_new(
     ivshm_end_new_version(alloc, end, found, peers, me, mtu, vector, 1)
 }
 
-/// The same in a link of this version, 1 to 3. From version 2 on an end rings where the other's event index asks for it; in version 3 the
-/// data area is a ring of bytes.
+/// The same in a link of this version, 1 to 3. From version 2 on an end rings only if the other's
+/// event index wants a doorbell. In version 3 the data area is a byte ring.
 #[unsafe(no_mangle)]
 pub extern "C" fn ivshm_end_new_version(
     alloc: Global,
@@ -62,6 +67,8 @@ pub extern "C" fn ivshm_end_new_version(
 }
 
 /// Frees the end.
+// claim answer, empty: A handle that holds no end is answered so by each call, stays empty, and
+//    nothing is written. A freed handle holds no end.
 #[unsafe(no_mangle)]
 pub extern "C" fn ivshm_end_free(alloc: Global, end: &mut End) -> u32
     ensures answer { result ≡ number_of (answer_at end.old.port done_answer) }
@@ -77,6 +84,8 @@ pub extern "C" fn ivshm_end_free(alloc: Global, end: &mut End) -> u32
 }
 
 /// Opens a call: 0 a Tick, 1 a Poll, 2 a Stop.
+// claim answer, step: A call begins exactly if it has a number and none is open, with the clauses
+//    of an endpoint's call; otherwise nothing changes.
 #[unsafe(no_mangle)]
 pub extern "C" fn ivshm_end_begin(alloc: Global, end: &mut End, call: u32) -> u32
     ensures answer { result ≡ number_of (answer_at end.old.port (begin_answer call)) }
@@ -90,7 +99,9 @@ pub extern "C" fn ivshm_end_begin(alloc: Global, end: &mut End, call: u32) -> u3
     status.number()
 }
 
-/// Opens an offer of this frame, which is copied.
+/// Opens an offer of `frame`, and copies the frame.
+// claim answer, step: An offer begins exactly if its frame has 14 bytes up to the MTU plus 18 and
+//    no call is open; otherwise nothing changes.
 #[unsafe(no_mangle)]
 pub extern "C" fn ivshm_end_offer(alloc: Global, end: &mut End, frame: &[u8]) -> u32
     ensures answer { result ≡ number_of (answer_at end.old.port (offer_answer frame.now)) }
@@ -104,7 +115,11 @@ pub extern "C" fn ivshm_end_offer(alloc: Global, end: &mut End, frame: &[u8]) ->
     status.number()
 }
 
-/// Opens an offer of the frame offered last again, which isn't copied: of none, where no frame was offered yet.
+/// Opens another offer of the frame offered last, without a copy. If no frame was offered, the
+/// frame is empty, and so too short.
+// claim answer, step: The frame offered last is offered again without a copy, exactly if one was
+//    offered and no call is open. That frame is the one that `ivshm_end_offer` was given last, in
+//    whatever State, through all calls since.
 #[unsafe(no_mangle)]
 pub extern "C" fn ivshm_end_offer_again(alloc: Global, end: &mut End) -> u32
     ensures answer { result ≡ number_of (answer_at end.old.port again_answer) }
@@ -118,7 +133,11 @@ pub extern "C" fn ivshm_end_offer_again(alloc: Global, end: &mut End) -> u32
     status.number()
 }
 
-/// Tells the next access of the open call.
+/// Writes the next access of the open call into `access`.
+// claim each untouched, kept: A call on a handle without an end leaves its outputs unchanged, and a
+//    call that only reports leaves the end unchanged.
+// claim answer, access: The next access is the open call's, by its numbers, with the length of the
+//    burst that it begins and the memory order of its place. Without an open call there is none.
 #[unsafe(no_mangle)]
 pub extern "C" fn ivshm_end_next(alloc: Global, end: &mut End, access: &mut Access) -> u32
     ensures answer { result ≡ number_of (answer_at end.old.port step_answer) }
@@ -134,7 +153,10 @@ pub extern "C" fn ivshm_end_next(alloc: Global, end: &mut End, access: &mut Acce
     status.number()
 }
 
-/// Takes the step of the access that `ivshm_end_next` told; `value` is what a read gave.
+/// Completes the step of the access that `ivshm_end_next` returned. `value` is the value that a
+/// read met.
+// claim answer, step: A step is completed with its notes by their numbers, and with all clauses of
+//    an endpoint's step.
 #[unsafe(no_mangle)]
 pub extern "C" fn ivshm_end_took(alloc: Global, end: &mut End, value: u32, notes: &mut Notes) -> u32
     ensures answer { result ≡ number_of (answer_at end.old.port step_answer) }
@@ -149,8 +171,14 @@ pub extern "C" fn ivshm_end_took(alloc: Global, end: &mut End, value: u32, notes
     status.number()
 }
 
-/// Takes some of the steps of the reads that `ivshm_end_next` told, 1 up to its `count`, at once: `words` has what each read gave as four
-/// bytes, the lowest first. Where these are all the words of a frame, the frame delivered is their first bytes.
+/// Completes the next reads, 1 up to the `count` that `ivshm_end_next` returned. `words` holds the
+/// values read, four bytes each, the lowest byte first. If these are all words of a frame, the
+/// frame delivered is their first bytes.
+// claim answer, step with ivshm_end_words.answer, ivshm_end_words.words,
+//    ivshm_end_took_writes.answer, ivshm_end_took_writes.step: Completing a burst equals as many
+//    single steps of the endpoint. If there is no end, no call, another access, no word, not whole
+//    words or more than the count, the answer says so and the end is unchanged. A whole frame read
+//    at once is delivered as its first bytes, as many as the view says.
 #[unsafe(no_mangle)]
 pub extern "C" fn ivshm_end_took_reads(
     alloc: Global,
@@ -170,7 +198,8 @@ pub extern "C" fn ivshm_end_took_reads(
     status.number()
 }
 
-/// Tells the words of some of the writes that `ivshm_end_next` told, 1 up to its `count`: each as four bytes, the lowest first.
+/// Writes the values of the next writes, 1 up to the `count` that `ivshm_end_next` returned, into
+/// `into`: four bytes each, the lowest byte first.
 #[unsafe(no_mangle)]
 pub extern "C" fn ivshm_end_words(alloc: Global, end: &mut End, into: &mut [u8]) -> u32
     ensures answer { result ≡ number_of (answer_at end.old.port (words_answer (length into.old))) }
@@ -186,7 +215,8 @@ pub extern "C" fn ivshm_end_words(alloc: Global, end: &mut End, into: &mut [u8])
     status.number()
 }
 
-/// Takes the steps of so many of the writes that `ivshm_end_next` told, 1 up to its `count`, at once. None of them has a note.
+/// Completes the next `count` writes, 1 up to the `count` that `ivshm_end_next` returned. None of
+/// them has a note.
 #[unsafe(no_mangle)]
 pub extern "C" fn ivshm_end_took_writes(alloc: Global, end: &mut End, count: u32) -> u32
     ensures answer { result ≡ number_of (answer_at end.old.port (writes_answer count)) }
@@ -200,8 +230,13 @@ pub extern "C" fn ivshm_end_took_writes(alloc: Global, end: &mut End, count: u32
     status.number()
 }
 
-/// Tells the words that an offer writes before its index, from the next one on: three bursts, those of the frame, of the descriptor and of the
-/// entry. The words stand at the front of `room` then, one burst behind the other, each as four bytes, the lowest first.
+/// Writes the three bursts of an offer before its index, from the next word on, into `told`: the
+/// words of the frame, of the descriptor and of the available entry. Writes their words into the
+/// front of `room`, in this order, four bytes each, the lowest byte first.
+// claim answer, words with ivshm_end_took_bursts.answer, ivshm_end_took_bursts.step: The bursts are
+//    all that an offer writes before its index, exactly if a word of its frame is next and the room
+//    has enough bytes; the rest of the room stays. Completing them equals as many single steps.
+//    Otherwise the answer says why, and nothing changes.
 #[unsafe(no_mangle)]
 pub extern "C" fn ivshm_end_bursts(
     alloc: Global,
@@ -222,8 +257,12 @@ pub extern "C" fn ivshm_end_bursts(
     status.number()
 }
 
-/// Tells the same three bursts. The words of the descriptor and of the entry alone stand at the front of `room` then, in 20 bytes: those of the
-/// frame are the last words of the frame that was offered, with 0 after its last byte.
+/// Writes the same three bursts into `told`. Writes only the words of the descriptor and of the
+/// available entry into the front of `room`, in 20 bytes. The words of the frame are the last words
+/// of the offered frame, with 0 after its last byte.
+// claim answer, words: The tail is the five words after the frame, exactly if a word of the frame
+//    is next and the room has 20 bytes; the rest of the room stays. The words left of the frame are
+//    the last ones of the frame offered. Otherwise the answer says why, and nothing changes.
 #[unsafe(no_mangle)]
 pub extern "C" fn ivshm_end_tail(
     alloc: Global,
@@ -244,7 +283,7 @@ pub extern "C" fn ivshm_end_tail(
     status.number()
 }
 
-/// Takes the steps of all these writes at once. None of them has a note.
+/// Completes all these writes. None of them has a note.
 #[unsafe(no_mangle)]
 pub extern "C" fn ivshm_end_took_bursts(alloc: Global, end: &mut End) -> u32
     ensures answer { result ≡ number_of (answer_at end.old.port took_bursts_answer) }
@@ -258,7 +297,11 @@ pub extern "C" fn ivshm_end_took_bursts(alloc: Global, end: &mut End) -> u32
     status.number()
 }
 
-/// Tells how the end stands.
+/// Writes the state of the end into `view`.
+// claim answer, view with ivshm_end_frame.answer, ivshm_end_frame.length, ivshm_end_frame.bytes:
+//    State, refusal, outcome and the longest offer are reported as they are. The outcome of an
+//    offer is what its notes say first, or that a reset cut it, and stays until the next offer. The
+//    frame delivered last is copied if it fits.
 #[unsafe(no_mangle)]
 pub extern "C" fn ivshm_end_view(alloc: Global, end: &mut End, view: &mut View) -> u32
     ensures answer { result ≡ number_of (answer_at end.old.port done_answer) }
@@ -274,7 +317,28 @@ pub extern "C" fn ivshm_end_view(alloc: Global, end: &mut End, view: &mut View) 
     Status::Done.number()
 }
 
-/// Copies the frame delivered last to the front of `room`, where it fits, and tells its length.
+/// Writes the counts of the end since it was made into `counts`.
+// claim answer, counts with sessions_follow_state: The counts of an end are the numbers of notes of
+//    its steps since it was made, modulo 2^64: frames accepted and delivered, refusals, offers that
+//    found the link full or were down, and sessions opened. A session is opened by a write of State
+//    2.
+#[unsafe(no_mangle)]
+pub extern "C" fn ivshm_end_counts(alloc: Global, end: &mut End, counts: &mut Counts) -> u32
+    ensures answer { result ≡ number_of (answer_at end.old.port done_answer) }
+    ensures counts { IfSome end.old.port (λ port. counts.new ≡ port.counts) }
+    ensures untouched { end.old.port ≡ None → counts.new ≡ counts.old }
+    ensures kept { end.new.port ≡ end.old.port }
+{
+    let Some(port) = end.take(alloc) else {
+        return Status::NoEnd.number();
+    };
+    *counts = port.counts;
+    end.put(port);
+    Status::Done.number()
+}
+
+/// Copies the frame delivered last to the front of `room` if it fits, and writes its length in
+/// bytes into `size`.
 #[unsafe(no_mangle)]
 pub extern "C" fn ivshm_end_frame(
     alloc: Global,
@@ -296,7 +360,9 @@ pub extern "C" fn ivshm_end_frame(
     status.number()
 }
 
-/// The end's own device was reset: the open call is cut, and the State step is open with which the end begins anew.
+/// Resets the end after a reset of its own device: cuts the open call, and opens the State step
+/// with which the end begins again.
+// claim answer, step: A reset cuts the open call, forgets the refusal, and begins with State 0.
 #[unsafe(no_mangle)]
 pub extern "C" fn ivshm_end_reset(alloc: Global, end: &mut End) -> u32
     ensures answer { result ≡ number_of (answer_at end.old.port done_answer) }

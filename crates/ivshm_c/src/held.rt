@@ -1,4 +1,4 @@
-//! The handle by which a program in C holds an end.
+//! The handle by which a program in C owns an end.
 ghost use Rattle.std.specs.Prelude.{◌≡◌, Option, Some, None, MatchOption};
 ghost use Rattle.ivshm_c.specs.declared.end_state.EndState.{EndState as Held};
 
@@ -7,8 +7,8 @@ use raw_box::Loose;
 use std::alloc::Global;
 use std::marker::Model;
 
-/// A handle: a pointer, which is null where the handle holds no end. The program in C keeps it, and never reads or writes it but to
-/// make it null at first.
+/// A handle: a pointer, which is null if the handle has no end. The program in C stores it, and
+/// never reads or writes it, except to make it null at first.
 #[repr(C)]
 #[derive(Drop)]
 pub struct End {
@@ -23,11 +23,11 @@ impl Model for End {
     ghost also_owns = { λ h. held h.at h.alloc h.port };
 }
 
-// It may go to another thread, since the port and the allocator may.
+// The handle may be sent to another thread, because the end and the allocator may.
 unsafe impl Send for End {}
 
 impl End {
-    /// The handle of no end.
+    /// Returns the handle of no end.
     pub(crate) fn empty(alloc: Global) -> End
         ensures { result.port ≡ None }
     {
@@ -61,7 +61,7 @@ impl End {
         }
     }
 
-    /// Takes the end out, where there is one.
+    /// Removes the end from the handle and returns it, or `None` if there is none.
     pub(crate) fn take(&mut self, alloc: Global) -> Option<Box<EndState>>
         ensures port { MatchOption result (self.old.port ≡ None) (λ b. self.old.port ≡ Some b.value) }
         ensures empty { self.new.port ≡ None }
@@ -72,7 +72,7 @@ impl End {
         }
     }
 
-    /// Puts an end in, where there is none.
+    /// Puts an end into a handle that has none.
     pub(crate) fn put(&mut self, port: Box<EndState>)
         requires { self.old.port ≡ None }
         ensures { self.new.port ≡ Some port.value }

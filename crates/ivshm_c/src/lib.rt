@@ -1,21 +1,32 @@
-//! An end of the link for programs in C. It stands on `link_endpoint` for the end, on `pci_space` for the walk over a device's configuration
-//! space, and on `raw_box` for the pointer that a program in C holds. Each export makes one call of an endpoint, and its contract states
-//! the endpoint's clauses again: the exact answer for each argument, and what the call does. What a program in C might break is tested,
-//! but for the pointers themselves.
+//! An end of the link for programs in C. The crate uses `link_endpoint` for the end, `pci_space`
+//! for the walk over a device's configuration space, and `raw_box` for the pointer that a program
+//! in C holds. Each export makes one call of an endpoint. Its contract restates the endpoint's
+//! clauses: the exact answer for each argument, and the effect of the call. Arguments of a program
+//! in C are tested, except the pointers themselves.
+// tested: The header's match with the library, over each call and each answer but NO_MEMORY; two
+//    processes; an end next to a hostile peer; a record of both ends that `ivshm replay` calls
+//    `same`, also with bursts (`checks/c_library`). Kernel archives: no red zone, no vector
+//    register, no more stack than the header says (`checks/c_kernel`). The ARM64 archive, under an
+//    emulator (`checks/c_arm64`). The interface and the C sources (`checks/c_style`). The program
+//    above the library is in C, and no proof covers it: `c/ivshm_c.h` says what it owes.
 #![tactic(auto)]
 
 mod calls;
+mod counts;
 mod crossing;
 mod device;
 mod end_state;
 mod exports;
 mod held;
+mod laws;
 mod status;
 mod tables;
 
+pub use counts::Counts;
 pub use crossing::{Access, Burst, Bursts, Note, Notes, View, crossings_have_contracts};
 pub use device::{Found, Layout, Limits};
 pub use held::End;
+pub use laws::sessions_follow_state;
 
 #[cfg(test)]
 mod tests;

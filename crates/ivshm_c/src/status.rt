@@ -6,7 +6,7 @@ use pci_space::CapabilityFault;
 use section_map::{GeometryFault, Part};
 use split_ring::QueueFault;
 
-/// An answer. `c/ivshm_c.h` says when each of them comes.
+/// An answer. `c/ivshm_c.h` gives the condition of each.
 #[derive(Clone, Copy, Debug, PartialEq, Eq)]
 pub(crate) enum Status {
     Done,
@@ -42,7 +42,7 @@ pub(crate) enum Status {
 }
 
 impl Status {
-    /// The number by which a program in C knows the answer.
+    /// Returns the number of the answer in C.
     pub(crate) fn number(self) -> u32
         ensures { result ≡ number_of self }
     {

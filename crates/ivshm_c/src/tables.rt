@@ -1,4 +1,5 @@
-//! The exports that need no end: the walk over a configuration space, the words of a region, and the bounds of the link's numbers.
+//! The exports that need no end: the walk over a configuration space, the words of a region, the
+//! bounds of the link's numbers, and the versions of the library.
 ghost use Rattle.std.specs.Prelude.{◌≡◌, Result, Ok, Err};
 ghost use Rattle.pci_space.specs.Walk.{IsWalk};
 ghost use Rattle.pci_space.specs.declared.found.Found.{Found as Walked};
@@ -6,12 +7,21 @@ ghost use Rattle.pci_space.specs.declared.found.CapabilityFault.{CapabilityFault
 ghost use Rattle.ivshm_c.specs.declared.status.Status.{Status as Answer};
 ghost use Rattle.ivshm_c.specs.Statuses.{number_of};
 ghost use Rattle.ivshm_c.specs.Sizes.{walk_status, found_after, LaysOut, limits};
+ghost use Rattle.ivshm_c.specs.Versions.{abi_version, library_version};
 
 use crate::device::{Found, Layout, Limits, found_crossed, layout_of, sized};
 use crate::status::{Status, capability_status};
 use pci_space::walk;
 
-/// Finds the device in the 256 bytes of a configuration space, which can't be trusted.
+/// The version of the binary interface.
+const INTERFACE: u32 = 1;
+
+/// The version of the library, 1.0: 1,000 times its first number, plus its second.
+const LIBRARY: u32 = 1_000;
+
+/// Finds the device in the 256 bytes of a configuration space, which isn't trusted.
+// claim with ivshm_layout, ivshm_limits: A walk is answered as `pci_space` walks, or by its fault.
+//    The words of a region are the layout's, and the limits are the link's.
 #[unsafe(no_mangle)]
 pub extern "C" fn ivshm_walk(space: &[u8; 256], found: &mut Found) -> u32
     ensures { (answer : Result Walked WalkFault) × IsWalk space.now answer × (result ≡ number_of (walk_status answer)) ×
@@ -26,7 +36,8 @@ pub extern "C" fn ivshm_walk(space: &[u8; 256], found: &mut Found) -> u32
     }
 }
 
-/// Tells the words of a region of these sizes by name. They are the same in each version of the link.
+/// Writes the words of a region of these sizes by name into `layout`. They are the same in each
+/// version of the link.
 #[unsafe(no_mangle)]
 pub extern "C" fn ivshm_layout(found: &Found, peers: u32, mtu: u32, layout: &mut Layout) -> u32
     ensures { (answer : Answer) × (result ≡ number_of answer) × LaysOut found.now peers mtu layout.old answer layout.new }
@@ -40,7 +51,7 @@ pub extern "C" fn ivshm_layout(found: &Found, peers: u32, mtu: u32, layout: &mut
     }
 }
 
-/// Tells the highest version of the link and the bounds of its numbers.
+/// Writes the highest version of the link and the bounds of its numbers.
 #[unsafe(no_mangle)]
 pub extern "C" fn ivshm_limits(told: &mut Limits)
     ensures { told.new ≡ limits }
@@ -53,4 +64,22 @@ pub extern "C" fn ivshm_limits(told: &mut Limits)
         longest_frame: 65_553,
         largest_region: 16_777_216,
     };
+}
+
+/// Returns the version of the binary interface.
+// claim with ivshm_library_version: The library reports the version of its interface and its own,
+//    as the header has them.
+#[unsafe(no_mangle)]
+pub extern "C" fn ivshm_abi_version() -> u32
+    ensures { result ≡ abi_version }
+{
+    INTERFACE
+}
+
+/// Returns the version of the library: 1,000 times its first number, plus its second.
+#[unsafe(no_mangle)]
+pub extern "C" fn ivshm_library_version() -> u32
+    ensures { result ≡ library_version }
+{
+    LIBRARY
 }

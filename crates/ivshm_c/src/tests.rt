@@ -1,14 +1,16 @@
-//! Each export once, on numbers that the layout of a section and the device's specification give.
+//! Each export once, with numbers from the layout of a section and from the device's specification.
 ghost use Rattle.std.specs.Prelude.{◌≡◌};
 
 use crate::exports::{
-    ivshm_end_begin, ivshm_end_bursts, ivshm_end_frame, ivshm_end_free, ivshm_end_new,
-    ivshm_end_new_version, ivshm_end_next, ivshm_end_offer, ivshm_end_offer_again, ivshm_end_reset,
-    ivshm_end_tail, ivshm_end_took, ivshm_end_took_bursts, ivshm_end_took_reads,
+    ivshm_end_begin, ivshm_end_bursts, ivshm_end_counts, ivshm_end_frame, ivshm_end_free,
+    ivshm_end_new, ivshm_end_new_version, ivshm_end_next, ivshm_end_offer, ivshm_end_offer_again,
+    ivshm_end_reset, ivshm_end_tail, ivshm_end_took, ivshm_end_took_bursts, ivshm_end_took_reads,
     ivshm_end_took_writes, ivshm_end_view, ivshm_end_words,
 };
-use crate::tables::{ivshm_layout, ivshm_limits, ivshm_walk};
-use crate::{Access, Burst, Bursts, End, Found, Layout, Limits, Note, Notes, View};
+use crate::tables::{
+    ivshm_abi_version, ivshm_layout, ivshm_library_version, ivshm_limits, ivshm_walk,
+};
+use crate::{Access, Burst, Bursts, Counts, End, Found, Layout, Limits, Note, Notes, View};
 use std::alloc::Global;
 use std::test::Fail;
 
@@ -59,7 +61,23 @@ const NO_VIEW: View = View {
     longest: 0,
 };
 
+const NO_COUNTS: Counts = Counts {
+    sessions: 0,
+    accepted: 0,
+    full: 0,
+    down: 0,
+    delivered: 0,
+    refused: 0,
+};
+
 /// A new end writes State 0, ticks, and is reset: State 0 again.
+// claim raw_box.Loose.of
+// claim ivshm_c.ivshm_end_free.answer
+// claim ivshm_c.ivshm_end_new
+// claim ivshm_c.ivshm_end_begin.answer
+// claim ivshm_c.ivshm_end_next.answer
+// claim ivshm_c.ivshm_end_took.answer
+// claim ivshm_c.ivshm_end_reset.answer
 #[test]
 fn first_steps(rt: HostRuntime) -> Result<(), Fail> {
     let alloc = rt.alloc();
@@ -89,7 +107,10 @@ fn first_steps(rt: HostRuntime) -> Result<(), Fail> {
     Ok(())
 }
 
-/// There are three versions of the link: 0 and 4 are none, and a peer that there isn't is told first.
+/// There are three versions of the link: 0 and 4 are refused. A peer that doesn't exist is refused
+/// first.
+// claim split_ring.Queue.of.queue
+// claim ivshm_c.ivshm_end_new
 #[test]
 fn versions(rt: HostRuntime) -> Result<(), Fail> {
     let alloc = rt.alloc();
@@ -104,7 +125,10 @@ fn versions(rt: HostRuntime) -> Result<(), Fail> {
     Ok(())
 }
 
-/// A section of 4,096 words is cleared in three pieces; a read, a count of 0, half a word and a count beyond the section are answered so.
+/// A section of 4,096 words is cleared in three bursts. A read, a count of 0, half a word and a
+/// count beyond the section have their answers.
+// claim ivshm_c.ivshm_end_next.answer
+// claim ivshm_c.ivshm_end_took_reads.answer
 #[test]
 fn a_section_cleared_at_once(rt: HostRuntime) -> Result<(), Fail> {
     let alloc = rt.alloc();
@@ -148,7 +172,7 @@ fn a_section_cleared_at_once(rt: HostRuntime) -> Result<(), Fail> {
     Ok(())
 }
 
-/// Leads a new end into RUN, by the States that its ticks read.
+/// Brings a new end into RUN, by the States that its ticks read.
 fn lead_to_run(alloc: Global, end: &mut End) {
     let mut notes = NO_NOTES;
     for state in [1, 1, 2] {
@@ -162,8 +186,10 @@ fn lead_to_run(alloc: Global, end: &mut End) {
 
 const NO_STRETCH: Burst = Burst { word: 0, count: 0 };
 
-/// Of an offer of 14 bytes the four words of the frame, the four of its descriptor and the one of its entry are told and taken at once, and the
-/// index comes after them. No end, no call, another access and a room that is too short are answered so.
+/// An offer of 14 bytes has three bursts: four words of the frame, four of its descriptor and one
+/// of its entry. They are completed together, and the index is next. No end, no call, another
+/// access and a room that is too short have their answers.
+// claim ivshm_c.ivshm_end_bursts.answer
 #[test]
 fn an_offer_at_once(rt: HostRuntime) -> Result<(), Fail> {
     let alloc = rt.alloc();
@@ -213,8 +239,11 @@ fn an_offer_at_once(rt: HostRuntime) -> Result<(), Fail> {
     Ok(())
 }
 
-/// Of the same offer the words behind the frame are told alone, in 20 bytes, before and after the first word of the frame went by itself. No end,
-/// no call, another access and a room that is too short are answered so.
+/// The tail of the same offer is 20 bytes, before and after the first word of the frame is written
+/// alone. No end, no call, another access and a room that is too short have their answers.
+// claim tx_engine.Tx.tail_words.writes
+// claim link_endpoint.Endpoint.tail_words.writes
+// claim ivshm_c.ivshm_end_offer.answer
 #[test]
 fn an_offer_by_its_tail(rt: HostRuntime) -> Result<(), Fail> {
     let alloc = rt.alloc();
@@ -258,7 +287,13 @@ fn an_offer_by_its_tail(rt: HostRuntime) -> Result<(), Fail> {
     Ok(())
 }
 
-/// Outside RUN an offer is down, and nothing was delivered; its frame may be offered again, also after a reset.
+/// Outside RUN an offer is down, and no frame was delivered. Its frame may be offered again, also
+/// after a reset.
+// claim link_endpoint.Endpoint.offer.frame
+// claim ivshm_c.ivshm_end_new
+// claim ivshm_c.ivshm_end_offer.answer
+// claim ivshm_c.ivshm_end_begin.answer
+// claim ivshm_c.ivshm_end_view.answer
 #[test]
 fn an_offer_outside_run(rt: HostRuntime) -> Result<(), Fail> {
     let alloc = rt.alloc();
@@ -290,7 +325,49 @@ fn an_offer_outside_run(rt: HostRuntime) -> Result<(), Fail> {
     Ok(())
 }
 
-/// The words of a section of 16,384 bytes, whose queue has 64 descriptors; a configuration space of nobody; the bounds.
+/// An end that came to RUN publishes a frame, refuses an index of its next poll, and is down then.
+/// A reset keeps the counts, and the end after it has counted nothing.
+#[test]
+fn counts_of_a_session(rt: HostRuntime) -> Result<(), Fail> {
+    let alloc = rt.alloc();
+    let mut end = End::empty(alloc);
+    let mut notes = NO_NOTES;
+    let mut counts = NO_COUNTS;
+    assert_eq!(rt; ivshm_end_counts(alloc, &mut end, &mut counts), 1);
+    for _ in 0..2 {
+        assert_eq!(rt; ivshm_end_new(alloc, &mut end, &FOUND, 2, 0, 256, 1), 0);
+        assert_eq!(rt; ivshm_end_counts(alloc, &mut end, &mut counts), 0);
+        assert_eq!(rt; counts.sessions, 0);
+        assert_eq!(rt; counts.down, 0);
+        lead_to_run(alloc, &mut end);
+        assert_eq!(rt; ivshm_end_offer(alloc, &mut end, &[7; 14]), 0);
+        for _ in 0..12 {
+            assert_eq!(rt; ivshm_end_took(alloc, &mut end, 0, &mut notes), 0);
+        }
+        assert_eq!(rt; ivshm_end_begin(alloc, &mut end, 1), 0);
+        assert_eq!(rt;
+            ivshm_end_took(alloc, &mut end, 65_536 * 200, &mut notes),
+            0
+        );
+        assert_eq!(rt; ivshm_end_took(alloc, &mut end, 0, &mut notes), 0);
+        assert_eq!(rt; ivshm_end_offer_again(alloc, &mut end), 0);
+        assert_eq!(rt; ivshm_end_took(alloc, &mut end, 0, &mut notes), 0);
+        assert_eq!(rt; ivshm_end_reset(alloc, &mut end), 0);
+        assert_eq!(rt; ivshm_end_counts(alloc, &mut end, &mut counts), 0);
+        assert_eq!(rt; counts.sessions, 1);
+        assert_eq!(rt; counts.accepted, 1);
+        assert_eq!(rt; counts.full, 0);
+        assert_eq!(rt; counts.down, 1);
+        assert_eq!(rt; counts.delivered, 0);
+        assert_eq!(rt; counts.refused, 1);
+        assert_eq!(rt; ivshm_end_free(alloc, &mut end), 0);
+    }
+    Ok(())
+}
+
+/// The words of a section of 16,384 bytes, whose queue has 64 descriptors; a configuration space
+/// without a device; the bounds; the versions.
+// claim ivshm_c.ivshm_walk
 #[test]
 fn numbers_without_an_end(rt: HostRuntime) -> Result<(), Fail> {
     let mut layout = Layout {
@@ -332,5 +409,7 @@ fn numbers_without_an_end(rt: HostRuntime) -> Result<(), Fail> {
     ivshm_limits(&mut limits);
     assert_eq!(rt; limits.version, 3);
     assert_eq!(rt; limits.longest_frame, 65_553);
+    assert_eq!(rt; ivshm_abi_version(), 1);
+    assert_eq!(rt; ivshm_library_version(), 1_000);
     Ok(())
 }

@@ -14,7 +14,7 @@ use Rattle.record_text.specs.Judge.{answer}
 use Rattle.record_text.specs.Answers.{Refuses}
 use Rattle.record_text.specs.Readers.{IsReading}
 
--- the lines kept and the others were read; there are none of these while more are kept
+-- The lines kept and the others were read; there are no others until `most` lines are kept.
 pub record Keeps (bytes : List ℕ) (version : ℕ) (world : World) (most : ℕ) (lines : List Line) (reader : Reader) : Type 0 where
   pub others : List Line
   pub reads : IsReading bytes version world (lines ++ others) reader
@@ -27,7 +27,7 @@ both a b one two = rw (one, two) refl
 one_frame : (line : Line) → has_frame line ≡ true → HaveFrames (line ∷ [])
 one_frame line framed = both (has_frame line) true framed refl
 
--- a line more
+-- One more line.
 pub keeps_on : (bytes : List ℕ) (version : ℕ) (world : World) (most : ℕ) (lines lines' : List Line) (line : Line) (reader reader' : Reader) → (so_far : Keeps bytes version world most lines reader)
     → IsReading bytes version world ((lines ++ so_far.others) ++ line ∷ []) reader' × (has_frame line ≡ true) → (length lines < most → lines' ≡ lines ++ line ∷ []) → (most ≤ length lines → lines' ≡ lines)
     → Keeps bytes version world most lines' reader'
@@ -53,7 +53,7 @@ keeps_on bytes version world most lines lines' line reader reader' so_far next k
           }
     ]
 
--- a fault that is passed on is the text's
+-- A fault that is passed on is the text's.
 pub passed_on : {T : Type 0} (bytes : List ℕ) (fault : RecordFault) (result : Result T RecordFault) → IsErrAnd result (λ e. e ≡ fault) → Refuses fault (answer bytes) → IfErr result (λ f. Refuses f (answer bytes))
 passed_on bytes fault (Ok value) gives refuses = tt
 passed_on bytes fault (Err e) gives refuses = subst (λ (f : RecordFault). Refuses f (answer bytes)) (sym gives) refuses

@@ -1,4 +1,4 @@
--- What the top call owes: the cause of each status, and what was written.
+-- What the top call owes: the cause of each status, and the text written.
 use Rattle.std.specs.Prelude.{ℕ, ◌≡◌, ◌+◌, ◌⊎◌, List, codes, Option, Some, None, Err}
 use Rattle.ivs_base.specs.SourceAndSink.{Input, Output, Gave, GaveMany, HasEnded, Took, SourceFailed, SinkFailed}
 use Rattle.record_text.specs.declared.faults.RecordFault.{RecordFault}
@@ -14,26 +14,27 @@ use Rattle.ivshm_chart.specs.Refusals.{line_of}
 abbrev pub usage_line : List ℕ
 usage_line = codes "usage: ivshm_chart | ivshm_chart FROM TO\n"
 
--- the most bytes that are read, as `ivshm replay` reads them
+-- The most bytes that are read, as for `ivshm replay`.
 abbrev pub limit : ℕ
 limit = 1073741824
 
--- the bytes spell a record, and the picture is one of the lines asked for
+-- The bytes spell a record, and the picture is one of the lines asked for.
 abbrev pub Draws : Span → List ℕ → Option Picture → Type 0
 Draws span bytes None = ⊥
 Draws span bytes (Some picture) = (r : Record) × IsSpelling r bytes × IsPicture r.world r.lines span.first span.last picture
 
--- the bytes spell no record, and this is the line that says so
+-- The bytes spell no record, and the text is the line that says why.
 abbrev pub IsRefusal : List ℕ → (text : List ℕ) → Type 0
 IsRefusal bytes text = (fault : RecordFault) × (answer bytes ≡ Err fault) × (text ≡ line_of fault)
 
--- the reply to bytes that were read: its status, its text and the picture that is left behind
+-- The reply to the input: its status, its text and its picture.
 abbrev pub IsReply : Span → List ℕ → Status → (text : List ℕ) → Option Picture → Type 0
 IsReply span bytes Done text drawn = Draws span bytes drawn
 IsReply span bytes Refused text drawn = IsRefusal bytes text × (drawn ≡ None)
 IsReply span bytes _ text drawn = ⊥
 
--- a record was read to its end, and a whole text was written; `drawn` is the picture that it shows
+-- A record was read to its end, and a whole text was written. `drawn` is the picture that the text
+-- shows.
 pub record Charts (span : Span) (before now : Input) (before' now' : Output) (drawn : Option Picture) : Type 0 where
   pub bytes : List ℕ
   pub text : List ℕ
@@ -42,18 +43,18 @@ pub record Charts (span : Span) (before now : Input) (before' now' : Output) (dr
   pub draws : Draws span bytes drawn
   pub wrote : Took before' text now'
 
--- more bytes were read than the limit, or a text that spells no record
+-- The text is the line for an input that is longer than the limit, or spells no record.
 abbrev pub IsWhy : (before now : Input) → (text : List ℕ) → Type 0
 IsWhy before now text = ((text ≡ codes "refused 0 TooLong\n") × GaveMany before (limit + 1) now) ⊎
     ((bytes : List ℕ) × Gave before bytes now × HasEnded now × IsRefusal bytes text)
 
--- and the line that says so was written
+-- The line of `IsWhy` was written.
 pub record Refuses (before now : Input) (before' now' : Output) : Type 0 where
   pub text : List ℕ
   pub why : IsWhy before now text
   pub wrote : Took before' text now'
 
--- each status has its cause
+-- Each status has its cause.
 abbrev pub HasCause : Status → Option Span → (before now : Input) → (before' now' : Output) → Option Picture → Type 0
 HasCause Done (Some span) before now before' now' drawn = Charts span before now before' now' drawn
 HasCause Done None before now before' now' drawn = ⊥

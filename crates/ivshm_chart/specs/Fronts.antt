@@ -7,7 +7,7 @@ use Rattle.lawful_history.specs.Frames.{HaveFrames}
 use Rattle.record_text.specs.Spelling.{IsSpelling}
 use Rattle.ivshm_chart.specs.declared.fronts.Front.{Front}
 
--- the text spells the record of these lines and of so many others after them
+-- The text spells the record of these lines and of `count` lines after them.
 pub record IsFront (bytes : List ℕ) (version : ℕ) (world : World) (lines : List Line) (count : ℕ) : Type 0 where
   pub others : List Line
   pub counted : length others ≡ count

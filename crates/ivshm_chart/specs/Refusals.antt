@@ -1,19 +1,20 @@
--- The line that says where and why a text spells no record, as `ivshm replay` writes it (profile).
+-- The line for a text that is no record, as `ivshm replay` writes it (profile): the place and the
+-- fault.
 use Rattle.std.specs.Prelude.{ℕ, List, ◌++◌, codes, decimal}
 use Rattle.scenario_text.specs.declared.faults.ScenarioFault.{ScenarioFault}
 use Rattle.scenario_text.specs.declared.faults.ScenarioFault.TheVariants as faults
 use Rattle.record_text.specs.declared.faults.RecordFault.{RecordFault}
 use Rattle.record_text.specs.declared.faults.RecordFault.TheVariants as records
 
--- a line of the text that is wrong
+-- The line for a faulty line of the text.
 abbrev pub place_line_of : (name : List ℕ) → (number : ℕ) → List ℕ
 place_line_of name number = codes "refused " ++ decimal number ++ codes " " ++ name ++ codes "\n"
 
--- the text as a whole hasn't the lines that it states
+-- The line for a text whose number of lines isn't the one that it states.
 abbrev pub count_line_of : (name : List ℕ) → (kept found : ℕ) → List ℕ
 count_line_of name kept found = codes "refused 0 " ++ name ++ codes " " ++ decimal kept ++ codes " " ++ decimal found ++ codes "\n"
 
--- a text as a whole; no text has the fault NoMemory
+-- The line for a fault of a scenario; no text has the fault NoMemory.
 abbrev pub scenario_line_of : ScenarioFault → List ℕ
 scenario_line_of (faults.BadLine line) = place_line_of (codes "BadLine") line
 scenario_line_of (faults.BadNumber line) = place_line_of (codes "BadNumber") line

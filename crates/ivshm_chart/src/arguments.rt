@@ -11,19 +11,19 @@ use std::io;
 use std::io::ErrorKind;
 use thiserror::Error;
 
-/// Why the program's words can't be had.
+/// Why the program has no words.
 #[derive(Clone, Copy, Debug, PartialEq, Eq, Error)]
 pub enum WordsFault {
     /// A word isn't UTF-8.
     #[error("a word is no text")]
     NotText,
-    /// There was no memory for the words.
+    /// The allocation for the words failed.
     #[error("out of memory")]
     NoMemory,
 }
 
-/// The words of the program: its arguments after its name. NotText comes exactly where the arguments can't be had for
-/// another reason than memory.
+/// Returns the words of the program: its arguments after its name. Returns `NotText` exactly if
+/// `args` fails for another reason than memory.
 pub fn words_of(alloc: Global, args: io::Result<Args>) -> Result<Vec<String>, WordsFault>
     ensures words { IfOk result (λ w. IsOkAnd args (λ a. w.items ≡ drop 1 (into_iter_items a))) }
     ensures not_text { IsErrOf result WordsFault.NotText ↔ IsErrAnd args (λ e. error_kind e ≢ OutOfMemory) }

@@ -1,4 +1,4 @@
-//! The first lines of a record, which are all that most pictures need.
+//! The first lines of a record, which suffice for most pictures.
 ghost use Rattle.std.specs.Prelude.{◌≡◌, ◌<◌, ◌≤◌, ◌∷◌, ◌++◌, ℕ, [], IfOk, OnOk, IfErr, List, length};
 ghost use Rattle.scenario_text.specs.Scenario.{World};
 ghost use Rattle.record_text.specs.Judge.{answer};
@@ -10,17 +10,18 @@ use lawful_history::{Line, Lines};
 use record_text::{Reader, RecordFault, Trace};
 use std::alloc::Global;
 
-/// So many lines from the first one shown on are kept, which take 9 MiB. They are more than the clears of two sections of 520,192 bytes.
+/// The number of lines that are kept from the first one shown on. They take 9 MiB, and are more
+/// than the clears of two sections of 520,192 bytes.
 const MOST: u64 = 300_000;
 
-/// A record's first lines, and how many come after them.
+/// A record's first lines, and the number of lines after them.
 #[derive(Drop)]
 pub struct Front {
     pub trace: Trace,
     pub others: u64,
 }
 
-/// Keeps a line, if fewer than so many are kept.
+/// Keeps a line, if fewer than `most` are kept.
 fn keep(lines: &mut Lines, line: Line, most: u64) -> Result<(), RecordFault>
     ensures kept { length lines.old < most → OnOk result (lines.new ≡ lines.old ++ line ∷ []) }
     ensures full { most ≤ length lines.old → lines.new ≡ lines.old }
@@ -35,7 +36,7 @@ fn keep(lines: &mut Lines, line: Line, most: u64) -> Result<(), RecordFault>
     }
 }
 
-/// Reads all lines that are left: keeps the first ones, so many at most, and counts the others.
+/// Reads the rest of the lines: keeps the first ones, at most `most`, and counts the others.
 fn read_lines(alloc: Global, reader: &mut Reader, most: u64) -> Result<(Lines, u64), RecordFault>
     ensures read { (bytes : List ℕ) (version : ℕ) (world : World) → IsReading bytes version world [] reader.old → IfOk result (λ p. IsFront bytes version world p.0 p.1) }
     ensures refused { (bytes : List ℕ) (version : ℕ) (world : World) → IsReading bytes version world [] reader.old → IfErr result (λ fault. Refuses fault (answer bytes)) }
@@ -48,7 +49,8 @@ fn read_lines(alloc: Global, reader: &mut Reader, most: u64) -> Result<(Lines, u
     Ok((lines, others))
 }
 
-/// The first lines of the record that the text spells, up to some after this one, or the first fault of the text.
+/// Returns the first lines of the record that the text spells, including `MOST` lines from line
+/// `first` on, or the first fault of the text.
 pub fn front_of(alloc: Global, first: u64, bytes: &[u8]) -> Result<Front, RecordFault>
     ensures front { IfOk result (IsFrontOf bytes.now) }
     ensures refused { IfErr result (λ fault. Refuses fault (answer bytes.now)) }

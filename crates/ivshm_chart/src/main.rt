@@ -1,6 +1,7 @@
-//! The program `ivshm_chart`: it reads a record, and writes a picture of its history as an SVG file. It stands on `record_text` for
-//! the record and on `record_chart` for the picture. The top call is [`program::chart`], over any source and sink; the arguments and
-//! the two real ends are the trusted edge, of which no contract tells.
+//! The program `ivshm_chart`: it reads a record, and writes a picture of its history as an SVG
+//! file. It uses `record_text` for the record and `record_chart` for the picture. The top call is
+//! [`program::chart`], over any source and sink. The arguments and the two real streams are the
+//! trusted edge: no contract describes them.
 #![tactic(auto)]
 
 mod arguments;

@@ -16,13 +16,13 @@ use record_chart::{Picture, draw, picture_of, picture_of_front};
 use record_text::{RecordFault, parse};
 use std::alloc::Global;
 
-/// The line that says which words the program knows.
+/// The usage line, which lists the program's words.
 const USAGE: &[u8] = b"usage: ivshm_chart | ivshm_chart FROM TO\n";
 
 /// The most bytes that are read.
 const LIMIT: u64 = 1_073_741_824;
 
-/// What is due to bytes that were read: a status, a text, and the picture that the text shows.
+/// The reply to the input: a status, a text, and the picture that the text shows.
 #[derive(Drop)]
 struct Reply {
     status: Status,
@@ -30,7 +30,7 @@ struct Reply {
     drawn: Option<Picture>,
 }
 
-/// The reply to a text that is refused.
+/// Returns the reply to a text that is refused.
 fn reply_to_fault(alloc: Global, fault: RecordFault) -> Result<Reply, NoMemory>
     ensures { IfOk result (λ reply. (reply.status ≡ Status.Refused) × (reply.text.items ≡ line_of fault) × (reply.drawn ≡ None)) }
 {
@@ -42,7 +42,7 @@ fn reply_to_fault(alloc: Global, fault: RecordFault) -> Result<Reply, NoMemory>
     })
 }
 
-/// The reply to the bytes that were read, by all lines of their record.
+/// Returns the reply to the input, by all lines of its record.
 fn reply_to_whole(alloc: Global, span: Span, bytes: &[u8]) -> Result<Reply, NoMemory>
     requires { 1 ≤ span.first }
     ensures { IfOk result (λ reply. IsReply span bytes.now reply.status reply.text.items reply.drawn) }
@@ -63,8 +63,9 @@ fn reply_to_whole(alloc: Global, span: Span, bytes: &[u8]) -> Result<Reply, NoMe
     }
 }
 
-/// The reply to the bytes that were read. The lines of the record are read one by one, and only those up to some after the first one shown are
-/// kept. Where a picture needs more of them, as of long runs that are folded, all are.
+/// Returns the reply to the input. The lines of the record are read one by one, and only the first
+/// ones are kept. If the picture needs more of them, for example for long runs that are folded, all
+/// are kept.
 fn reply_to(alloc: Global, span: Span, bytes: &[u8]) -> Result<Reply, NoMemory>
     requires { 1 ≤ span.first }
     ensures { IfOk result (λ reply. IsReply span bytes.now reply.status reply.text.items reply.drawn) }
@@ -86,7 +87,7 @@ fn reply_to(alloc: Global, span: Span, bytes: &[u8]) -> Result<Reply, NoMemory>
     })
 }
 
-/// Writes a text. The status is this one where all of it was written, else WriteFault.
+/// Writes `text`. Returns `status` if all of the text was written, and WriteFault otherwise.
 fn write_text<K: Sink>(sink: &mut K, text: &[u8], status: Status) -> Status
     ensures cases { (result ≡ status) ⊎ (result ≡ Status.WriteFault) }
     ensures whole { result ≢ Status.WriteFault → Took (K.output sink.old) text.now (K.output sink.new) }
@@ -98,10 +99,16 @@ fn write_text<K: Sink>(sink: &mut K, text: &[u8], status: Status) -> Status
     }
 }
 
-/// Runs the words of the program, which are its arguments after its name: reads a record to its end, and writes the picture of the
-/// lines asked for. Nothing is written before the text is whole.
+/// Runs the program's words, its arguments after its name: reads a record to its end, and writes
+/// the picture of the lines asked for. Nothing is written before the text is complete.
 ///
-/// `drawn` is empty before the call; after it, it holds what was drawn where the text due is a picture.
+/// `drawn` is `None` before the call. After the call it holds the picture, if the text that was due
+/// is a picture.
+// claim cause: If the chart is done, the source was read to its end, its bytes spell a record, and
+//    a picture of the lines asked for was written. A text that spells no record is refused by the
+//    line of its first fault.
+// claim unread, usage: The words are none, or FROM and TO with 1 ≤ FROM ≤ TO. Words that are no
+//    form read nothing.
 pub fn chart<S: Source, K: Sink>(
     alloc: Global,
     words: &[String],
@@ -112,7 +119,7 @@ pub fn chart<S: Source, K: Sink>(
     requires { drawn.old ≡ None }
     ensures cause { HasCause result (form_of (map string_bytes words.now)) (S.input source.old) (S.input source.new)
         (K.output sink.old) (K.output sink.new) drawn.new }
-    // Words that are no form read nothing, and are never answered by NoMemory.
+    // For words that the program doesn't know nothing is read, and NoMemory is never the answer.
     ensures usage { form_of (map string_bytes words.now) ≡ None → (result ≡ Status.Usage) ⊎ (result ≡ Status.WriteFault) }
     ensures unread { form_of (map string_bytes words.now) ≡ None → source.new ≡ source.old }
 {
@@ -137,7 +144,8 @@ pub fn chart<S: Source, K: Sink>(
     write_text(sink, &text, status)
 }
 
-/// The status of the program on the words that it was given, or on words that can't be had: a word that isn't UTF-8 is no form.
+/// Returns the status of the program for the words that it has, or for `words` that can't be had. A
+/// word that isn't UTF-8 is none that the program knows.
 pub fn status_of_words<S: Source, K: Sink>(
     alloc: Global,
     words: Result<Vec<String>, WordsFault>,

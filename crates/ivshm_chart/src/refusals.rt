@@ -6,7 +6,7 @@ use record_text::RecordFault;
 use scenario_text::ScenarioFault;
 use std::alloc::{AllocError, Global};
 
-/// The line of a line that is wrong.
+/// Returns the `refused` line for a faulty line.
 fn place_line(alloc: Global, name: &'static str, number: u64) -> Result<Vec<u8>, AllocError>
     ensures { IfOk result (λ v. v.items ≡ place_line_of name.now number) }
 {
@@ -14,7 +14,7 @@ fn place_line(alloc: Global, name: &'static str, number: u64) -> Result<Vec<u8>,
     Ok(line.into_bytes())
 }
 
-/// The line of a record that hasn't as many lines as it states.
+/// Returns the `refused` line for a record whose number of lines isn't the one that it states.
 fn count_line(
     alloc: Global,
     name: &'static str,
@@ -27,7 +27,7 @@ fn count_line(
     Ok(line.into_bytes())
 }
 
-/// The line of a fault of the scenario.
+/// Returns the `refused` line for a fault of the scenario.
 fn scenario_line(alloc: Global, fault: ScenarioFault) -> Result<Vec<u8>, AllocError>
     ensures { IfOk result (λ v. v.items ≡ scenario_line_of fault) }
 {
@@ -44,7 +44,7 @@ fn scenario_line(alloc: Global, fault: ScenarioFault) -> Result<Vec<u8>, AllocEr
     }
 }
 
-/// The line of a fault of the record.
+/// Returns the `refused` line for a fault of the record.
 pub fn refusal_line(alloc: Global, fault: RecordFault) -> Result<Vec<u8>, AllocError>
     ensures { IfOk result (λ v. v.items ≡ line_of fault) }
 {

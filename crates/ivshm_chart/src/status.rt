@@ -8,22 +8,23 @@ use std::process::ExitCode;
 /// How a call of [`chart`](crate::program::chart) ended.
 #[derive(Clone, Copy, Debug, PartialEq, Eq)]
 pub enum Status {
-    /// The picture was written whole.
+    /// The picture was written in full.
     Done,
-    /// The words are none of the forms, and the usage line was written.
+    /// The program doesn't know the words, and the usage line was written.
     Usage,
-    /// What was read is no record, and one `refused` line was written.
+    /// The input is no record, and one `refused` line was written.
     Refused,
     /// The source failed, and nothing was written.
     ReadFault,
-    /// The sink failed, and a first part of the text due was written.
+    /// The sink failed, and a prefix of the text that is due was written.
     WriteFault,
-    /// There was no memory, and nothing was written.
+    /// An allocation failed, and nothing was written.
     NoMemory,
 }
 
 impl Status {
-    /// The exit status of the program, as `ivshm` numbers them.
+    /// Returns the exit status of the program, with the numbers of `ivshm`.
+    // claim with Status::exit_code: The exit numbers are those of `ivshm`.
     pub fn exit_number(self) -> u8
         ensures { result ≡ exit_number_of self }
     {
@@ -37,7 +38,7 @@ impl Status {
         }
     }
 
-    /// What the program ends with.
+    /// Returns the exit code of the program.
     pub fn exit_code(self) -> ExitCode
         ensures { exit_status result ≡ exit_number_of self }
     {

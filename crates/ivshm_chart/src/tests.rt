@@ -1,4 +1,4 @@
-//! The top call over ends in memory.
+//! The top call over sources and sinks in memory.
 use crate::program::chart;
 use crate::status::Status;
 use ivs_base::{MemorySink, MemorySource};
@@ -9,7 +9,7 @@ use std::test::Fail;
 const RECORD: &[u8] =
     b"record 1\nivshm 1\npeers 2\ntable 4096\ncommon 0\nout 16384\nmtu 256\nirq msix 2\npeer 0 honest\npeer 1 honest\nbegin\nend\nidle 0\nidle 1\nend 2\n";
 
-/// The status of a call on these words and this input, and what it wrote.
+/// Returns the status of a call with these words and this input, and what it wrote.
 fn answer(
     alloc: Global,
     words: &[&str],
@@ -27,6 +27,8 @@ fn answer(
     Ok((status, sink.bytes().to_vec(alloc)?))
 }
 
+// claim ivshm_chart.chart.cause
+// claim ivshm_chart.chart.unread
 #[test]
 fn statuses(rt: HostRuntime) -> Result<(), Fail> {
     let usage = b"usage: ivshm_chart | ivshm_chart FROM TO\n".as_slice();

@@ -5,14 +5,14 @@ ghost use Rattle.ivshm_chart.specs.Forms.{span_of, form_of};
 
 use line_format::number;
 
-/// Which lines of the history are drawn: from this one to that one, counted from 1.
+/// The lines of the history that are drawn: from `first` to `last`, counted from 1.
 #[derive(Clone, Copy, Debug, PartialEq, Eq)]
 pub struct Span {
     pub first: u64,
     pub last: u64,
 }
 
-/// The lines from one number to another, if they are some.
+/// Returns the lines from one number to another, if they are a span.
 fn span_of(first: Option<u64>, last: Option<u64>) -> Option<Span>
     ensures span { result ≡ span_of first last }
     ensures some { IfSome result (λ span. 1 ≤ span.first) }
@@ -23,7 +23,8 @@ fn span_of(first: Option<u64>, last: Option<u64>) -> Option<Span>
     }
 }
 
-/// The lines that the words ask for: all of them without words, or those from FROM to TO.
+/// Returns the lines that the words ask for: all lines if there are no words, or those from FROM to
+/// TO.
 pub fn read_form(words: &[String]) -> Option<Span>
     ensures form { result ≡ form_of (map string_bytes words.now) }
     ensures some { IfSome result (λ span. 1 ≤ span.first) }

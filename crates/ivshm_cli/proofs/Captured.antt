@@ -1,4 +1,5 @@
--- What makes the capture of a lawful record one that can be written: fewer lines than bytes, and no frame longer than a packet may be.
+-- Why the capture of a lawful record can be written: it has fewer lines than bytes, and no frame
+-- longer than a packet may be.
 use Rattle.std.proofs.Common.{◌≡◌, ℕ, ◌≤◌, ◌+◌, List, [], ◌∷◌, ◌++◌, length, sym, ap, subst, arith, length-append, take}
 use Rattle.std.specs.Prelude.{All, map, Bool, true, false, if◌then◌else◌, ◌==◌, ◌&&◌}
 use Rattle.std.proofs.lemmas.List.{length-take, length-map, length_push, append_assoc}
@@ -33,7 +34,7 @@ rows_within pieces (r ∷ rows) =
     let rest = rows_within pieces rows in
     omega (arith, length-append (line_of_row pieces r) (text_of pieces rows))
 
--- a record has fewer lines than bytes
+-- A record has fewer lines than bytes.
 pub lines_within : (bytes : List ℕ) (world : World) (version : ℕ) (history : List Line) → Spells bytes world version history → length history ≤ length bytes
 lines_within bytes world version history spelled =
     let rows = rows_within pieces_of (history_rows history) in
@@ -74,7 +75,7 @@ short_told world older (line ∷ history) short =
     (All-cons IsShortLine line (with_sessions world (line ∷ older) history) (All-head IsShortLine line history short)
     (short_told world (line ∷ older) history (All-tail IsShortLine line history short)))
 
--- each frame that a lawful history delivers fits into a packet
+-- Each frame that a lawful history delivers fits into a packet.
 pub short_lines : DeliveredFramesAreRead → (world : World) (version : ℕ) (lines : List Line) → IsWorld world → IsLawfulIn world version lines → All IsShortLine lines
 short_lines read world version lines is lawful =
     subst (λ (ls : List Line). All IsShortLine ls) (sym lawful.2) (from (version == 2)) where

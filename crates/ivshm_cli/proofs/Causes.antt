@@ -1,4 +1,4 @@
--- The cause of each status, from what the work promises.
+-- The cause of each status, from the contract of the work.
 use Rattle.std.proofs.Common.{◌≡◌, ◌<◌, ◌⊎◌, ℕ, List, [], length, take, refl, sym, subst, inl, inr}
 use Rattle.std.specs.Prelude.{Option, Some, None, Result, Ok, IfOk, true, IsTrue, IsSome}
 use Rattle.ivs_base.specs.SourceAndSink.{Input, Output, Took, SourceFailed, SinkFailed, LastReadFailed, LastWriteFailed}
@@ -24,11 +24,11 @@ refusal_of form before now before' now' ran w = from w.due.0 w.due.1 w.due.2 whe
     wrote = subst (λ (t : List ℕ). Took before' t now') follows.1 w.wrote;
   }
 
--- words that are no form have one reply
+-- Words that are no command have one reply.
 usage_alone : (status : Status) (before now : Input) (before' now' : Output) (ran : Option Ran) → WritesReply None before now before' now' ran status → status ≡ Usage
 usage_alone status before now before' now' ran w = w.due.0
 
--- what the work promises of a status
+-- What the work promises of a status.
 pub record Work (form : Option Command) (before now : Input) (before' now' : Output) (ran : Option Ran) (result : Status) : Type 0 where
   pub reply : IsTrue (has_reply result) → WritesReply form before now before' now' ran result
   pub write_fault : result ≡ WriteFault → SinkFailed before' now' × WritesFront form before now before' now' ran
@@ -55,7 +55,7 @@ module _ (before now : Input) (before' now' : Output) (ran : Option Ran) where
   caused NoMemory (Some form) work = (work.quiet refl, work.nothing_left refl)
   caused NoMemory None work = absurd (let some = work.no_memory refl in cc)
 
--- where nothing is written
+-- The cases of a status for which nothing is written.
 pub unwritten : {A : Type 0} (result : Status) → (result ≡ ReadFault → A) → (result ≡ NoMemory → A) → writes_nothing result ≡ true → A
 unwritten Done read memory e = cc
 unwritten Differs read memory e = cc
@@ -65,12 +65,12 @@ unwritten ReadFault read memory e = read refl
 unwritten WriteFault read memory e = cc
 unwritten NoMemory read memory e = memory refl
 
--- ---- words that were had, or weren't
+-- ---- words that the program has, or can't have
 
 pub of_words : {W E : Type 0} (words : Result W E) (w : W) (P : W → Type 0) → words ≡ Ok w → P w → IfOk words P
 of_words words w P is p = subst (λ o. IfOk o P) (sym is) p
 
--- a call for words that are no form
+-- A call for words that are no command.
 pub usage_runs : (before now : Input) (before' now' : Output) (ran : Option Ran) (result : Status) → now ≡ before → ran ≡ None → (result ≡ Usage) ⊎ (result ≡ WriteFault) →
     (IsTrue (has_reply result) → Took before' usage_line now') → (result ≡ WriteFault → (n : ℕ) × Took before' (take n usage_line) now') →
     (result ≡ WriteFault → SinkFailed before' now') → (result ≡ WriteFault → LastWriteFailed before' now') → (result ≡ WriteFault → before'.room < length usage_line) →

@@ -1,4 +1,4 @@
--- What was counted of a history.
+-- The counts of a history.
 use Rattle.std.proofs.Common.{◌≡◌, ℕ, ◌+◌, ◌<◌, List, [], ◌∷◌, ◌++◌, length, take, get_or, Bool, Option, Some, None, refl, sym, ap, subst, ◌∙◌, zero-add, arith}
 use Rattle.std.specs.Prelude.{count_by, fold, unwrap_or, if◌then◌else◌}
 use Rattle.std.specs.List.{filter_map, last_or, cons_option}
@@ -10,7 +10,7 @@ use Rattle.ivshm_cli.specs.declared.summary.Counts.{Counts}
 use Rattle.ivshm_cli.specs.Load.{is_accept, is_deliver, is_refuse, written_to, last_written, index_word, summary_of}
 use Rattle.ivshm_cli.specs.Counted.{none_of, with_line, last_from, HasCounted, lines_of_counts}
 
--- taking each value in the place of the one before it leads to the last
+-- The fold that replaces the last value by each new one gives the last.
 last_is_fold : (told : Line → Option ℕ) (lines : List Line) (o : Option ℕ) → unwrap_or (last_or o (filter_map told lines)) 0 ≡ fold (λ last line. unwrap_or (told line) last) (unwrap_or o 0) lines
 last_is_fold told [] o = refl
 last_is_fold told (line ∷ lines) o =
@@ -19,7 +19,7 @@ last_is_fold told (line ∷ lines) o =
       | None ↦ last_is_fold told lines o
     ]
 
--- the lines before, and lines after them
+-- Counts of lines after other lines.
 more_counted : (p : Line → Bool) (a b c : ℕ) (before lines : List Line) → b ≡ a + count_by p before → c ≡ b + count_by p lines → c ≡ a + count_by p (before ++ lines)
 more_counted p a b c before lines first then_ = let both = sum_by-append (λ (x : Line). if p x then 1 else 0) before lines in omega (arith, first, then_, both)
 
@@ -38,7 +38,7 @@ followed began now later before lines first then_ = record {
 plus_zero : (a b : ℕ) → a + b ≡ a + (0 + b)
 plus_zero a b = omega arith
 
--- a line
+-- One line.
 one : (began now : Counts) (line : Line) → now ≡ with_line began line → HasCounted began now (line ∷ [])
 one began now line is = subst (λ (c : Counts). HasCounted began c (line ∷ [])) (sym is) (record { word = refl; accepted = plus_zero _ _; delivered = plus_zero _ _; refused = plus_zero _ _; last = refl })
 
@@ -47,7 +47,7 @@ line_more began now later lines i line inside is so_far next =
     subst (λ (ls : List Line). HasCounted began later ls) (sym (take_more lines i line inside ∙ ap (λ (l : Line). take i lines ++ l ∷ []) (sym is)))
     (followed began now later (take i lines) (line ∷ []) so_far (one now later line next))
 
--- what was counted of all lines is their summary
+-- The counts of all lines are their summary.
 pub counted : (count : ℕ) (world : World) (began counts : Counts) (lines : List Line) → began ≡ none_of world → HasCounted began counts lines → lines_of_counts count counts ≡ summary_of count world lines
 counted count world began counts lines is received =
     let from = subst (λ (b : Counts). HasCounted b counts lines) is received in

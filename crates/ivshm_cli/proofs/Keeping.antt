@@ -18,7 +18,7 @@ use Rattle.history_laws.specs.Wake.{WakesAreRung}
 use Rattle.ivshm_cli.specs.Headline.{Simulates}
 use Rattle.ivshm_cli.specs.Whole.{KeepsTheLaws, RecordsKeepTheLaws}
 
--- the laws that are cited
+-- The laws that are cited.
 pub record Laws : Type 0 where
   pub write : WritesWhereItMay
   pub read : ReadsWhatWasWritten

@@ -1,4 +1,4 @@
--- What `sim` wrote is read by `replay` as what it was written for.
+-- `replay` reads what `sim` wrote as the record that `sim` wrote.
 use Rattle.std.proofs.Common.{◌≡◌, ◌∙◌, ap, Result, Ok, Err, ℕ, ◌≤◌, List, length, refl, sym, subst}
 use Rattle.std.proofs.lemmas.Bool.{le-ltb, ltb-false}
 use Rattle.std.specs.Prelude.{Some, MatchBool, false}
@@ -21,7 +21,7 @@ use Rattle.ivshm_cli.specs.Due.{Follows}
 use Rattle.ivshm_cli.specs.Whole.{WrittenRecordsReplayAsSame}
 use Rattle.ivshm_cli.proofs.Replaying.{not_both, unlawful_of, record_unrefused, unrefused}
 
--- what is read as a record spells it
+-- Bytes that are read as a record spell it.
 spelled_by : (bytes : List ℕ) (r : Record) (said : Result Part (Wrong RecordCause)) → reading bytes ≡ said → answer_in (faulted said) ≡ Ok r → IsSpelling r bytes
 spelled_by bytes r (Err wrong) is answered = absurd (cc)
 spelled_by bytes r (Ok part) is answered = elim (is_read bytes part is) [
@@ -31,7 +31,7 @@ spelled_by bytes r (Ok part) is answered = elim (is_read bytes part is) [
       subst (λ (x : Record). IsSpelling x bytes) same spelled
 ]
 
--- a record of a lawful history is the same, and nothing else is answered
+-- The one answer to a record of a lawful history is `same`.
 lawful_is_same : (text found : List ℕ) (status : Status) → SpellsLawful text → Replies Replay text status found → (status ≡ Done) × (found ≡ verdict_line Same)
 lawful_is_same text found Done lawful replies = (refl, replies.printed)
 lawful_is_same text found Differs lawful replies = absurd (not_both text lawful (unlawful_of text replies.fault replies.difference))

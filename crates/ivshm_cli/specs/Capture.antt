@@ -1,4 +1,5 @@
--- What `capture` and `feed` promise: the capture file of what a peer delivered, and the scenario made of a capture file.
+-- What `capture` and `feed` promise: the capture file of what a peer delivered, and the scenario
+-- made from a capture file.
 use Rattle.std.specs.Prelude.{ℕ, ◌≡◌, List, ◌++◌}
 use Rattle.scenario_text.specs.Scenario.{World}
 use Rattle.scenario_text.specs.Spelling.{spelling}
@@ -12,11 +13,12 @@ use Rattle.frame_capture.specs.Feed.{offered_frames, feed_world, IsTooLarge}
 use Rattle.frame_capture.specs.Laws.{AreBytes}
 use Rattle.ivshm_cli.specs.Replay.{Spells}
 
--- the file that is written of a capture: little-endian, with zone and figures 0
+-- The capture file of a capture: little-endian, with zone and figures 0.
 abbrev pub file_of : Capture → List ℕ
 file_of capture = header_bytes Little 0 0 capture.snaplen ++ packets_bytes Little capture.packets
 
--- the bytes spell a record whose history is lawful, and the text is the capture file of what that history delivers to the peer
+-- The bytes spell a record whose history is lawful, and the text is the capture file of what that
+-- history delivers to the peer.
 pub record IsCaptureOf (peer : ℕ) (bytes text : List ℕ) : Type 0 where
   pub world : World
   pub version : ℕ
@@ -26,23 +28,23 @@ pub record IsCaptureOf (peer : ℕ) (bytes text : List ℕ) : Type 0 where
   pub printed : text ≡ file_of (capture_of peer history)
   pub file : IsCaptureFile (capture_of peer history) text
 
--- the scenario in which the peer offers the capture's whole frames
+-- The scenario in which `peer` offers the capture's whole frames.
 abbrev pub fed_world : (peer : ℕ) → Capture → World
 fed_world peer capture = feed_world peer (offered_frames capture.packets)
 
--- the bytes are a capture file, and the scenario made of it isn't too large
+-- The bytes are a capture file, and the scenario made from it is within the limits.
 pub record FeedsOn (peer : ℕ) (bytes : List ℕ) : Type 0 where
   pub capture : Capture
   pub file : IsCaptureFile capture bytes
   pub fits : ¬ IsTooLarge (fed_world peer capture)
 
--- they are one, but that scenario has too many acts or too long a text
+-- The bytes are a capture file, and the scenario made from it has too many acts or too long a text.
 pub record FeedsTooMuch (peer : ℕ) (bytes : List ℕ) : Type 0 where
   pub capture : Capture
   pub file : IsCaptureFile capture bytes
   pub large : IsTooLarge (fed_world peer capture)
 
--- the text is that of the scenario made of the capture file that the bytes are
+-- The text is that of the scenario made from the capture file `bytes`.
 pub record IsFeedOf (peer : ℕ) (bytes text : List ℕ) : Type 0 where
   pub feeds : FeedsOn peer bytes
   pub printed : text ≡ spelling (fed_world peer feeds.capture)

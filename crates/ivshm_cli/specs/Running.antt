@@ -1,4 +1,5 @@
--- What `run` promises: the running record of peers in threads of their own, by the accesses that the pass of their words holds.
+-- What `run` promises: the running record of peers in threads of their own, by the access lists of
+-- the pass of their words.
 use Rattle.std.specs.Prelude.{ℕ, ◌≡◌, List, Option, Some, None}
 use Rattle.ivs_base.specs.SourceAndSink.{Input, Output, Gave, HasEnded, Took}
 use Rattle.scenario_text.specs.Scenario.{World}
@@ -10,14 +11,15 @@ use Rattle.peer_runner.specs.Passes.{IsWhole}
 use Rattle.peer_runner.specs.RunningRecord.{IsRunOf}
 use Rattle.ivshm_cli.specs.declared.runs.Ran.{Ran}
 
--- the bytes spell a scenario in running form
+-- The bytes spell a scenario in running form.
 pub record SpellsRunning (bytes : List ℕ) : Type 0 where
   pub world : World
   pub spelled : IsSpelling world bytes
   pub running : not_running world ≡ None
 
--- The bytes spell a scenario in running form, the words were made for it, the pass is of these words and has all peers,
--- and the text is the running record in which each peer's part is told by the list that the pass has of it
+-- The bytes spell a scenario in running form, and the words were made for it. The pass is of these
+-- words and has all peers. The text is the running record in which each peer's part has the lines
+-- of that peer's list in the pass.
 pub record IsRunBy (ran : Ran) (bytes text : List ℕ) : Type 0 where
   pub spells : SpellsRunning bytes
   pub parts : List Part
@@ -25,7 +27,8 @@ pub record IsRunBy (ran : Ran) (bytes text : List ℕ) : Type 0 where
   pub run : IsRunOf spells.world ran.pass parts
   pub printed : IsRunSpelling (record { world = spells.world; parts = parts }) text
 
--- Where `run` is done: the source was read to its end, its peers ran, and their running record was written; here are their words and the pass
+-- What is true if `run` is done: the source was read to its end, its peers ran, and their running
+-- record was written. `ran` holds their words and pass.
 pub record RunsPeers (before now : Input) (before' now' : Output) (ran : Option Ran) : Type 0 where
   pub bytes : List ℕ
   pub text : List ℕ

@@ -1,4 +1,4 @@
--- The headline whole: what holds of every record that `sim` writes, law by law.
+-- The headline in full: what holds of every record that `sim` writes, law by law.
 use Rattle.std.specs.Prelude.{ℕ, ◌≡◌, ◌≢◌, ◌-◌, ◌<◌, true, Some, List, [], ◌∷◌, ◌++◌, length, reverse, All}
 use Rattle.split_ring.specs.Layout.{has_events, AvailIndex, UsedIndex}
 use Rattle.section_map.specs.MayWrite.{MayWrite}
@@ -32,7 +32,8 @@ use Rattle.ivshm_cli.specs.Due.{IsDue}
 use Rattle.ivshm_cli.specs.Headline.{Simulates}
 use Rattle.ivshm_cli.specs.Replay.{verdict_line}
 
--- each look, each reclaim and each refusal of an index has a read of that index of its own, which is the line right before it
+-- Each look, each reclaim and each refusal of an index has a read of that index of its own, on the
+-- line right before it.
 pub record ReadsIndexesOnce (world : World) (history : List Line) : Type 0 where
   pub looks : (before after : List Line) (p count : ℕ) → history ≡ before ++ line.Look p count ∷ after →
       IsIndexRead (config_of world p) p (reverse before) AvailIndex (length (side_of (reverse before) p).delivered) count
@@ -41,8 +42,10 @@ pub record ReadsIndexesOnce (world : World) (history : List Line) : Type 0 where
   pub refusals : (before after : List Line) (p : ℕ) (refused : Refused) → history ≡ before ++ line.Refuse p refused ∷ after →
       IsLoneIndex (config_of world p) p (reverse before) refused.field refused.value
 
--- in a link with events a poll that is done and found nothing leaves its peer's event at the next frame, which is the next that an honest other accepts; an
--- honest peer rings where the other's event stands at the frame that it accepts; so a peer whose poll found nothing is rung at the next frame
+-- In a link with events, a poll that found nothing leaves its peer's event index at the next frame
+-- when it is done. That frame is the next that an honest other end accepts. An honest peer rings if
+-- the other's event index is at the frame that it accepts. So a peer whose poll found nothing is
+-- rung at the next frame.
 pub record WaitingPeersAreRung (world : World) (history : List Line) : Type 0 where
   pub armed : (before after : List Line) (p : ℕ) → has_events world.queue ≡ true → history ≡ before ++ line.Look p 0 ∷ line.Done p ∷ after →
       EventIs world (reverse before) p (length (side_of (reverse before) p).delivered)
@@ -57,31 +60,35 @@ pub record WaitingPeersAreRung (world : World) (history : List Line) : Type 0 wh
       All (LeavesEvent world p) since → All (λ found. AcceptsNothing (1 - p) (line_side_event_of found)) since →
       All (LeavesEvent world p) offer → All (λ found. GoesOn (1 - p) (line_side_event_of found)) offer → IsRungIn world (1 - p) offer
 
--- A history that keeps the laws
+-- A history that keeps the laws.
 pub record KeepsTheLaws (world : World) (history : List Line) : Type 0 where
-  -- each peer writes its own and common words alone, and reads what was written last
+  -- Each peer writes only words of its own and common sections, and reads the value written last.
   pub writes : (before after : List Line) (peer word value : ℕ) → history ≡ before ++ line.Write peer word value ∷ after → MayWrite world.geometry peer word
   pub reads : (before after : List Line) (peer word value : ℕ) → history ≡ before ++ line.Read peer word value ∷ after → WasWrittenLast before word value
-  -- each line of a link peer has its row of the link machine
+  -- Each line of a link peer has its row of the link machine.
   pub rows : KeepsRows world (reverse history)
-  -- the turn steps of an honest link peer since its last reset are finished calls in their order, each within its bound, and then a beginning of one
+  -- The turn steps of an honest link peer since its last reset are finished calls in their order,
+  -- and then a prefix of one. Each call is within its bound.
   pub calls : (entries before after : List EventRecord) (p : ℕ) → IsLawfulBy world history entries → is_link world p ≡ true → own p entries ≡ before ++ after →
       MakesCalls world p (reverse before)
-  -- a delivered frame is the one that was read for its item, each field once and in range; an accepted one stands in its peer's section
+  -- A delivered frame is the one read for its item, each field once and in range; an accepted one
+  -- is in its peer's section.
   pub once : (before after : List Line) (p : ℕ) (frame : List ℕ) → history ≡ before ++ line.Deliver p frame ∷ after →
       IsReadFrame (config_of world p) (length (side_of (reverse before) p).delivered) (reads_of (reverse before) p) frame
   pub spelled : (before after : List Line) (p : ℕ) (frame : List ℕ) → history ≡ before ++ line.Accept p frame ∷ after
       → SpellsNext world (reverse before) p frame
   pub indexes : ReadsIndexesOnce world history
-  -- between a look and the end of its poll as many frames are delivered as the look found
+  -- Between a look and the end of its poll the number of frames delivered is the number that the
+  -- look found.
   pub done : (before between after : List Line) (p count : ℕ) → history ≡ before ++ line.Look p count ∷ between ++ line.Done p ∷ after →
       All (λ found. IsWithin p (line_side_event_of found)) between → deliver_count p between ≡ count
-  -- an honest link peer in RESET writes nothing to its section
+  -- An honest link peer in RESET writes nothing to its section.
   pub quiet : (before after : List Line) (p word value : ℕ) → is_link world p ≡ true → history ≡ before ++ line.Write p word value ∷ after →
       (side_of (reverse before) p).state ≢ 0
-  -- who sleeps after a poll that found nothing is rung at the next frame
+  -- A peer that waits after a poll that found nothing is rung at the next frame.
   pub wakes : WaitingPeersAreRung world history
-  -- a value read out of range refuses the link at once, by its field; nothing else is refused, and the end stays refused until its reset
+  -- A value read out of range refuses the link at once, by its field. Nothing else is refused, and
+  -- the end stays refused until its reset.
   pub refused : (before after : List Line) (p word value : ℕ) (refused : Refused) → is_link world p ≡ true
       → history ≡ before ++ line.Read p word value ∷ after →
       IsReadBeyond (config_of world p) (side_of (reverse before) p) (reads_of (reverse before) p ++ got word value ∷ []) refused.field refused.value →
@@ -92,23 +99,26 @@ pub record KeepsTheLaws (world : World) (history : List Line) : Type 0 where
   pub stays : (before between after : List Line) (p value : ℕ) (refused : Refused)
       → history ≡ before ++ line.Refuse p refused ∷ between ++ line.State p value ∷ after →
       All (λ found. found ≢ line.Reset p) between → value ≡ 0
-  -- two honest link peers never refuse, and at each moment each has delivered in each session a beginning of what the other accepted
+  -- Two honest link peers never refuse; at each moment each has delivered, in each session, a
+  -- prefix of what the other accepted.
   pub agree : (before after : List Line) (p : ℕ) (refused : Refused) → is_link world 0 ≡ true → is_link world 1 ≡ true
       → history ≢ before ++ line.Refuse p refused ∷ after
   pub prefix : (before after : List Line) (p : ℕ) → is_link world 0 ≡ true → is_link world 1 ≡ true → p < 2 → history ≡ before ++ after →
       DeliversInOrder (side_of (reverse before) p) (side_of (reverse before) (1 - p)) (log_of (reverse before) p) (log_of (reverse before) (1 - p))
 
--- The lines of a record of version 2: without the marks of sessions they keep the laws, and each mark numbers the sessions of both link peers
+-- The lines of a record of version 2. Without the session marks they keep the laws, and each mark
+-- numbers the sessions of both link peers.
 pub record RecordKeepsLaws (world : World) (lines : List Line) : Type 0 where
   pub laws : KeepsTheLaws world (without_sessions lines)
   pub marks : (before after : List Line) (p opened other : ℕ) → lines ≡ before ++ line.Session p opened other ∷ after →
       IsNumbered world (reverse before) p opened other
 
--- so it is of whatever record `sim` wrote
+-- Each record that `sim` wrote keeps the laws.
 abbrev pub RecordsKeepTheLaws : Type 0
 RecordsKeepTheLaws = (before now : Input) (before' now' : Output) → (s : Simulates before now before' now') → RecordKeepsLaws s.world s.history
 
--- whatever `sim` wrote, one text alone is due to `replay` for it: the line `same`. So it is never too long for `replay`, nor refused, and never differs
+-- The one text that is due to `replay` for what `sim` wrote is the line `same`. So the text of
+-- `sim` is within the limit of `replay`, is not refused and never differs.
 abbrev pub WrittenRecordsReplayAsSame : Type 0
 WrittenRecordsReplayAsSame = (bytes text found : List ℕ) (status : Status) → IsDue (Some Sim) bytes Done text → IsDue (Some Replay) text status found →
     (status ≡ Done) × (found ≡ verdict_line Same)

@@ -1,4 +1,5 @@
-//! Capture files: what a lawful record delivers, written as one, and the scenario made of one.
+//! Capture files: what a lawful record delivers as a capture file, and the scenario made from a
+//! capture file.
 
 ghost use Rattle.std.specs.Prelude.{◌≡◌, ◌<◌, ◌^◌, ℕ, Some, None, IfOk, OnOk, IsErrOf, length};
 ghost use Rattle.scenario_text.specs.Scenario.{IsWorld};
@@ -19,7 +20,8 @@ use ivs_base::NoMemory;
 use record_text::Trace;
 use std::alloc::Global;
 
-/// The capture file of what the lawful history delivers to the peer, 0 or 1. No frame of it is longer than a packet may be.
+/// Returns the capture file of what the lawful history delivers to `peer`, 0 or 1. Requires that no
+/// delivered frame is longer than a packet may be.
 pub(crate) fn capture_file(alloc: Global, peer: u32, trace: &Trace) -> Result<Vec<u8>, NoMemory>
     requires peer { peer < 2 }
     requires world { IsWorld (world_of trace.now.scenario) }
@@ -33,7 +35,7 @@ pub(crate) fn capture_file(alloc: Global, peer: u32, trace: &Trace) -> Result<Ve
     frame_capture::print(alloc, &capture)
 }
 
-/// The capture that the bytes are a file of.
+/// Returns the capture that the capture file `bytes` holds.
 fn capture_in(alloc: Global, bytes: &[u8]) -> Result<Capture, NoReply>
     ensures file { IfOk result (λ capture. IsCaptureFile capture bytes.now) }
     ensures refused { (peer : ℕ) → (fault : Fault) → IsErrOf result (NoReply.Refused fault) → IsTextVerdict (Command.Feed peer) bytes.now (Some fault) }
@@ -45,7 +47,8 @@ fn capture_in(alloc: Global, bytes: &[u8]) -> Result<Capture, NoReply>
     }
 }
 
-/// The text of the scenario in which the peer, 0 or 1, offers the frames of the capture file that the bytes are.
+/// Returns the text of the scenario in which `peer`, 0 or 1, offers the frames of the capture file
+/// `bytes`.
 pub(crate) fn fed(alloc: Global, peer: u32, bytes: &[u8]) -> Result<Vec<u8>, NoReply>
     requires { peer < 2 }
     ensures accepted { OnOk result (IsTextVerdict (Command.Feed peer) bytes.now None) }

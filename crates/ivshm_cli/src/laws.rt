@@ -1,4 +1,5 @@
-//! The headline whole, in one place: the laws of every lawful history, as laws of each record that `sim` writes.
+//! The headline in full, in one place: the laws of every lawful history as laws of each record that
+//! `sim` writes.
 ghost use Rattle.ivshm_cli.specs.Whole.{RecordsKeepTheLaws, WrittenRecordsReplayAsSame};
 
 use history_laws::{
@@ -11,9 +12,15 @@ use history_laws::{
 use lawful_history::{memory_is_kept, versions_differ_in_marks};
 use record_sizes::records_are_short;
 
-/// Whatever record `sim` wrote, its history keeps the laws, and its marks of sessions number them: who writes where, what a read gives, that each foreign
-/// field and each index is read once and in range or refuses the link, that each call ends within its bound, that a poll delivers what it found, that who
-/// waits is rung, that an end in RESET writes nothing, and that two honest ends agree.
+/// Law: the history of each record that `sim` writes keeps the laws, and its session marks number
+/// its sessions.
+///
+/// The laws say where each peer writes and what each read returns. Each foreign field and each
+/// index is read once, and is in range or refuses the link. Each call ends within its bound. A poll
+/// delivers what it found. A waiting peer is rung. An end in RESET writes nothing. Two honest ends
+/// agree.
+// claim: Without its marks of sessions, the history of each record that `sim` writes keeps every
+//    law of lawful histories.
 pub fn records_keep_the_laws()
     ensures { RecordsKeepTheLaws }
 {
@@ -36,8 +43,12 @@ pub fn records_keep_the_laws()
     sessions_are_numbered();
 }
 
-/// Whatever record `sim` wrote, `replay` answers it with `same`, where neither end fails and memory suffices: the record is short enough to be
-/// read, it is read as what was written, and its history is the lawful one.
+/// Law: `replay` answers each record that `sim` writes with `same`, if neither the source nor the
+/// sink fails and no allocation fails. The record is within the limit of `replay`. It is read as
+/// the record that was written, and its history is the lawful one.
+// top claim: For each record that `sim` writes, `replay` owes the line `same` alone: the record is
+//    within the limit, is read as itself, and its history is the lawful one. below:
+//    record_sizes.records_are_short.limit, record_text.print.text
 pub fn written_records_replay_as_same()
     ensures { WrittenRecordsReplayAsSame }
 {

@@ -1,4 +1,4 @@
-//! What is due to a form and to the bytes that it read.
+//! The reply of each command to the bytes that it read.
 
 ghost use Rattle.std.specs.Prelude.{◌≡◌, ◌≢◌, ◌^◌, ◌<◌, ◌≤◌, ℕ, List, true, false, Option, Some, None, Ok, IsSome, IsTrue, IfOk, OnOk, IsErrOf, length};
 ghost use Rattle.ivs_base.specs.SourceAndSink.{SourceFailed, LastReadFailed};
@@ -41,7 +41,7 @@ use std::thread::Threads;
 use thiserror::Error;
 use trace_replay::{Verdict, replay, replay_text};
 
-/// A status and the text that is due with it, and what is left of peers that ran for it.
+/// A status, the text that is due with it, and the words and pass of running peers.
 #[derive(Drop)]
 pub(crate) struct Reply {
     pub(crate) status: Status,
@@ -49,13 +49,13 @@ pub(crate) struct Reply {
     pub(crate) ran: Option<Ran>,
 }
 
-/// Why a form has no reply of its own.
+/// Why a command has no reply of its own.
 #[derive(Clone, Copy, Debug, PartialEq, Eq, Error)]
 pub(crate) enum NoReply {
-    /// What was read is refused.
+    /// The input is refused.
     #[error("{0}")]
     Refused(Fault),
-    /// There was no memory left.
+    /// An allocation failed.
     #[error("out of memory")]
     NoMemory,
 }
@@ -76,7 +76,7 @@ impl From<AllocError> for NoReply {
     }
 }
 
-/// What a form reads, to its end.
+/// Reads the command's input to its end.
 pub(crate) fn read_for<S: Source>(
     alloc: Global,
     form: Command,
@@ -100,7 +100,7 @@ pub(crate) fn read_for<S: Source>(
     }
 }
 
-/// The scenario that the bytes spell.
+/// Returns the scenario that the bytes spell.
 pub(crate) fn scenario_in(alloc: Global, bytes: &[u8]) -> Result<Scenario, NoReply>
     ensures spelled { IfOk result (λ scenario. IsSpelling (world_of scenario) bytes.now) }
     ensures read { IfOk result (λ scenario. judged bytes.now ≡ Ok (world_of scenario)) }
@@ -114,7 +114,7 @@ pub(crate) fn scenario_in(alloc: Global, bytes: &[u8]) -> Result<Scenario, NoRep
     }
 }
 
-/// The record of the scenario that the bytes spell and of its lawful history.
+/// Returns the record of the scenario that the bytes spell and of its lawful history.
 fn simulated(alloc: Global, bytes: &[u8]) -> Result<Vec<u8>, NoReply>
     ensures accepted { OnOk result (IsTextVerdict Command.Sim bytes.now None) }
     ensures record { IfOk result (λ text. IsRecordOf bytes.now text.items) }
@@ -124,7 +124,7 @@ fn simulated(alloc: Global, bytes: &[u8]) -> Result<Vec<u8>, NoReply>
     Ok(simulate_text(alloc, &scenario)?)
 }
 
-/// The record that the bytes spell.
+/// Returns the record that the bytes spell.
 fn record_in(alloc: Global, bytes: &[u8]) -> Result<Trace, NoReply>
     ensures accepted { OnOk result (IsTextVerdict Command.Replay bytes.now None) }
     ensures spelled { IfOk result (λ trace. Spells bytes.now (world_of trace.scenario) trace.version trace.lines) }
@@ -138,7 +138,7 @@ fn record_in(alloc: Global, bytes: &[u8]) -> Result<Trace, NoReply>
     }
 }
 
-/// The status of a verdict.
+/// Returns the status of a verdict.
 fn verdict_status(verdict: Verdict) -> Status
     ensures { result ≡ status_of verdict }
 {
@@ -148,7 +148,8 @@ fn verdict_status(verdict: Verdict) -> Status
     }
 }
 
-/// Whether the history of the record that the bytes spell is the lawful one, or where it differs.
+/// Returns the verdict on the record that the bytes spell: its history is the lawful one, or its
+/// first difference.
 fn replayed(alloc: Global, bytes: &[u8]) -> Result<Reply, NoReply>
     ensures accepted { OnOk result (IsTextVerdict Command.Replay bytes.now None) }
     ensures verdict { IfOk result (λ r. Replies Command.Replay bytes.now r.status r.text.items) }
@@ -168,7 +169,8 @@ fn replayed(alloc: Global, bytes: &[u8]) -> Result<Reply, NoReply>
     })
 }
 
-/// The record of version 2 that tells the lawful history of the record that the bytes spell, or where that history differs.
+/// Returns the record of version 2 with the lawful history of the record that the bytes spell, or
+/// the first difference of its history.
 fn renewed(alloc: Global, bytes: &[u8]) -> Result<Reply, NoReply>
     ensures accepted { OnOk result (IsTextVerdict Command.Renew bytes.now None) }
     ensures verdict { IfOk result (λ r. Replies Command.Renew bytes.now r.status r.text.items) }
@@ -183,8 +185,8 @@ fn renewed(alloc: Global, bytes: &[u8]) -> Result<Reply, NoReply>
     }
 }
 
-/// The capture file of what the record that the bytes spell delivers to the peer, where its history is the lawful one, or
-/// where it differs.
+/// Returns the capture file of what the record that the bytes spell delivers to `peer`, or the
+/// first difference of a history that isn't the lawful one.
 fn captured(alloc: Global, peer: u32, bytes: &[u8]) -> Result<Reply, NoReply>
     requires peer { peer < 2 }
     requires short { length bytes.now < 2 ^ 32 }
@@ -200,7 +202,7 @@ fn captured(alloc: Global, peer: u32, bytes: &[u8]) -> Result<Reply, NoReply>
     }
 }
 
-/// The listing of the image that the bytes are.
+/// Returns the listing of the image `bytes`.
 fn listed(alloc: Global, bytes: &[u8]) -> Result<Vec<u8>, NoReply>
     ensures accepted { OnOk result (IsTextVerdict Command.Dump bytes.now None) }
     ensures listing { IfOk result (λ text. IsListing bytes.now text.items) }
@@ -213,7 +215,7 @@ fn listed(alloc: Global, bytes: &[u8]) -> Result<Vec<u8>, NoReply>
     }
 }
 
-/// The record of the schedule of ports that the bytes spell.
+/// Returns the record of the schedule of ports that the bytes spell.
 fn sampled(alloc: Global, bytes: &[u8]) -> Result<Vec<u8>, NoReply>
     ensures accepted { OnOk result (IsTextVerdict Command.Ports bytes.now None) }
     ensures record { IfOk result (λ text. IsPortRecord bytes.now text.items) }
@@ -227,7 +229,7 @@ fn sampled(alloc: Global, bytes: &[u8]) -> Result<Vec<u8>, NoReply>
     }
 }
 
-/// The output of the run of a bridge that the bytes spell.
+/// Returns the output of the bridge run that the bytes spell.
 fn bridged(alloc: Global, bytes: &[u8]) -> Result<Vec<u8>, NoReply>
     ensures accepted { OnOk result (IsTextVerdict Command.Bridge bytes.now None) }
     ensures output { IfOk result (λ text. IsBridged bytes.now text.items) }
@@ -241,7 +243,7 @@ fn bridged(alloc: Global, bytes: &[u8]) -> Result<Vec<u8>, NoReply>
     }
 }
 
-/// The configuration space of this peer's device, in the world that the bytes spell.
+/// Returns the configuration space of the peer's device in the world that the bytes spell.
 fn configured(alloc: Global, peer: u32, bytes: &[u8]) -> Result<Vec<u8>, NoReply>
     ensures accepted { OnOk result (IsTextVerdict (Command.Config peer) bytes.now None) }
     ensures configuration { IfOk result (λ text. IsConfigurationOf bytes.now text.items) }
@@ -254,7 +256,7 @@ fn configured(alloc: Global, peer: u32, bytes: &[u8]) -> Result<Vec<u8>, NoReply
     Ok(configuration(alloc, &scenario.geometry, scenario.wiring)?)
 }
 
-/// What the lawful history of a load of so many frames counts.
+/// Returns the five lines that count the lawful history of a load of `count` frames.
 fn loaded(alloc: Global, count: u32) -> Result<Vec<u8>, NoMemory>
     requires some { 1 ≤ count }
     requires few { count ≤ 80000 }
@@ -270,7 +272,7 @@ fn loaded(alloc: Global, count: u32) -> Result<Vec<u8>, NoMemory>
     Ok(summary(alloc, count, &counts)?)
 }
 
-/// The reply Done with this text.
+/// Returns the reply Done with `text`.
 fn done(text: Vec<u8>) -> Reply
     ensures { result ≡ record { status = Status.Done; text = text; ran = None } }
 {
@@ -281,7 +283,7 @@ fn done(text: Vec<u8>) -> Reply
     }
 }
 
-/// The reply Differs with this text.
+/// Returns the reply Differs with `text`.
 fn differs(text: Vec<u8>) -> Reply
     ensures { result ≡ record { status = Status.Differs; text = text; ran = None } }
 {
@@ -292,7 +294,7 @@ fn differs(text: Vec<u8>) -> Reply
     }
 }
 
-/// The reply Done with the running record of peers.
+/// Returns the reply Done with the running record of peers.
 fn ran(reply: RunReply) -> Reply
     ensures { result ≡ record { status = Status.Done; text = reply.text; ran = Some reply.ran } }
 {
@@ -304,7 +306,7 @@ fn ran(reply: RunReply) -> Reply
     }
 }
 
-/// The reply of a form to the bytes that it read.
+/// Returns the reply of a command to the bytes that it read.
 fn reply_for<R: Threads + Sync, G: Gate + Sync>(
     rt: &R,
     alloc: Global,
@@ -334,7 +336,8 @@ fn reply_for<R: Threads + Sync, G: Gate + Sync>(
     }
 }
 
-/// What is due to a form and to the bytes that it read, which aren't too long.
+/// Returns the reply to the bytes that a command read, or the reply that refuses them. Requires
+/// that the bytes are within the command's limit.
 pub(crate) fn reply_to<R: Threads + Sync, G: Gate + Sync>(
     rt: &R,
     alloc: Global,

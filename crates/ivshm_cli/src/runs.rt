@@ -17,24 +17,24 @@ use scenario_text::{Scenario, not_running};
 use std::alloc::Global;
 use std::thread::Threads;
 
-/// What is left of peers that ran: the words that they shared, and the pass of these words, which has the list of the accesses of
-/// each peer.
+/// The words that running peers shared, and the pass of these words with the access list of each
+/// peer.
 #[derive(Drop)]
 pub struct Ran {
-    /// The words of the region, made for the scenario that was read.
+    /// The words of the region of the scenario read.
     pub words: Words,
     /// The pass, with all peers.
     pub pass: Pass,
 }
 
-/// The running record, and what is left of its peers.
+/// The running record, and the words and pass of its peers.
 #[derive(Drop)]
 pub(crate) struct RunReply {
     pub(crate) text: Vec<u8>,
     pub(crate) ran: Ran,
 }
 
-/// The scenario that the bytes spell, in running form.
+/// Returns the scenario in running form that the bytes spell.
 fn running_in(alloc: Global, bytes: &[u8]) -> Result<Scenario, NoReply>
     ensures spelled { IfOk result (λ scenario. IsSpelling (world_of scenario) bytes.now) }
     ensures running { IfOk result (λ scenario. first_break (world_of scenario) ≡ None) }
@@ -48,7 +48,8 @@ fn running_in(alloc: Global, bytes: &[u8]) -> Result<Scenario, NoReply>
     Ok(scenario)
 }
 
-/// Runs the peers of the scenario that the bytes spell, each in a thread of its own: their running record, and what is left of them.
+/// Runs the peers of the scenario that the bytes spell, each in a thread of its own. Returns their
+/// running record, and their words and pass.
 pub(crate) fn run<R: Threads + Sync, G: Gate + Sync>(
     rt: &R,
     alloc: Global,

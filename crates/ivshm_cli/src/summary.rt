@@ -1,42 +1,43 @@
-//! The text of a load: what its history counts.
+//! The text of a load: the counts of its history.
 
 ghost use Rattle.std.specs.Prelude.{◌≡◌, ◌+◌, ◌++◌, IfOk, OnOk, string_bytes};
 ghost use Rattle.lawful_history.specs.Sides.{world_of};
 ghost use Rattle.ivshm_cli.specs.Load.{index_word, number_line};
 ghost use Rattle.ivshm_cli.specs.Counted.{HasCounted, with_line, lines_of_counts, none_of};
 
+use ivs_base::NoMemory;
 use lawful_history::Line;
 use scenario_text::Scenario;
 use sim_world::{Listener, Stopped};
 use std::alloc::{AllocError, Global};
 
-/// What was counted of a history, and what peer 0 wrote last to a word.
+/// The counts of a history, and the last value that peer 0 wrote to one word.
 #[derive(Drop)]
 pub(crate) struct Counts {
-    /// The word.
+    /// The word's number.
     pub(crate) word: u32,
-    /// How many frames were published.
+    /// The number of frames published.
     pub(crate) accepted: usize,
-    /// How many frames were read whole.
+    /// The number of frames read in full.
     pub(crate) delivered: usize,
-    /// How many values were refused.
+    /// The number of values refused.
     pub(crate) refused: usize,
-    /// What peer 0 wrote to the word last, 0 where nothing.
+    /// The last value that peer 0 wrote to the word, or 0.
     pub(crate) last: u32,
 }
 
-/// One more. More lines than a usize counts can't be held.
-fn one_more(count: usize) -> Result<usize, Stopped>
+/// Returns `count + 1`, or `NoMemory`: no more lines than a usize counts fit into memory.
+fn one_more(count: usize) -> Result<usize, NoMemory>
     ensures { IfOk result (λ more. more ≡ count + 1) }
 {
     match count.checked_add(1) {
         Some(more) => Ok(more),
-        None => Err(Stopped::NoMemory),
+        None => Err(NoMemory),
     }
 }
 
 impl Counts {
-    /// Nothing was counted of the history of this scenario.
+    /// Returns the counts of an empty history of this scenario.
     pub(crate) fn none(scenario: &Scenario) -> Counts
         ensures { result ≡ none_of (world_of scenario.now) }
     {
@@ -50,7 +51,7 @@ impl Counts {
     }
 
     /// Counts a line.
-    fn count(&mut self, line: &Line) -> Result<(), Stopped>
+    fn count(&mut self, line: &Line) -> Result<(), NoMemory>
         ensures { OnOk result (self.new ≡ with_line self.old line.now) }
     {
         match line {
@@ -68,7 +69,7 @@ impl Counts {
     }
 
     /// Counts lines.
-    fn count_all(&mut self, lines: &[Line]) -> Result<(), Stopped>
+    fn count_all(&mut self, lines: &[Line]) -> Result<(), NoMemory>
         ensures { OnOk result (HasCounted self.old self.new lines.now) }
     {
         for line in lines {
@@ -81,19 +82,23 @@ impl Counts {
 impl Listener for Counts {
     ghost received = { HasCounted };
 
+    // they never stop the play
+    ghost stopped_after = { λ _began _now _lines. ⊥ };
+
     fn take_lines(&mut self, lines: &[Line]) -> Result<(), Stopped> {
-        self.count_all(lines)
+        self.count_all(lines)?;
+        Ok(())
     }
 }
 
-/// The word with the flags and the index of peer 0's available ring.
+/// Returns the number of the word that holds the flags and the index of peer 0's available ring.
 fn index_word(scenario: &Scenario) -> u32
     ensures { result ≡ index_word (world_of scenario.now) }
 {
     scenario.geometry.section_start(0) + scenario.queue.avail_word()
 }
 
-/// Puts the line of a number last.
+/// Appends the line of a number.
 #[tactic(auto, unfolding(crate::specs::Load::number_line))]
 fn put_number(text: &mut String, name: &str, number: usize) -> Result<(), AllocError>
     ensures { OnOk result (string_bytes text.new ≡ string_bytes text.old ++ number_line name.now number) }
@@ -101,7 +106,7 @@ fn put_number(text: &mut String, name: &str, number: usize) -> Result<(), AllocE
     writeln!(text, "{name} {number}")
 }
 
-/// The five lines of a load of so many frames, of whose history this was counted.
+/// Returns the five lines of a load of `count` frames, with the counts of its history.
 pub(crate) fn summary(alloc: Global, count: u32, counts: &Counts) -> Result<Vec<u8>, AllocError>
     ensures { IfOk result (λ text. text.items ≡ lines_of_counts count counts.now) }
 {

@@ -1,4 +1,4 @@
--- Lines that keep the memory law wherever they stand.
+-- Lines that satisfy the memory law after all lines.
 use Rattle.std.proofs.Common.{◌≡◌, ℕ, List, [], ◌∷◌, ◌++◌, refl, ◌∙◌, ap, append_assoc}
 use Rattle.std.specs.Prelude.{map, reverse}
 use Rattle.std.specs.List.{AllByRecursion}
@@ -11,7 +11,7 @@ use Rattle.lawful_history.specs.Memory.{MemoryEffect, Gave, Stored, Denied, Set,
 use Rattle.lawful_history.specs.Memory as touch
 use Rattle.lawful_history.specs.EventRecords.{mark_line}
 
--- a line that keeps the law after any lines
+-- A line that satisfies the law after all lines.
 abbrev pub Harmless : Shape → MemoryEffect → Type 0
 Harmless g (Gave word value) = ⊥
 Harmless g (Stored peer word value) = MayWrite g peer word
@@ -32,7 +32,7 @@ harmless_law g (line ∷ lines) past h law =
     let e : reverse (line ∷ lines) ++ past ≡ reverse lines ++ (line ∷ past) = ap (λ r. r ++ past) (reverse-append (line ∷ []) lines) ∙ append_assoc (reverse lines) (line ∷ []) past in
     rw e (harmless_law g lines (line ∷ past) h.1 (remembers g (memory_effect_of line) past h.0, law))
 
--- a mark says nothing of a word
+-- A mark has no effect on a word.
 pub mark_apart : (peer : ℕ) (mark : Mark) → memory_effect_of (mark_line peer mark) ≡ touch.Apart
 mark_apart peer (Saw value) = refl
 mark_apart peer (Reclaim count) = refl

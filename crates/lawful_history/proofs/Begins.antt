@@ -1,4 +1,4 @@
--- Of two lawful histories one begins the other where one is cut.
+-- Of two lawful histories one begins the other if one is cut.
 use Rattle.std.proofs.Common.{◌≡◌, List, [], ◌∷◌, ◌++◌, refl, sym, ◌∙◌, ap, append_assoc}
 use Rattle.std.specs.Prelude.{reverse}
 use Rattle.std.proofs.lemmas.List.{reverse-append}
@@ -10,7 +10,7 @@ use Rattle.lawful_history.specs.EventRecords.{lines_of}
 use Rattle.lawful_history.specs.Lawful.{HasOneHistory}
 use Rattle.lawful_history.specs.History.{HistoryState, entry_of, after_event, run, initial_state, history, HistoryIsLawful, CutHistoriesBegin}
 
--- what happens doesn't depend on the acts to come
+-- The effect of events doesn't depend on the acts to come.
 run_same : (world : World) (acts : List Act) (events : List Event) (moment : HistoryState) → run (record world { acts = acts }) events moment ≡ run world events moment
 run_same world acts [] moment = refl
 run_same world acts (event ∷ events) moment = run_same world acts events (after_event world moment event)
@@ -19,7 +19,7 @@ pub run_on : (world : World) (events more : List Event) (moment : HistoryState) 
 run_on world [] more moment = refl
 run_on world (event ∷ events) more moment = run_on world events more (after_event world moment event)
 
--- the lines only grow
+-- The lines only grow.
 pub grows : (world : World) (events : List Event) (moment : HistoryState) → (new : List Line) × ((run world events moment).past ≡ new ++ moment.past)
 grows world [] moment = ([], refl)
 grows world (event ∷ events) moment =

@@ -1,4 +1,4 @@
--- The history that is computed is lawful.
+-- The computed history is lawful.
 use Rattle.std.proofs.Common.{◌≡◌, ◌≢◌, ℕ, ◌+◌, ◌*◌, ◌/◌, ◌%◌, ◌<◌, ◌≤◌, Bool, true, false, List, [], ◌∷◌, ◌++◌, length, refl, sym, ◌∙◌, ap, subst, arith, append_assoc, replicate, inl, inr, ◌⊎◌, length-set}
 use Rattle.std.specs.Prelude.{◌==◌, ◌&&◌, ◌||◌, nat_lt, nat_le, if◌then◌else◌, Option, Some, None, map, reverse}
 use Rattle.std.specs.List.{flat_map, AllByRecursion}
@@ -46,7 +46,7 @@ all_harmless : (g : Shape) (lines others : List Line) → AllHarmless g lines �
 all_harmless g [] others first rest = rest
 all_harmless g (line ∷ lines) others first rest = (first.0, all_harmless g lines others first.1 rest)
 
--- The lines of the devices say nothing of a word
+-- The lines of the devices have no effect on a word
 
 arrival_harmless : (g : Shape) (b : Bool) (p vector : ℕ) → Harmless g (memory_effect_of (if b then line.Lost p vector else line.Interrupt p vector))
 arrival_harmless g true p vector = tt
@@ -88,9 +88,9 @@ device_harmless world older losses (DeviceAccessed p a) went = (reached_harmless
 device_harmless world older losses (InterruptDropped p) went = tt
 device_harmless world older losses (InterruptRepeated p vector) went = (tt, tt)
 
--- Steps keep the memory law
+-- Steps satisfy the memory law
 
--- the lines of an access that needs no value keep the law
+-- The lines of an access without a value satisfy the law.
 do_harmless : (world : World) (p : ℕ) (a : Access) (marks : List Mark) (dev : List Line) → MayDo (config_of world p) a → AllHarmless world.geometry dev →
     AllHarmless world.geometry (step_lines p (step_of a 0 marks) dev)
 do_harmless world p (access.Read word) marks dev may harmless = absurd may
@@ -99,7 +99,7 @@ do_harmless world p (access.State state) marks dev may harmless = (tt, all_harml
 do_harmless world p (access.Ring target vector) marks dev may harmless = (tt, all_harmless world.geometry dev _ harmless (marks_harmless world.geometry p marks))
 do_harmless world p access.Nothing marks dev may harmless = all_harmless world.geometry dev _ harmless (marks_harmless world.geometry p marks)
 
--- a read that gives what was written last keeps it
+-- A read of the last value written satisfies the law.
 read_law : (g : Shape) (p word : ℕ) (others past : List Line) → AllHarmless g others → MemoryLaw g past → MemoryLaw g (reverse (line.Read p word (last_write past word) ∷ others) ++ past)
 read_law g p word others past harmless law =
     let first = line.Read p word (last_write past word) in
@@ -107,7 +107,7 @@ read_law g p word others past harmless law =
     ap (λ r. r ++ past) (reverse-append (first ∷ []) others) ∙ append_assoc (reverse others) (first ∷ []) past in
     rw e (harmless_law g others (first ∷ past) harmless (refl, law))
 
--- what a storm does, as a call may do it
+-- A step of a storm, as an access of a call.
 pub storm_does : (world : World) (p kind place value : ℕ) (b c d : Bool) → (kind % 4 == 0) ≡ b → (kind % 4 == 1) ≡ c → (kind % 4 == 2) ≡ d → 0 < world.geometry.out → 0 < data_area_start world.queue / 4 →
     data_area_start world.queue / 4 ≤ world.geometry.out → (P : Access → Type 0) →
     ((word : ℕ) → section_start world.geometry p ≤ word → word < section_start world.geometry p + world.geometry.out → P (access.Write word value)) → ((state : ℕ) → P (access.State state)) →
@@ -119,7 +119,7 @@ storm_does world p kind place value false true d is is' is'' some ring within P 
 storm_does world p kind place value false false true is is' is'' some ring within P writes states rings = rw (is, is', is'') (states _)
 storm_does world p kind place value false false false is is' is'' some ring within P writes states rings = rw (is, is', is'') (rings _ _)
 
--- the ring part has a word, and is smaller than the section
+-- The descriptors and rings have a word, and are shorter than the section.
 pub ring_words : (q : Sizes) → IsQueue q → (4 ≤ data_area_start q) × (8 * data_area_start q < q.out)
 ring_words q is = let b = bounds q is in let least = b.size_least in (omega arith, b.rings)
 
@@ -141,7 +141,7 @@ driven_law world p Waits dev past is harmless law = harmless_law world.geometry 
 driven_law world p (Chooses auto) dev past is harmless law = harmless_law world.geometry (line.Idle p ∷ dev) past (tt, harmless) law
 driven_law world p (Storms x) dev past is harmless law = harmless_law world.geometry (step_lines p (storm_step world p x) dev) past (storm_harmless world p (draw (next_number x)) (draw (next_number (next_number x))) (draw (next_number (next_number (next_number x)))) dev is harmless) law
 
--- a turn by which a call in reach goes on keeps the law
+-- A turn of a call with permitted accesses satisfies the law.
 turn_law : (world : World) (p : ℕ) (driver : Driver) (tree : CallTree) (dev past : List Line) → IsWorld world → StaysInReach (config_of world p) tree → AllHarmless world.geometry dev → MemoryLaw world.geometry past →
     MemoryLaw world.geometry (reverse (turn_lines p (step_by world p driver tree past) dev) ++ past)
 turn_law world p driver Ended dev past is stays harmless law = driven_law world p driver dev past is harmless law
@@ -150,7 +150,7 @@ turn_law world p driver (Reads word marks rest) dev past is stays harmless law =
     let v = last_write past word in
     read_law world.geometry p word (dev ++ map (mark_line p) (marks v)) past (all_harmless world.geometry dev _ harmless (marks_harmless world.geometry p (marks v))) law
 
--- an access of its own accord keeps it: a write is denied exactly where it is forbidden
+-- An access outside a call satisfies the law: a write is denied exactly if it isn't permitted.
 either_in : (own own_end table common_end word : ℕ) → ((nat_le own word && nat_lt word own_end) || (nat_le table word && nat_lt word common_end)) ≡ true →
     ((own ≤ word) × (word < own_end)) ⊎ ((table ≤ word) × (word < common_end))
 either_in own own_end table common_end word is = grind (arith, nat_tests)
@@ -184,18 +184,19 @@ acted_law world p (access.State state) dev past harmless law = harmless_law worl
 acted_law world p (access.Ring target vector) dev past harmless law = harmless_law world.geometry (line.Doorbell p target vector ∷ dev ++ []) past (tt, all_harmless world.geometry dev [] harmless tt) law
 acted_law world p access.Nothing dev past harmless law = harmless_law world.geometry (dev ++ []) past (all_harmless world.geometry dev [] harmless tt) law
 
--- Calls that may be given stay in reach
+-- Permitted calls have permitted accesses only
 
 pub has_sections : (world : World) (p : ℕ) → IsWorld world → HasSections (config_of world p)
 has_sections world p is = record { queue = is.queue; words = is.out }
 
--- the frames of an automatic peer may be offered
+-- The frames of an automatic end may be offered.
 abbrev pub AreGiven : EndConfig → Driver → Type 0
 AreGiven config Waits = Unit {0}
 AreGiven config (Chooses auto) = AllByRecursion (λ frame. IsPermittedCall config (Offer frame)) auto.frames
 AreGiven config (Storms x) = Unit {0}
 
--- what is known of a peer: its open call stays in reach, and the calls to come may be given
+-- The invariant of a peer: its open call has permitted accesses only, and the calls to come are
+-- permitted.
 pub record IsFit (config : EndConfig) (peer : Peer) : Type 0 where
   pub stays : StaysInReach config peer.left
   pub given : AllByRecursion (IsPermittedCall config) peer.waiting
@@ -269,13 +270,13 @@ cut_given config Waits given = tt
 cut_given config (Chooses auto) given = given
 cut_given config (Storms x) given = tt
 
--- what is known of a moment
+-- The invariant of a moment.
 pub record Good (world : World) (moment : HistoryState) : Type 0 where
   pub law : MemoryLaw world.geometry moment.past
   pub fits : (p : ℕ) → IsFit (config_of world p) (peer_at moment p)
   pub count : length moment.peers ≡ world.geometry.peers
 
--- the peer of an event after it, and the others
+-- The peer of an event after it, and the others.
 pub peer_same : (world : World) (moment : HistoryState) (event : Event) → event_peer event < length moment.peers → peer_at (after_event world moment event) (event_peer event) ≡ peer_after world moment event
 peer_same world moment event below = get_or-set_same moment.peers (event_peer event) (peer_after world moment event) at_start below
 
@@ -313,7 +314,7 @@ peer_fits reach world peer past (DeviceAccessed p a) is there fit = fit
 peer_fits reach world peer past (InterruptDropped p) is there fit = fit
 peer_fits reach world peer past (InterruptRepeated p vector) is there fit = fit
 
--- what holds of each peer holds after an event
+-- A property of each peer is a property after an event.
 pub stays_on : (P : ℕ → Peer → Type 0) (world : World) (moment : HistoryState) (event : Event) → event_peer event < length moment.peers → P (event_peer event) (peer_after world moment event) →
     (q : ℕ) (b : Bool) → (event_peer event == q) ≡ b → P q (peer_at moment q) → P q (peer_at (after_event world moment event) q)
 stays_on P world moment event below here q true is there =
@@ -331,12 +332,12 @@ good_on reach world moment event is there good =
       count = length-set moment.peers (event_peer event) (peer_after world moment event) ∙ good.count;
     }
 
--- the entries of events from a moment on
+-- The event records of events from a moment on.
 abbrev entries_of : World → List Event → HistoryState → List EventRecord
 entries_of world [] moment = []
 entries_of world (event ∷ events) moment = entry_of world moment event ∷ entries_of world events (after_event world moment event)
 
--- what is known of them
+-- The facts of these event records.
 record Found (world : World) (events : List Event) (moment : HistoryState) : Type 0 where
   scheduled : map event_of (entries_of world events moment) ≡ events
   owners : AllByRecursion (λ entry. owner entry < world.geometry.peers) (entries_of world events moment)
@@ -347,12 +348,12 @@ record Found (world : World) (events : List Event) (moment : HistoryState) : Typ
 lines_go : (s new : List Line) (past all : List Line) → reverse new ++ (reverse s ++ past) ≡ all → reverse (s ++ new) ++ past ≡ all
 lines_go s new past all is = ap (λ r. r ++ past) (reverse-append s new) ∙ append_assoc (reverse new) (reverse s) past ∙ is
 
--- the peer of a moment, and what is kept of it
+-- The peer of a moment, and its stored state.
 record Keeps (moment : HistoryState) (q : ℕ) (peer : Progress) : Type 0 where
   is : peer_at moment q ≡ peer_of_progress peer
   within : IsWithin peer
 
--- the entry of an event of the peer itself
+-- The event record of an event of the peer itself.
 own_event : (world : World) (moment : HistoryState) (event : Event) (peer : Progress) → event_peer event < length moment.peers → Keeps moment (event_peer event) peer →
     (mid : Progress) × EventStep world (event_peer event) peer event (step_of_event world moment event) mid
     × Keeps (after_event world moment event) (event_peer event) (noted mid (entry_of world moment event))
@@ -365,7 +366,7 @@ own_event world moment event peer below keeps =
     × IsWithin (noted mid (record { event = event; went = step_in world x moment.past event; device = device_lines world moment.past moment.losses event (step_in world x moment.past event) }))) (sym keeps.is) on in
     (here.0, here.1, record { is = peer_same world moment event below ∙ here.2; within = here.3 })
 
--- the entry of an event and those after it, for a peer
+-- The event record of an event and those after it, for a peer.
 serves_from : (world : World) (moment : HistoryState) (event : Event) (others : List EventRecord) (q : ℕ) (peer : Progress) → event_peer event < length moment.peers → Keeps moment q peer →
     ((next : Progress) → Keeps (after_event world moment event) q next → (end : Progress) × IsCallSequence world q next (own q others) end) → (b : Bool) → (event_peer event == q) ≡ b →
     (end : Progress) × IsCallSequence world q peer (if b then entry_of world moment event ∷ own q others else own q others) end
@@ -378,7 +379,7 @@ serves_from world moment event others q peer below keeps rest true is =
 serves_from world moment event others q peer below keeps rest false is =
     rest peer (record { is = peer_other world moment event q (is_other (event_peer event) q is) ∙ keeps.is; within = keeps.within })
 
--- the entries of events from a moment on are a peer's calls in their order
+-- The event records of events from a moment on are a peer's calls in order.
 served : (world : World) (events : List Event) (moment : HistoryState) (q : ℕ) (peer : Progress) → AllByRecursion (IsPermittedEvent world) events → length moment.peers ≡ world.geometry.peers → Keeps moment q peer →
     (end : Progress) × IsCallSequence world q peer (own q (entries_of world events moment)) end
 served world [] moment q peer there count keeps = (peer, refl)

@@ -1,4 +1,4 @@
--- A scenario's sessions are few: each event writes State once at most.
+-- The number of a scenario's sessions is bounded: each event writes State at most once.
 use Rattle.std.proofs.Common.{◌≡◌, ℕ, ◌+◌, ◌<◌, ◌≤◌, ◌^◌, Bool, true, false, List, [], ◌∷◌, ◌++◌, length, refl, ap, arith}
 use Rattle.std.specs.Prelude.{nat_lt, if◌then◌else◌, Option, Some, None, map, reverse}
 use Rattle.std.proofs.lemmas.List.{reverse-append, length-append, length-replicate}
@@ -21,7 +21,7 @@ use Rattle.lawful_history.specs.Device.{devices_of, device_events, arrival, arri
 use Rattle.lawful_history.specs.Sessions.{writes_state, opened_in}
 use Rattle.lawful_history.specs.History.{HistoryState, entry_of, step_of_event, after_event, run, initial_state}
 
--- How often lines open a session
+-- The number of sessions that lines open
 
 one_more : (b : Bool) (n m k : ℕ) → n ≡ m + k → (if b then n + 1 else n) ≡ (if b then m + 1 else m) + k
 one_more true n m k is = omega arith
@@ -42,7 +42,7 @@ opened_reverse p (x ∷ a) =
     let rest = opened_reverse p a in
     let here = opened_cons p x a in omega arith
 
--- Lines that open none
+-- Lines that open no session
 
 abbrev OpensNone : ℕ → List Line → Type 0
 OpensNone p lines = opened_in lines p ≡ 0
@@ -108,7 +108,7 @@ none_marks : (p q : ℕ) (marks : List Mark) → OpensNone p (map (mark_line q) 
 none_marks p q [] = refl
 none_marks p q (mark ∷ marks) = none_mark p q mark (map (mark_line q) marks) (none_marks p q marks)
 
--- The lines of an event open one at most
+-- The lines of an event open at most one session
 
 at_most_one : (b : Bool) → (if b then 0 + 1 else 0) ≤ 1
 at_most_one true = omega arith
@@ -161,7 +161,7 @@ one_event p world moment event =
     let one = one_by p event (step_of_event world moment event) (entry_of world moment event).device
     (none_device p world moment.past moment.losses event (step_of_event world moment event)) in omega arith
 
--- so many events open no more sessions
+-- The number of sessions opened is at most the number of events.
 pub opened_run : (p : ℕ) (world : World) (events : List Event) (moment : HistoryState) → opened_in (run world events moment).past p ≤ opened_in moment.past p + length events
 opened_run p world [] moment = omega arith
 opened_run p world (event ∷ events) moment =
@@ -183,7 +183,7 @@ count_is (a ∷ acts) =
     let here = cost_is a in
     let rest = count_is acts in omega arith
 
--- after each beginning of a scenario's schedule the number of a peer's sessions has 32 bits
+-- After each beginning of a scenario's schedule the number of a peer's sessions has 32 bits.
 pub sessions_few : (world : World) (events more : List Event) → IsWorld world → schedule world.acts ≡ events ++ more → (p : ℕ) → opened_in (run world events (initial_state world)).past p < 2 ^ 32
 sessions_few world events more is all p =
     let opened = opened_run p world events (initial_state world) in

@@ -1,4 +1,4 @@
--- What the computed history keeps of a peer goes on as the order of its calls does.
+-- The stored states of the computed history follow the order of a peer's calls.
 use Rattle.std.proofs.Common.{◌≡◌, ℕ, zero, suc, ◌+◌, ◌≤◌, Bool, true, false, List, [], ◌∷◌, length, drop, refl, sym, ◌∙◌, ap, subst, arith, inl, inr}
 use Rattle.std.specs.Prelude.{◌&&◌, not, nat_le, if◌then◌else◌, Option, Some, None, slice_get}
 use Rattle.std.proofs.lemmas.List.{drop-append-le, length-append}
@@ -21,7 +21,7 @@ use Rattle.lawful_history.specs.Peers.{Auto, Driver, Chooses, Peer, with_call_by
 use Rattle.lawful_history.specs.Order.{Chooser, Nobody, TheRule, TheStorm, chooser, queued_with, queued_since_reset, with_frame, without_accepted, without_all_accepted, frames_left, with_delivered, with_all_delivered, delivered_in, Progress, chooses, chooses_by, chosen_next, queued_or_chosen, begins_by, begins, goes_to, IdleStep, CallStep, IsMade, cut_call, reset_progress, noted}
 use Rattle.lawful_history.specs.History.{driven_step, driven, step_by, moved_by, may_write, acted_step, driver_of, peer_of_progress, IsWithin, GoesOnInOrder, PeersKeepOrder}
 
--- The calls that wait
+-- The waiting calls
 
 drop_none : (calls : List Call) (n : ℕ) → slice_get calls n ≡ None → drop n calls ≡ []
 drop_none [] zero is = refl
@@ -37,7 +37,7 @@ drop_some (first ∷ calls) (suc n) call is = drop_some calls n call is
 
 -- The call that a turn begins
 
--- an Offer or a Poll is chosen in RUN alone
+-- An Offer or a Poll is chosen only in RUN.
 offers_in_run : (b : Bool) (anew offer finished : Bool) (frames : List (List ℕ)) (frame : List ℕ) →
     (if finished then IsFinished else if not b then ChoosesTick else if anew then first_or_poll frames else if offer then ChoosesPoll else ChoosesTick) ≡ ChoosesOffer frame → b ≡ true
 offers_in_run true anew offer finished frames frame is = refl
@@ -50,7 +50,7 @@ polls_in_run true anew offer finished frames is = refl
 polls_in_run false anew offer true frames is = absurd (cc)
 polls_in_run false anew offer false frames is = absurd (cc)
 
--- a peer that is kept, with this choice and this round
+-- The stored state of a peer, with this choice and this round.
 abbrev with_rule : EndConfig → Progress → ℕ → Call → Round → Peer
 with_rule config peer expected call round = record {
   end = peer.end;
@@ -59,7 +59,7 @@ with_rule config peer expected call round = record {
   driver = Chooses (record { frames = frames_left peer.past; expected = expected; delivered = delivered_in peer.past; round = round });
 }
 
--- a choice is kept as its round
+-- A choice is stored as its round.
 chosen_kept : (config : EndConfig) (peer : Progress) (expected : ℕ) (call : Call) (round : Round) → chooser peer.past ≡ TheRule expected →
     round_since (Some (record { call = call; phase = peer.end.handshake.phase; was_reset = false })) ≡ round →
     with_rule config peer expected call round ≡ peer_of_progress (chooses config peer call)
@@ -163,7 +163,7 @@ driver_kept frames delivered before generator (TheRule expected) marks =
     ap (λ (a : Auto). Chooses a) (all_counted (record { frames = frames; expected = expected; delivered = delivered; round = round_since before }) marks)
 driver_kept frames delivered before generator TheStorm marks = refl
 
--- the driver goes on with a step of a call
+-- The driver after a step of a call.
 stepped_kept : (peer : Progress) (step : Step) (left : CallTree) →
     record (peer_of_progress peer) { end = end_after peer.end step; left = left; driver = driver_after (peer_of_progress peer).driver step.marks }
     ≡ record {
@@ -176,7 +176,7 @@ stepped_kept peer step left =
     ap (λ (d : Driver). record { end = end_after peer.end step; left = left; waiting = drop peer.begun (queued_since_reset peer.past); driver = d })
     (driver_kept (frames_left peer.past) (delivered_in peer.past) peer.before peer.generator (chooser peer.past) step.marks)
 
--- a turn that this driver takes alone
+-- A turn of this driver without a call.
 abbrev IdlesOn : World → ℕ → Progress → List Line → Chooser → Driver → Type 0
 IdlesOn world p peer device c driver =
     (mid : Progress) × IdleStep world p peer c (driven_step world p driver) mid
@@ -216,7 +216,7 @@ moves_on world p peer past device (Reads word marks rest) within =
 
 -- The other events
 
--- a call that is asked for waits, but a frame for an automatic peer is one of its frames
+-- A queued call waits, but a frame for an automatic end is one of its frames.
 asked_kept : (peer : Progress) (c : Chooser) (call : Call) (calls : List Call) (frames : List (List ℕ)) → peer.begun ≤ length calls →
     with_call_by (record { end = peer.end; left = peer.left; waiting = drop peer.begun calls; driver = driver_of frames (delivered_in peer.past) peer.before peer.generator c })
     (driver_of frames (delivered_in peer.past) peer.before peer.generator c) call
@@ -271,7 +271,7 @@ acted_made world p (access.State state) past = refl
 acted_made world p (access.Ring target vector) past = refl
 acted_made world p access.Nothing past = refl
 
--- a turn of a peer that is kept
+-- A turn of a peer with a stored state.
 turn_kept : (world : World) (p : ℕ) (peer : Progress) (past device : List Line) → IsWithin peer → GoesOnInOrder world peer past (TurnTaken p) device
 turn_kept world p peer past device within =
     let config = config_of world p in

@@ -1,4 +1,5 @@
--- What holds of each frame that an automatic peer has left holds of the one that it offers, and of those that are left after any marks.
+-- A property of each frame left to an automatic end is a property of the frame that it offers, and
+-- of the frames left after all marks.
 use Rattle.std.proofs.Common.{ℕ, Bool, true, false, List, [], ◌∷◌}
 use Rattle.std.specs.Prelude.{drop, nat_le, if◌then◌else◌}
 use Rattle.std.specs.List.{AllByRecursion}
@@ -8,7 +9,7 @@ use Rattle.call_grammar.specs.Steps.{Mark, Accept}
 use Rattle.call_grammar.specs.Automatic.{Round, Anew, AfterOffer, AfterPoll, Choice, ChoosesOffer, IsFinished, in_phase, choice_of}
 use Rattle.lawful_history.specs.Peers.{Auto, counted, counted_all}
 
--- it holds of the frame that is offered, if one is
+-- The property of the offered frame, if a frame is offered.
 abbrev pub HoldsOfOffer : (List ℕ → Type 0) → Choice → Type 0
 HoldsOfOffer P (ChoosesOffer frame) = P frame
 HoldsOfOffer P _ = Unit {0}

@@ -1,4 +1,4 @@
--- The marks of sessions along a history, and what a record of each version tells.
+-- The marks of sessions along a history, and the lines of a record of each version.
 use Rattle.std.proofs.Common.{◌≡◌, ℕ, Bool, true, false, List, [], ◌∷◌, ◌++◌, refl, sym, ◌∙◌, ap, subst, append_assoc}
 use Rattle.std.specs.Prelude.{◌==◌, ◌&&◌, not, cond, nat_lt, if◌then◌else◌, Option, Some, None, map, reverse}
 use Rattle.std.specs.List.{flat_map}
@@ -30,7 +30,7 @@ with_sessions-append world older (line ∷ a) b =
     with_sessions-append world (line ∷ older) a b ∙ ap (λ o. with_sessions world (line ∷ older) a ++ with_sessions world o b) (sym e) in
     ap (λ ls. marks_before world older line ++ line ∷ ls) rest ∙ sym (append_assoc (marks_before world older line) (line ∷ with_sessions world (line ∷ older) a) (with_sessions world (reverse (line ∷ a) ++ older) b))
 
--- one line more
+-- One line more.
 told_by_test : (world : World) (past : List Line) (line : Line) (b : Bool) →
     (if b then with_sessions world [] (reverse (line ∷ past)) else reverse (line ∷ past)) ≡
     (if b then with_sessions world [] (reverse past) else reverse past) ++ (if b then marks_before world past line ++ line ∷ [] else line ∷ [])
@@ -39,7 +39,7 @@ told_by_test world past line true =
     ∙ ap (λ o. with_sessions world [] (reverse past) ++ with_sessions world o (line ∷ [])) (append-nil (reverse (reverse past)) ∙ reverse-reverse past)
 told_by_test world past line false = reverse-append (line ∷ []) past
 
--- what a record tells of a history grows by what it tells of the newest line
+-- The lines of a record grow by the lines that it has for the newest line.
 pub told_in-more : (world : World) (version : ℕ) (past : List Line) (line : Line) →
     recorded_in world version (reverse (line ∷ past)) ≡ recorded_in world version (reverse past) ++ recorded_line world version past line
 told_in-more world version past line = told_by_test world past line (version == 2)
@@ -175,7 +175,7 @@ bare_entries world older losses (entry ∷ entries) rules =
     bare_append (lines_of entry) (flat_map lines_of entries) (bare_by entry.event entry.went entry.device dev)
     (bare_entries world (reverse (lines_of entry) ++ older) (losses_with entry.event losses) entries rules.1)
 
--- a lawful history has no mark of a session
+-- A lawful history has no mark of a session.
 pub lawful_is_bare : (world : World) (lines : List Line) → IsLawful world lines → without_sessions lines ≡ lines
 lawful_is_bare world lines lawful = subst IsBare lawful.1.told (bare_entries world [] (λ p. 0) lawful.0 lawful.1.device)
 

@@ -1,4 +1,4 @@
--- Each event of a scenario is one of its peers, and asks for what the peer may be given.
+-- Each event of a scenario belongs to a peer, and its call is permitted.
 use Rattle.std.proofs.Common.{◌≡◌, ℕ, zero, suc, ◌<◌, ◌≤◌, Bool, true, false, List, [], ◌∷◌, ◌++◌, refl, arith, replicate}
 use Rattle.std.specs.Prelude.{slice_get, Some, nat_lt, nat_le, ◌&&◌, ◌==◌, if◌then◌else◌, length}
 use Rattle.std.specs.List.{AllByRecursion}

@@ -1,4 +1,4 @@
--- A scenario has one lawful history at most.
+-- A scenario has at most one lawful history.
 use Rattle.std.proofs.Common.{◌≡◌, ℕ, ◌<◌, Bool, true, false, List, [], ◌∷◌, ◌++◌, refl, sym, ◌∙◌, ap, subst, append_assoc, inl, inr}
 use Rattle.std.specs.Prelude.{◌==◌, if◌then◌else◌, Option, Some, map, reverse}
 use Rattle.std.specs.List.{flat_map, AllByRecursion}
@@ -21,12 +21,12 @@ use Rattle.lawful_history.specs.Device.{device_lines, losses_with, DeviceRules}
 use Rattle.lawful_history.specs.Lawful.{IsLawfulBy, HasOneHistory}
 use Rattle.lawful_history.proofs.Owners.{is_same, own_first}
 
--- the law holds of the older lines
+-- The older lines satisfy the law.
 pub older_law : (g : Shape) (new old : List Line) → MemoryLaw g (new ++ old) → MemoryLaw g old
 older_law g [] old law = law
 older_law g (line ∷ new) old law = older_law g new old law.1
 
--- and of the first of some new lines
+-- The first of the new lines satisfies the law.
 pub first_law : (g : Shape) (past : List Line) (first : Line) (others : List Line) → MemoryLaw g (reverse (first ∷ others) ++ past) → IsConsistent g (memory_effect_of first) past
 first_law g past first others law =
     let e : reverse (first ∷ others) ++ past ≡ reverse others ++ (first ∷ past) =
@@ -34,16 +34,16 @@ first_law g past first others law =
     let now : MemoryLaw g (reverse others ++ (first ∷ past)) = rw e at law in
     (older_law g (reverse others) (first ∷ past) now).0
 
--- what a step that reads has read
+-- The value of a step that reads.
 read_is : (g : Shape) (past : List Line) (peer word value : ℕ) (others : List Line) → MemoryLaw g (reverse (line.Read peer word value ∷ others) ++ past) → value ≡ last_write past word
 read_is g past peer word value others law = first_law g past (line.Read peer word value) others law
 
--- entries with the same parts are one
+-- Event records with the same parts are equal.
 entry_is : (d d' : EventRecord) → d.event ≡ d'.event → d.went ≡ d'.went → d.device ≡ d'.device → d ≡ d'
 entry_is d d' same went device = ap (λ (e : Event). record { event = e; went = d.went; device = d.device }) same ∙
     ap (λ (w : Option Step). record { event = d'.event; went = w; device = d.device }) went ∙ ap (λ (l : List Line). record { event = d'.event; went = d'.went; device = l }) device
 
--- two steps by which a call goes on after the same lines are one
+-- Two steps of a call after the same lines are equal.
 same_goes : (g : Shape) (past : List Line) (peer : ℕ) (dev dev' : List Line) (tree : CallTree) (step step' : Step) (new new' : CallTree) → Goes tree step new → Goes tree step' new' →
     MemoryLaw g (reverse (step_lines peer step dev) ++ past) → MemoryLaw g (reverse (step_lines peer step' dev') ++ past) → (step ≡ step') × (new ≡ new')
 same_goes g past peer dev dev' Ended step step' new new' goes goes' law law' = absurd goes
@@ -82,7 +82,7 @@ same_moves world past q p dev dev' peer Ended went went' new new' m m' law law' 
 same_moves world past q p dev dev' peer (Does access marks rest) went went' new new' m m' law law' = same_goes_on world.geometry past p dev dev' peer (Does access marks rest) went went' new new' m m' law law'
 same_moves world past q p dev dev' peer (Reads word marks rest) went went' new new' m m' law law' = same_goes_on world.geometry past p dev dev' peer (Reads word marks rest) went went' new new' m m' law law'
 
--- a write that was denied and one that was made can't both keep the law
+-- A denied write and a completed one don't both satisfy the law.
 denied_or_made : (g : Shape) (past : List Line) (p word value : ℕ) (dev dev' : List Line) → MemoryLaw g (reverse (line.Denied p word ∷ dev) ++ past) →
     MemoryLaw g (reverse (line.Write p word value ∷ dev') ++ past) → ⊥
 denied_or_made g past p word value dev dev' law law' =
@@ -116,7 +116,7 @@ same_made g past p (access.State state) dev dev' went went' made made' law law' 
 same_made g past p (access.Ring target vector) dev dev' went went' made made' law law' = made ∙ sym made'
 same_made g past p access.Nothing dev dev' went went' made made' law law' = made ∙ sym made'
 
--- what comes of an event after the same lines
+-- The result of an event after the same lines.
 same_acts : (world : World) (past : List Line) (q : ℕ) (peer : Progress) (event : Event) (dev dev' : List Line) (went went' : Option Step) (new new' : Progress) →
     EventStep world q peer event went new → EventStep world q peer event went' new' →
     MemoryLaw world.geometry (reverse (lines_by event went dev) ++ past) → MemoryLaw world.geometry (reverse (lines_by event went' dev') ++ past) → (went ≡ went') × (new ≡ new')
@@ -131,18 +131,18 @@ same_acts world past q peer (DeviceAccessed p a0) dev dev' went went' new new' a
 same_acts world past q peer (InterruptDropped p) dev dev' went went' new new' a a' law law' = (a.0 ∙ sym a'.0, a.1 ∙ sym a'.1)
 same_acts world past q peer (InterruptRepeated p vector) dev dev' went went' new new' a a' law law' = (a.0 ∙ sym a'.0, a.1 ∙ sym a'.1)
 
--- the peers, where one of them is at another place
+-- The peers, after one of them changed.
 abbrev with_peer : (ℕ → Progress) → ℕ → Progress → ℕ → Progress
 with_peer peers p next q = if p == q then next else peers q
 
--- what is known of the entries to come
+-- The facts of the event records to come.
 record Follows (world : World) (past : List Line) (losses : ℕ → ℕ) (peers : ℕ → Progress) (entries : List EventRecord) : Type 0 where
   law : MemoryLaw world.geometry (reverse (flat_map lines_of entries) ++ past)
   device : DeviceRules world past losses entries
   owners : AllByRecursion (λ entry. owner entry < world.geometry.peers) entries
   calls : (p : ℕ) → p < world.geometry.peers → (end : Progress) × IsCallSequence world p (peers p) (own p entries) end
 
--- the first of them
+-- The first of these event records.
 record First (world : World) (past : List Line) (losses : ℕ → ℕ) (peers : ℕ → Progress) (entry : EventRecord) (entries : List EventRecord) : Type 0 where
   next : Progress
   acts : EventStep world (owner entry) (peers (owner entry)) entry.event entry.went next
@@ -156,7 +156,8 @@ law_splits g past entry entries law =
     ap (λ r. r ++ past) (reverse-append (lines_of entry) (flat_map lines_of entries)) ∙ append_assoc (reverse (flat_map lines_of entries)) (reverse (lines_of entry)) past in
     rw e at law
 
--- the other peers, and the peer of the first entry after it, serve the others
+-- The other peers, and the peer of the first event record after it, satisfy `IsCallSequence` for
+-- the rest.
 serves_on : (world : World) (peers : ℕ → Progress) (p q : ℕ) (next : Progress) (entry : EventRecord) (entries : List EventRecord) (b : Bool) → (p == q) ≡ b →
     ((end : Progress) × IsCallSequence world p next (own p entries) end) →
     ((end : Progress) × IsCallSequence world q (peers q) (if b then entry ∷ own q entries else own q entries) end) →
@@ -182,7 +183,7 @@ first_of_all world past losses peers entry entries f =
       };
     }
 
--- the entries of one event after the same lines
+-- The event records of one event after the same lines.
 same_entry : (world : World) (past : List Line) (losses : ℕ → ℕ) (peer : Progress) (d d' : EventRecord) (new new' : Progress) → d.event ≡ d'.event →
     EventStep world (owner d) peer d.event d.went new → EventStep world (owner d) peer d'.event d'.went new' →
     d.device ≡ device_lines world past losses d.event d.went → d'.device ≡ device_lines world past losses d'.event d'.went →

@@ -1,4 +1,4 @@
--- What a read gave is what was written last.
+-- The value of a read is the last value written.
 use Rattle.std.proofs.Common.{◌≡◌, ℕ, Bool, true, false, List, [], ◌∷◌, ◌++◌, refl, sym, ◌∙◌, ap, subst, append_assoc, inl, inr, ◌⊎◌, All}
 use Rattle.std.specs.Prelude.{◌==◌, if◌then◌else◌, reverse}
 use Rattle.std.proofs.lemmas.List.{reverse-append, reverse-reverse}
@@ -11,7 +11,7 @@ use Rattle.lawful_history.specs.Lawful.{ReadsWhatWasWritten, WritesWhereItMay}
 use Rattle.lawful_history.proofs.Owners.{is_same, is_other}
 use Rattle.lawful_history.proofs.Unique.{older_law}
 
--- the law at a line in the middle
+-- The law at a line between others.
 at_line : (g : Shape) (before after : List Line) (line : Line) → MemoryLaw g (reverse (before ++ line ∷ after)) → IsConsistent g (memory_effect_of line) (reverse before)
 at_line g before after line law =
     let e : reverse (before ++ line ∷ after) ≡ reverse after ++ (line ∷ reverse before) =
@@ -48,7 +48,7 @@ last_by older line word (inr spares) (inr none) = inr (
   spares.1 ∙ none.1,
 )
 
--- a line leaves the value that is last after it, or spares the word
+-- A line leaves the value that is last after it, or doesn't write the word.
 leaves_or_spares : (line : Line) (word before : ℕ) (t : MemoryEffect) → memory_effect_of line ≡ t → LeavesValue word (value_after t word before) line ⊎ (DoesNotWrite word line × (value_after t word before ≡ before))
 leaves_or_spares line word before (Gave w v) is = inr (λ value leaves. elim leaves [ inl e ↦ cc | inr e ↦ let same = e.1 in cc ], refl)
 leaves_or_spares line word before (Stored p w v) is = stored_by line word before p w v is (w == word) refl
@@ -56,7 +56,7 @@ leaves_or_spares line word before (Denied p w) is = inr (λ value leaves. elim l
 leaves_or_spares line word before (Set w v) is = set_by line word before w v is (w == word) refl
 leaves_or_spares line word before Apart is = inr (λ value leaves. elim leaves [ inl e ↦ cc | inr e ↦ let same = e.1 in cc ], refl)
 
--- and so after all lines
+-- The same after all lines.
 written_last : (past : List Line) (word : ℕ) → WasWrittenLast (reverse past) word (last_write past word)
 written_last [] word = inr (All-nil (DoesNotWrite word), refl)
 written_last (line ∷ older) word = last_by older line word (leaves_or_spares line word (last_write older word) (memory_effect_of line) refl) (written_last older word)

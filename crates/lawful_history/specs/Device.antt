@@ -1,5 +1,6 @@
--- The device's rules over a history: which interrupts come and where they stand, and what a device answers. The rules themselves are
--- those of `doorbell_irq` (the device's specification, PCI 3.0): what a device is, is a function of the lines that came before.
+-- The device's rules over a history: the interrupts and the positions of their lines, and the
+-- values that a device returns. The rules themselves are those of `doorbell_irq` (the device's
+-- specification, PCI 3.0): a device's state is a function of the earlier lines.
 use Rattle.std.specs.Prelude.{ℕ, ◌≡◌, ◌+◌, ◌==◌, nat_lt, if◌then◌else◌, Option, Some, None, List, [], ◌∷◌, ◌++◌, reverse}
 use Rattle.pci_space.specs.Numbers.{number_from}
 use Rattle.doorbell_irq.specs.declared.effect.Delivery.{Delivery}
@@ -12,12 +13,12 @@ use Rattle.lawful_history.specs.declared.line.Line.TheVariants as line
 use Rattle.lawful_history.specs.Schedule.{Event, CallQueued, AutoStarted, StormStarted, TurnTaken, RegionAccessed, DeviceReset, DeviceAccessed, InterruptDropped, InterruptRepeated, DeviceAccess, ReadsConfig, WritesConfig, ReadsRegister, WritesRegister, ReadsMsix, WritesMsix}
 use Rattle.lawful_history.specs.EventRecords.{EventRecord, access_lines, lines_of}
 
--- the scenario's world, as its devices are
+-- The devices of the scenario's world.
 abbrev pub devices_of : World → device.Devices
 devices_of world = record { shape = world.geometry; wiring = world.wiring }
 
--- what a line tells the devices: a write of State, of the Doorbell or of another register, of the configuration space or of the MSI-X region,
--- or a reset
+-- The device event of a line: a write of State, of the Doorbell, of another register, of the
+-- configuration space or of the MSI-X region, or a reset.
 abbrev pub device_event_of : Line → Option device.Event
 device_event_of (line.State peer value) = Some (device.RegisterWritten peer device.state_register value)
 device_event_of (line.Doorbell peer target vector) = Some (device.RegisterWritten peer device.doorbell_register (device.doorbell_word target vector))
@@ -31,33 +32,33 @@ abbrev pub with_device_event : Option device.Event → List device.Event → Lis
 with_device_event None events = events
 with_device_event (Some event) events = event ∷ events
 
--- what these lines tell the devices; of lines and events the newest is the first
+-- The device events of these lines; lines and events are listed newest first.
 abbrev pub device_events : List Line → List device.Event
 device_events [] = []
 device_events (line ∷ older) = with_device_event (device_event_of line) (device_events older)
 
--- the line is an interrupt of this peer that was lost
+-- 1 if the line is an interrupt of this peer that was lost, else 0.
 abbrev pub lost_by : Line → ℕ → ℕ
 lost_by (line.Lost peer vector) at = if peer == at then 1 else 0
 lost_by _ at = 0
 
--- how many interrupts of a peer were lost in these lines
+-- The number of interrupts of a peer that were lost in these lines.
 abbrev pub lost_count : List Line → ℕ → ℕ
 lost_count [] peer = 0
 lost_count (line ∷ older) peer = lost_by line peer + lost_count older peer
 
--- a delivery is lost on its way where fewer were lost at its peer than are to be
+-- A delivery is lost if fewer interrupts were lost at its peer than are to be dropped.
 abbrev pub arrival : List Line → (ℕ → ℕ) → Delivery → Line
 arrival older losses delivery =
     if nat_lt (lost_count older delivery.peer) (losses delivery.peer) then line.Lost delivery.peer delivery.vector
     else line.Interrupt delivery.peer delivery.vector
 
--- the lines of these deliveries, in their order
+-- The lines of these deliveries, in order.
 abbrev pub arrived : List Line → (ℕ → ℕ) → List Delivery → List Line
 arrived older losses [] = []
 arrived older losses (delivery ∷ deliveries) = arrival older losses delivery ∷ arrived (arrival older losses delivery ∷ older) losses deliveries
 
--- the interrupts that a line brings after older ones, in ascending order of peer
+-- The interrupts that a line causes after older ones, in ascending order of peer.
 abbrev pub arrivals_by : World → List Line → (ℕ → ℕ) → Line → Option device.Event → List Line
 arrivals_by world older losses line None = []
 arrivals_by world older losses line (Some event) = arrived (line ∷ older) losses (effect_of (devices_of world) (device_events older) event).deliveries.items
@@ -65,7 +66,7 @@ arrivals_by world older losses line (Some event) = arrived (line ∷ older) loss
 abbrev pub arrivals : World → List Line → (ℕ → ℕ) → Line → List Line
 arrivals world older losses line = arrivals_by world older losses line (device_event_of line)
 
--- the interrupts that the line of an access brings
+-- The interrupts that the line of an access causes.
 abbrev pub brought_by : World → List Line → (ℕ → ℕ) → List Line → List Line
 brought_by world older losses [] = []
 brought_by world older losses (line ∷ lines) = arrivals world older losses line
@@ -74,11 +75,11 @@ abbrev pub step_interrupts : World → List Line → (ℕ → ℕ) → ℕ → O
 step_interrupts world older losses peer None = []
 step_interrupts world older losses peer (Some step) = brought_by world older losses (access_lines peer step.access step.value)
 
--- the bytes of the peer's device after these lines
+-- The bytes of the peer's device after these lines.
 abbrev pub bytes_of : World → List Line → ℕ → Bytes
 bytes_of world older peer = bytes_after (devices_of world) (device_events older) peer
 
--- the line of an access to a part of the device: what is read there after these lines, or what is written
+-- The line of a device access: the value read after these lines, or the value written.
 abbrev pub device_access_line : World → List Line → ℕ → DeviceAccess → Line
 device_access_line world older peer (ReadsConfig offset width) =
     line.ConfigRead peer offset width (number_from (bytes_of world older peer device.Config) offset width)
@@ -88,7 +89,8 @@ device_access_line world older peer (WritesRegister offset value) = line.Registe
 device_access_line world older peer (ReadsMsix offset) = line.MsixRead peer offset (msix_at world.wiring (bytes_of world older peer) offset)
 device_access_line world older peer (WritesMsix offset value) = line.MsixWrite peer offset value
 
--- the device's lines of an event in which this step was made, after these lines, where so many interrupts of each peer are to be lost
+-- The device's lines of an event with this step, after these lines. `losses` is the number of
+-- interrupts of each peer that are to be dropped.
 abbrev pub device_lines : World → List Line → (ℕ → ℕ) → Event → Option Step → List Line
 device_lines world older losses (CallQueued peer call) went = []
 device_lines world older losses (AutoStarted peer expected) went = []
@@ -100,12 +102,12 @@ device_lines world older losses (DeviceAccessed peer a) went = device_access_lin
 device_lines world older losses (InterruptDropped peer) went = []
 device_lines world older losses (InterruptRepeated peer vector) went = line.Interrupt peer vector ∷ []
 
--- one more interrupt of the peer is to be lost
+-- One more interrupt of the peer is to be dropped.
 abbrev pub losses_with : Event → (ℕ → ℕ) → ℕ → ℕ
 losses_with (InterruptDropped peer) losses at = if peer == at then losses at + 1 else losses at
 losses_with _ losses at = losses at
 
--- the device's rules over entries that stand after these older lines, of which the newest is the first
+-- The device's rules over event records after these older lines, which are listed newest first.
 abbrev pub DeviceRules : World → List Line → (ℕ → ℕ) → List EventRecord → Type 0
 DeviceRules world older losses [] = Unit {0}
 DeviceRules world older losses (entry ∷ entries) =

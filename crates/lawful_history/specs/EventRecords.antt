@@ -1,4 +1,4 @@
--- An entry of a history: an event with what came of it, and the lines that tell it.
+-- An event record of a history: an event with its result, and its lines.
 use Rattle.std.specs.Prelude.{ℕ, ◌==◌, if◌then◌else◌, Option, Some, None, List, [], ◌∷◌, ◌++◌, map}
 use Rattle.split_ring.specs.declared.steps.Access.{Access}
 use Rattle.split_ring.specs.declared.steps.Access.TheVariants as access
@@ -8,8 +8,8 @@ use Rattle.lawful_history.specs.declared.line.Line.{Line}
 use Rattle.lawful_history.specs.declared.line.Line.TheVariants as line
 use Rattle.lawful_history.specs.Schedule.{Event, CallQueued, AutoStarted, StormStarted, TurnTaken, RegionAccessed, DeviceReset, DeviceAccessed, InterruptDropped, InterruptRepeated, event_peer}
 
--- an event, the step that was made in it, if there is one, and the lines of the devices: the interrupts that it brought, or what a
--- device answered
+-- An event, its step, if there is one, and the lines of the devices: the interrupts that it caused,
+-- or the values that a device returned.
 pub record EventRecord : Type 0 where
   pub event : Event
   pub went : Option Step
@@ -21,7 +21,8 @@ event_of entry = entry.event
 abbrev pub owner : EventRecord → ℕ
 owner entry = event_peer entry.event
 
--- the line of an access that met this value; the one step of a call that is down has no access, and no line for one
+-- The line of an access that met this value. The only step of a call that is down has no access,
+-- and no line for one.
 abbrev pub access_lines : ℕ → Access → ℕ → List Line
 access_lines peer (access.Read word) value = line.Read peer word value ∷ []
 access_lines peer (access.Write word written) value = line.Write peer word written ∷ []
@@ -42,16 +43,16 @@ mark_line peer mark.Down = line.Down peer
 mark_line peer (mark.Refuse refused) = line.Refuse peer refused
 mark_line peer mark.Over = line.Over peer
 
--- the lines of a step: its access, the interrupts that this brought, and its marks
+-- The lines of a step: its access, the interrupts that it caused, and its marks.
 abbrev pub step_lines : ℕ → Step → List Line → List Line
 step_lines peer step device = access_lines peer step.access step.value ++ (device ++ map (mark_line peer) step.marks)
 
--- the lines of a turn; a turn without a step is idle
+-- The lines of a turn. A turn without a step is idle.
 abbrev pub turn_lines : ℕ → Option Step → List Line → List Line
 turn_lines peer None device = line.Idle peer ∷ device
 turn_lines peer (Some step) device = step_lines peer step device
 
--- the line of an access that was denied: only a write ever is
+-- The line of an access that was denied, which is always a write.
 abbrev pub denied_lines : ℕ → Access → List Line
 denied_lines peer (access.Read word) = []
 denied_lines peer (access.Write word written) = line.Denied peer word ∷ []
@@ -59,7 +60,7 @@ denied_lines peer (access.State state) = []
 denied_lines peer (access.Ring target vector) = []
 denied_lines peer access.Nothing = []
 
--- the lines of one access; one without a step was denied
+-- The lines of one access outside a call. Without a step it was denied.
 abbrev pub region_access_lines : ℕ → Access → Option Step → List Line → List Line
 region_access_lines peer a None device = denied_lines peer a ++ device
 region_access_lines peer a (Some step) device = step_lines peer step device
@@ -78,7 +79,7 @@ lines_by (InterruptRepeated peer vector) went device = device
 abbrev pub lines_of : EventRecord → List Line
 lines_of entry = lines_by entry.event entry.went entry.device
 
--- the entries of one peer, in their order
+-- The event records of one peer, in order.
 abbrev pub own : ℕ → List EventRecord → List EventRecord
 own peer [] = []
 own peer (entry ∷ entries) = if owner entry == peer then entry ∷ own peer entries else own peer entries

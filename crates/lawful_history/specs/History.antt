@@ -1,4 +1,5 @@
--- The lawful history of a scenario, computed: the plain program beside the relation of `Lawful`.
+-- The lawful history of a scenario, computed. It is the reference program for the relation of
+-- `Lawful`.
 use Rattle.std.specs.Prelude.{ℕ, ◌≡◌, ◌≤◌, ◌&&◌, ◌||◌, nat_le, nat_lt, if◌then◌else◌, ◌+◌, Bool, Option, Some, None, List, [], ◌∷◌, ◌++◌, drop, length, reverse, replicate, slice_index_or, slice_set}
 use Rattle.section_map.specs.Geometry.{Shape, section_start}
 use Rattle.split_ring.specs.declared.steps.Access.{Access}
@@ -20,13 +21,14 @@ use Rattle.lawful_history.specs.Device.{device_lines, losses_with}
 use Rattle.lawful_history.specs.Sessions.{recorded_in}
 use Rattle.lawful_history.specs.Lawful.{IsLawful, IsLawfulIn}
 
--- the lines so far, of which the newest is the first, how many interrupts of each peer are to be lost, and where each peer is, from peer 0
+-- The earlier lines, listed newest first; the number of interrupts of each peer that are to be
+-- dropped; and the state of each peer, from peer 0.
 pub record HistoryState : Type 0 where
   pub past : List Line
   pub losses : ℕ → ℕ
   pub peers : List Peer
 
--- the step of a turn without an open call, and the peer after it
+-- The step of a turn without an open call, and the peer after it.
 abbrev pub driven_step : World → ℕ → Driver → Option Step
 driven_step world p Waits = None
 driven_step world p (Chooses auto) = None
@@ -37,7 +39,7 @@ driven peer Waits = peer
 driven peer (Chooses auto) = peer
 driven peer (Storms x) = record peer { driver = Storms (storm_after x) }
 
--- the step of a turn, where a read gives what was written last
+-- The step of a turn, in which a read meets the last value written.
 abbrev pub step_by : World → ℕ → Driver → CallTree → List Line → Option Step
 step_by world p driver Ended past = driven_step world p driver
 step_by world p driver (Does a marks rest) past = Some (step_of a 0 marks)
@@ -45,7 +47,7 @@ step_by world p driver (Reads word marks rest) past =
     let value = last_write past word in
     Some (step_of (access.Read word) value (marks value))
 
--- and the peer after it
+-- The peer after the step of a turn.
 abbrev pub moved_by : Peer → CallTree → List Line → Peer
 moved_by peer Ended past = driven peer peer.driver
 moved_by peer (Does a marks rest) past = stepped peer (step_of a 0 marks) rest
@@ -56,19 +58,20 @@ moved_by peer (Reads word marks rest) past =
 abbrev pub moved : Peer → List Line → Peer
 moved peer past = moved_by peer peer.left past
 
--- the step of a peer's turn, and where the peer is after it
+-- The step of a peer's turn, and the peer after it.
 abbrev pub turn_step : World → ℕ → Peer → List Line → Option Step
 turn_step world p peer past = step_by world p (opened (config_of world p) peer).driver (opened (config_of world p) peer).left past
 
 abbrev pub turned : World → ℕ → Peer → List Line → Peer
 turned world p peer past = moved (opened (config_of world p) peer) past
 
--- whether a peer may write a word: it lies in the peer's output section or in the common section
+-- Whether a peer may write a word: the word is in the peer's output section or in the common
+-- section.
 abbrev pub may_write : Shape → ℕ → ℕ → Bool
 may_write g peer word =
     (nat_le (section_start g peer) word && nat_lt word (section_start g peer + g.out)) || (nat_le g.table word && nat_lt word (g.table + g.common))
 
--- the step of an access of the peer's own accord; a forbidden write is denied
+-- The step of an access outside a call. A write that isn't permitted is denied.
 abbrev pub acted_step : World → ℕ → Access → List Line → Option Step
 acted_step world p (access.Read word) past = Some (step_of (access.Read word) (last_write past word) [])
 acted_step world p (access.Write word written) past = if may_write world.geometry p word then Some (step_of (access.Write word written) 0 []) else None
@@ -76,7 +79,7 @@ acted_step world p (access.State state) past = Some (step_of (access.State state
 acted_step world p (access.Ring target vector) past = Some (step_of (access.Ring target vector) 0 [])
 acted_step world p access.Nothing past = Some (step_of access.Nothing 0 [])
 
--- the step that is made in an event, and where its peer is after it
+-- The step of an event, and its peer after it.
 abbrev pub step_in : World → Peer → List Line → Event → Option Step
 step_in world peer past (CallQueued p call) = None
 step_in world peer past (AutoStarted p expected) = None
@@ -102,7 +105,7 @@ peer_in world peer past (InterruptRepeated p vector) = peer
 abbrev pub peer_at : HistoryState → ℕ → Peer
 peer_at moment peer = slice_index_or moment.peers peer at_start
 
--- the step of an event, its entry, and where its peer is after it
+-- The step of an event, its event record, and its peer after it.
 abbrev pub step_of_event : World → HistoryState → Event → Option Step
 step_of_event world moment event = step_in world (peer_at moment (event_peer event)) moment.past event
 
@@ -130,20 +133,22 @@ run world (event ∷ events) moment = run world events (after_event world moment
 abbrev pub initial_state : World → HistoryState
 initial_state world = record { past = []; losses = λ peer. 0; peers = replicate world.geometry.peers at_start }
 
--- the history of the scenario
+-- The history of the scenario.
 abbrev pub history : World → List Line
 history world = reverse (run world (schedule world.acts) (initial_state world)).past
 
--- What is kept of a peer, and the order of its calls
+-- The stored state of a peer, and the order of its calls
 
--- the driver of a peer: an automatic one keeps its frames, its counts and the round that its call before led to
+-- The driver of a peer. An automatic one has its frames, its counts and the position in the round
+-- after the call before.
 abbrev pub driver_of : (frames : List (List ℕ)) → (delivered : ℕ) → (before : Option Chosen) → (generator : ℕ) → Chooser → Driver
 driver_of frames delivered before generator Nobody = Waits
 driver_of frames delivered before generator (TheRule expected) =
     Chooses (record { frames = frames; expected = expected; delivered = delivered; round = round_since before })
 driver_of frames delivered before generator TheStorm = Storms generator
 
--- what is kept of a peer that has made its calls so far: of the calls that were asked for since the last reset those wait that it didn't begin
+-- The stored state of a peer after its calls. The calls queued since the last reset that haven't
+-- begun wait.
 abbrev pub peer_of_progress : Progress → Peer
 peer_of_progress peer = record {
   end = peer.end;
@@ -152,11 +157,12 @@ peer_of_progress peer = record {
   driver = driver_of (frames_left peer.past) (delivered_in peer.past) peer.before peer.generator (chooser peer.past);
 }
 
--- no more calls were begun than asked for
+-- The number of calls begun is at most the number queued.
 abbrev pub IsWithin : Progress → Type 0
 IsWithin peer = peer.begun ≤ length (queued_since_reset peer.past)
 
--- the step of an event, computed from what is kept of its peer, is in order, and what is kept of it then is that of the peer after the event
+-- The step of an event, computed from the stored state of its peer, follows the order of calls. The
+-- stored state after it is the state of the peer after the event.
 abbrev pub GoesOnInOrder : World → Progress → List Line → Event → List Line → Type 0
 GoesOnInOrder world peer past event device =
     (mid : Progress) × EventStep world (event_peer event) peer event (step_in world (peer_of_progress peer) past event) mid
@@ -167,21 +173,21 @@ GoesOnInOrder world peer past event device =
     })))
     × IsWithin (noted mid (record { event = event; went = step_in world (peer_of_progress peer) past event; device = device }))
 
--- what the computed history keeps of its peers goes on, by each event, as the order of their calls does
+-- The stored states of the computed history follow the order of the peers' calls at each event.
 abbrev pub PeersKeepOrder : Type 0
 PeersKeepOrder = (world : World) (peer : Progress) (past : List Line) (event : Event) (device : List Line) → IsWithin peer
     → GoesOnInOrder world peer past event device
 
--- a scenario has a lawful history, and this is it
+-- A scenario has a lawful history, and it is this one.
 abbrev pub HistoryIsLawful : Type 0
 HistoryIsLawful = (world : World) → IsWorld world → IsLawful world (history world)
 
--- and a record of each version tells it
+-- A record of each version has its lines.
 abbrev pub HistoryIsLawfulIn : Type 0
 HistoryIsLawfulIn = (world : World) (version : ℕ) → IsWorld world → IsLawfulIn world version (recorded_in world version (history world))
 
--- a schedule that goes on from where another one ends has a history that goes on from the other's: of two lawful histories one begins the other where
--- one is cut
+-- If one schedule continues another, its history continues the other's. So of two lawful histories
+-- one begins the other if one is cut.
 abbrev pub CutHistoriesBegin : Type 0
 CutHistoriesBegin = (world : World) (acts : List Act) (more : List Event) (lines others : List Line) → IsWorld world → IsWorld (record world { acts = acts }) →
     schedule acts ≡ schedule world.acts ++ more → IsLawful world lines → IsLawful (record world { acts = acts }) others

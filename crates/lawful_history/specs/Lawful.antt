@@ -1,4 +1,5 @@
--- Which history of a scenario is lawful, and which lines a record tells of it. `ivshm`'s headline and `simulate` cite `IsLawfulIn`.
+-- The lawful histories of a scenario, and the lines that a record has of them. `ivshm`'s headline
+-- and `simulate` cite `IsLawfulIn`.
 use Rattle.std.specs.Prelude.{ℕ, ◌≡◌, ◌↔◌, ◌<◌, List, [], ◌++◌, ◌∷◌, map, reverse, All}
 use Rattle.std.specs.List.{flat_map}
 use Rattle.section_map.specs.MayWrite.{MayWrite}
@@ -12,8 +13,9 @@ use Rattle.lawful_history.specs.Order.{Progress, initial_progress, IsCallSequenc
 use Rattle.lawful_history.specs.Device.{DeviceRules}
 use Rattle.lawful_history.specs.Sessions.{recorded_in, with_sessions, without_sessions}
 
--- These entries make up a lawful history of the scenario: their events are the schedule, each is one of the world's peers, the
--- lines are theirs, reads and writes keep the memory law, the device's rules hold, and each peer's entries are its calls in order
+-- These event records are a lawful history of the scenario. Their events are the schedule, each
+-- belongs to a peer of the world, and the lines are theirs. Reads and writes satisfy the memory
+-- law, the device's rules hold, and each peer's event records are its calls in order.
 pub record IsLawfulBy (world : World) (lines : List Line) (entries : List EventRecord) : Type 0 where
   pub events : map event_of entries ≡ schedule world.acts
   pub owners : All (λ entry. owner entry < world.geometry.peers) entries
@@ -22,43 +24,44 @@ pub record IsLawfulBy (world : World) (lines : List Line) (entries : List EventR
   pub device : DeviceRules world [] (λ peer. 0) entries
   pub calls : (peer : ℕ) → peer < world.geometry.peers → (end : Progress) × IsCallSequence world peer initial_progress (own peer entries) end
 
--- the lines are a lawful history of the scenario: some entries make them up
+-- The lines are a lawful history of the scenario: there are event records for them.
 abbrev pub IsLawful : World → List Line → Type 0
 IsLawful world lines = (entries : List EventRecord) × IsLawfulBy world lines entries
 
--- the lines are what a record of this version tells of a lawful history of the scenario
+-- The lines are a record's lines, in this version, of a lawful history of the scenario.
 abbrev pub IsLawfulIn : World → (version : ℕ) → List Line → Type 0
 IsLawfulIn world version lines = (history : List Line) × IsLawful world history × (lines ≡ recorded_in world version history)
 
--- a scenario has one lawful history at most
+-- A scenario has at most one lawful history.
 abbrev pub HasOneHistory : Type 0
 HasOneHistory = (world : World) (lines others : List Line) → IsLawful world lines → IsLawful world others → lines ≡ others
 
--- and so has a record of each version
+-- A record of each version has at most one list of lines.
 abbrev pub HasOneHistoryIn : Type 0
 HasOneHistoryIn = (world : World) (version : ℕ) (lines others : List Line) → IsLawfulIn world version lines → IsLawfulIn world version others
     → lines ≡ others
 
--- a record of version 1 tells the lawful history as it is, and that has no mark of a session
+-- A record of version 1 has the lawful history, which has no mark of a session.
 abbrev pub HasNoMarksInOne : Type 0
 HasNoMarksInOne = (world : World) (lines : List Line) → (IsLawfulIn world 1 lines ↔ IsLawful world lines) × (IsLawful world lines → without_sessions lines ≡ lines)
 
--- a record of version 2 tells the lawful history that is left without the marks, and the marks are those of its sessions
+-- A record of version 2 without its marks of sessions is the lawful history, and the marks are
+-- those of its sessions.
 abbrev pub HasMarksInTwo : Type 0
 HasMarksInTwo = (world : World) (lines : List Line) → IsLawfulIn world 2 lines →
     IsLawful world (without_sessions lines) × (lines ≡ with_sessions world [] (without_sessions lines))
 
--- and each lawful history is told so
+-- Each lawful history has a record of version 2.
 abbrev pub HasRecordInTwo : Type 0
 HasRecordInTwo = (world : World) (history : List Line) → IsLawful world history →
     IsLawfulIn world 2 (with_sessions world [] history) × (without_sessions (with_sessions world [] history) ≡ history)
 
--- what a read of a lawful history gave is what was written last
+-- The value of a read in a lawful history is the last value written.
 abbrev pub ReadsWhatWasWritten : Type 0
 ReadsWhatWasWritten = (world : World) (before after : List Line) (peer word value : ℕ) → IsLawful world (before ++ Read peer word value ∷ after)
     → WasWrittenLast before word value
 
--- a write of a lawful history is where its peer may write
+-- A write in a lawful history is to a word that its peer may write.
 abbrev pub WritesWhereItMay : Type 0
 WritesWhereItMay = (world : World) (before after : List Line) (peer word value : ℕ) → IsLawful world (before ++ Write peer word value ∷ after)
     → MayWrite world.geometry peer word

@@ -1,4 +1,5 @@
--- The order of a peer's calls (profile): which call a turn begins, by what the peer's own entries say. Of entries so far the newest is the first.
+-- The order of a peer's calls (profile): the call that a turn begins, from the peer's own event
+-- records. Event records are listed newest first.
 use Rattle.std.specs.Prelude.{ℕ, ◌≡◌, ◌+◌, ◌⊎◌, true, false, Option, Some, None, List, [], ◌∷◌, ◌++◌, drop, slice_get}
 use Rattle.split_ring.specs.declared.steps.Access.{Access}
 use Rattle.split_ring.specs.declared.steps.Access.TheVariants as access
@@ -13,15 +14,16 @@ use Rattle.lawful_history.specs.Sides.{config_of}
 use Rattle.lawful_history.specs.Storm.{storm_step, storm_after}
 use Rattle.lawful_history.specs.EventRecords.{EventRecord}
 
--- What the entries so far say
+-- The state that the earlier event records determine
 
--- who chooses in a turn for which no call waits: nobody; the rule of the automatic peer, which expects so many deliveries; or a storm
+-- The source of the next call if no call waits: none; the rule of the automatic end, which expects
+-- `expected` deliveries; or a storm.
 pub data Chooser : Type 0 where
   Nobody : Chooser
   TheRule : (expected : ℕ) → Chooser
   TheStorm : Chooser
 
--- it is as the peer was told last, and a reset changes nothing of it
+-- The last start of an automatic end or of a storm determines it, and a reset doesn't change it.
 abbrev pub chooser_after : Event → Chooser → Chooser
 chooser_after (AutoStarted peer expected) before = TheRule expected
 chooser_after (StormStarted peer seed) before = TheStorm
@@ -31,7 +33,8 @@ abbrev pub chooser : List EventRecord → Chooser
 chooser [] = Nobody
 chooser (entry ∷ older) = chooser_after entry.event (chooser older)
 
--- the calls that were asked for since the last reset, the oldest first; a frame that is offered to an automatic peer is none of them
+-- The calls queued since the last reset, oldest first. The frame of an Offer to an automatic end
+-- isn't one of them.
 abbrev pub queued_with : Chooser → Call → List Call → List Call
 queued_with (TheRule expected) (Offer frame) calls = calls
 queued_with chooser call calls = calls ++ call ∷ []
@@ -49,7 +52,7 @@ abbrev pub marks_of : Option Step → List Mark
 marks_of None = []
 marks_of (Some step) = step.marks
 
--- the frames that an automatic peer was given and that were not accepted yet, the oldest first
+-- The frames of an automatic end that aren't accepted yet, oldest first.
 abbrev pub with_frame : Call → List (List ℕ) → List (List ℕ)
 with_frame (Offer frame) frames = frames ++ frame ∷ []
 with_frame _ frames = frames
@@ -72,7 +75,8 @@ abbrev pub frames_left : List EventRecord → List (List ℕ)
 frames_left [] = []
 frames_left (entry ∷ older) = frames_after entry.event entry.went (frames_left older)
 
--- how many frames it delivered in the whole run, through all resets: an automatic peer is told to be one before its first call
+-- The number of frames that an automatic end delivered in the whole run, through all resets. The
+-- end is started before its first call.
 abbrev pub with_delivered : Mark → ℕ → ℕ
 with_delivered (Deliver frame) count = count + 1
 with_delivered _ count = count
@@ -90,10 +94,11 @@ abbrev pub delivered_in : List EventRecord → ℕ
 delivered_in [] = 0
 delivered_in (entry ∷ older) = delivered_after entry.event entry.went (delivered_in older)
 
--- Where a peer is
+-- The state of a peer
 
--- its own entries so far; its end of the link and what is left of its open call; how many of the calls that were asked for since the last reset it
--- began; the call that it chose last; and where the generator of its storm is
+-- The progress of a peer: its own event records, its end of the link, and the rest of its open
+-- call. `begun` counts the calls queued since the last reset that it began. `before` is the call
+-- that it chose last, and `generator` the state of its storm's generator.
 pub record Progress : Type 0 where
   pub past : List EventRecord
   pub end : End
@@ -107,7 +112,7 @@ initial_progress = record { past = []; end = fresh; left = Ended; begun = 0; bef
 
 -- The call that a turn begins
 
--- the peer begins a call that it chose
+-- The peer begins a call that it chose.
 abbrev pub chooses : EndConfig → Progress → Call → Progress
 chooses config peer call = record peer {
   left = tree_of config peer.end call;
@@ -126,12 +131,12 @@ chosen_next config peer (TheRule expected) =
     chooses_by config peer (choice_by_rule peer.end.handshake.phase peer.before (frames_left peer.past) (delivered_in peer.past) expected)
 chosen_next config peer TheStorm = peer
 
--- the next of the calls that were asked for, else the one that is chosen
+-- The next of the queued calls, else the chosen one.
 abbrev pub queued_or_chosen : EndConfig → Progress → Option Call → Progress
 queued_or_chosen config peer None = chosen_next config peer (chooser peer.past)
 queued_or_chosen config peer (Some call) = record peer { left = tree_of config peer.end call; begun = peer.begun + 1 }
 
--- a call begins when the one before it has ended
+-- A call begins after the one before it has ended.
 abbrev pub begins_by : EndConfig → Progress → CallTree → Progress
 begins_by config peer Ended = queued_or_chosen config peer (slice_get (queued_since_reset peer.past) peer.begun)
 begins_by config peer _ = peer
@@ -141,14 +146,14 @@ begins config peer = begins_by config peer peer.left
 
 -- A turn
 
--- the step of a call, of which this is left then
+-- The step of a call, of which `left` is left.
 abbrev pub goes_to : Progress → Step → CallTree → Progress
 goes_to peer step left = record peer { end = end_after peer.end step; left = left }
 
 abbrev pub GoesOn : Progress → CallTree → Option Step → Progress → Type 0
 GoesOn peer call went new = (step : Step) × (left : CallTree) × (went ≡ Some step) × Goes call step left × (new ≡ goes_to peer step left)
 
--- a turn without an open call is a step of the storm, if there is one
+-- A turn without an open call is a step of the storm, if there is one.
 abbrev pub IdleStep : World → ℕ → Progress → Chooser → Option Step → Progress → Type 0
 IdleStep world p peer TheStorm went new = (went ≡ Some (storm_step world p peer.generator)) × (new ≡ record peer { generator = storm_after peer.generator })
 IdleStep world p peer _ went new = (went ≡ None) × (new ≡ peer)
@@ -157,14 +162,15 @@ abbrev pub CallStep : World → ℕ → Progress → CallTree → Option Step �
 CallStep world p peer Ended went new = IdleStep world p peer (chooser peer.past) went new
 CallStep world p peer call went new = GoesOn peer call went new
 
--- a turn is the next step of the open call, else the first step of the next call that was asked for, else of the one that an automatic peer
--- chooses, else a step of the storm, else none
+-- A turn is the next step of the open call. Without an open call it is the first step of the next
+-- queued call. If no call is queued, it is the first step of an automatic end's choice, else a step
+-- of the storm, else none.
 abbrev pub Turns : World → ℕ → Progress → Option Step → Progress → Type 0
 Turns world p old went new = CallStep world p (begins (config_of world p) old) (begins (config_of world p) old).left went new
 
 -- The other events
 
--- an access of its own accord: a write may be denied, and then no step is made
+-- An access outside a call. A write can be denied, and then there is no step.
 abbrev pub IsMade : Access → Option Step → Type 0
 IsMade (access.Read word) went = (value : ℕ) × (went ≡ Some (step_of (access.Read word) value []))
 IsMade (access.Write word written) went = (went ≡ Some (step_of (access.Write word written) 0 [])) ⊎ (went ≡ None)
@@ -176,11 +182,11 @@ abbrev pub cut_call : Option Chosen → Option Chosen
 cut_call None = None
 cut_call (Some before) = Some (record before { was_reset = true })
 
--- a reset drops the open call, and with it all that were asked for
+-- A reset drops the open call and all queued calls.
 abbrev pub reset_progress : Progress → Progress
 reset_progress peer = record peer { end = after_reset peer.end; left = Ended; begun = 0; before = cut_call peer.before }
 
--- what an event of its own does to peer p: the step that is made in it, and where the peer is then
+-- The effect of its own event on peer p: the step, and the peer's progress after it.
 abbrev pub EventStep : World → ℕ → Progress → Event → Option Step → Progress → Type 0
 EventStep world p old (AutoStarted peer expected) went new = (went ≡ None) × (new ≡ record old { before = None })
 EventStep world p old (StormStarted peer seed) went new = (went ≡ None) × (new ≡ record old { generator = seed })
@@ -189,11 +195,11 @@ EventStep world p old (RegionAccessed peer a) went new = IsMade a went × (new �
 EventStep world p old (DeviceReset peer) went new = (went ≡ None) × (new ≡ reset_progress old)
 EventStep world p old _ went new = (went ≡ None) × (new ≡ old)
 
--- the event is one of its entries from now on
+-- The event becomes one of the peer's event records.
 abbrev pub noted : Progress → EventRecord → Progress
 noted peer entry = record peer { past = entry ∷ peer.past }
 
--- from old, these entries of peer p are its calls in their order, and lead to new
+-- From `old`, these event records of peer p are its calls in order, and lead to `new`.
 abbrev pub IsCallSequence : World → ℕ → Progress → List EventRecord → Progress → Type 0
 IsCallSequence world p old [] new = new ≡ old
 IsCallSequence world p old (entry ∷ entries) new = (mid : Progress) × EventStep world p old entry.event entry.went mid × IsCallSequence world p (noted mid entry) entries new

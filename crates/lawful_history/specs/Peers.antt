@@ -1,4 +1,4 @@
--- A peer in the middle of its schedule, as the computed history keeps it, and what its own events do to it.
+-- A peer between two events, as the computed history stores it, and the effect of its own events.
 use Rattle.std.specs.Prelude.{ℕ, ◌+◌, List, [], ◌∷◌, ◌++◌, drop}
 use Rattle.call_grammar.specs.Steps.{Mark, Saw, Reclaim, Full, Accept, Look, Deliver, Return, Done, Down, Refuse, Over, Step}
 use Rattle.call_grammar.specs.Trees.{CallTree, Ended, Does, Reads}
@@ -6,20 +6,23 @@ use Rattle.call_grammar.specs.Ends.{End, fresh, after_reset, end_after}
 use Rattle.call_grammar.specs.Calls.{EndConfig, Call, Tick, Offer, Poll, tree_of}
 use Rattle.call_grammar.specs.Automatic.{Round, Anew, AfterOffer, AfterPoll, Choice, ChoosesTick, ChoosesOffer, ChoosesPoll, IsFinished, choice_of}
 
--- an automatic peer: its frames that weren't accepted yet, how many deliveries it expects and how many it had in the whole run, and its round
+-- An automatic end: its frames that aren't accepted yet, the number of deliveries that it expects,
+-- the number in the whole run, and its round.
 pub record Auto : Type 0 where
   pub frames : List (List ℕ)
   pub expected : ℕ
   pub delivered : ℕ
   pub round : Round
 
--- who chooses what a peer does: the schedule, call by call; the rule of the automatic peer; or a storm, whose generator is at x
+-- The source of a peer's actions: the schedule, call by call; the rule of the automatic end; or a
+-- storm, whose generator has the state x.
 pub data Driver : Type 0 where
   Waits : Driver
   Chooses : (auto : Auto) → Driver
   Storms : (x : ℕ) → Driver
 
--- where its end of the link stands, what is left of its open call, the calls that wait, the oldest first, and its driver
+-- The peer's end of the link, the rest of its open call, the waiting calls, oldest first, and its
+-- driver.
 pub record Peer : Type 0 where
   pub end : End
   pub left : CallTree
@@ -29,9 +32,10 @@ pub record Peer : Type 0 where
 abbrev pub at_start : Peer
 at_start = record { end = fresh; left = Ended; waiting = []; driver = Waits }
 
--- What a peer is told
+-- Events of a peer
 
--- a call was put after those that wait; but a frame for an automatic peer was put after its frames
+-- A call is appended to the waiting calls. The frame of an Offer to an automatic end is appended to
+-- its frames.
 abbrev pub with_call_by : Peer → Driver → Call → Peer
 with_call_by peer (Chooses auto) (Offer frame) = record peer { driver = Chooses (record auto { frames = auto.frames ++ frame ∷ [] }) }
 with_call_by peer driver call = record peer { waiting = peer.waiting ++ call ∷ [] }
@@ -39,14 +43,15 @@ with_call_by peer driver call = record peer { waiting = peer.waiting ++ call ∷
 abbrev pub with_call : Peer → Call → Peer
 with_call peer call = with_call_by peer peer.driver call
 
--- the peer chooses its calls from now on
+-- The peer becomes an automatic end.
 abbrev pub automated : Peer → ℕ → Peer
 automated peer expected = record peer { driver = Chooses (record { frames = []; expected = expected; delivered = 0; round = Anew }) }
 
 abbrev pub stormed : Peer → ℕ → Peer
 stormed peer seed = record peer { driver = Storms seed }
 
--- a device reset cuts the open call and drops those that wait; an automatic peer and a storm go on as such
+-- A device reset cuts the open call and drops the waiting ones. An automatic end and a storm
+-- continue.
 abbrev pub cut : Driver → Driver
 cut Waits = Waits
 cut (Chooses auto) = Chooses (record auto { round = Anew })
@@ -57,7 +62,7 @@ was_reset peer = record { end = after_reset peer.end; left = Ended; waiting = []
 
 -- A turn
 
--- the call that an automatic peer chose is opened
+-- The call that an automatic end chose opens.
 abbrev pub with_choice : EndConfig → Peer → Auto → Choice → Peer
 with_choice config peer auto ChoosesTick = record peer { left = tree_of config peer.end Tick; driver = Chooses (record auto { round = Anew }) }
 with_choice config peer auto (ChoosesOffer frame) = record peer {
@@ -72,7 +77,8 @@ chosen config peer Waits = peer
 chosen config peer (Chooses auto) = with_choice config peer auto (choice_of peer.end.handshake.phase auto.round auto.frames auto.delivered auto.expected)
 chosen config peer (Storms x) = peer
 
--- where no call is open, the oldest that waits is opened, else the one that an automatic peer chooses (profile)
+-- If no call is open, the oldest waiting call opens, else the call that an automatic end chooses
+-- (profile).
 abbrev pub opened_by : EndConfig → Peer → CallTree → List Call → Peer
 opened_by config peer Ended [] = chosen config peer peer.driver
 opened_by config peer Ended (call ∷ waiting) = record peer { left = tree_of config peer.end call; waiting = waiting }
@@ -82,7 +88,7 @@ opened_by config peer (Reads word marks rest) waiting = peer
 abbrev pub opened : EndConfig → Peer → Peer
 opened config peer = opened_by config peer peer.left peer.waiting
 
--- a frame of an automatic peer that is accepted is none of those to come, and its deliveries are counted
+-- An accepted frame of an automatic end is removed from its frames, and its deliveries are counted.
 abbrev pub counted : Auto → Mark → Auto
 counted auto (Saw value) = auto
 counted auto (Reclaim count) = auto
@@ -105,6 +111,6 @@ driver_after Waits marks = Waits
 driver_after (Chooses auto) marks = Chooses (counted_all auto marks)
 driver_after (Storms x) marks = Storms x
 
--- the peer after a step of its open call, of which this is left
+-- The peer after a step of its open call, of which `left` is left.
 abbrev pub stepped : Peer → Step → CallTree → Peer
 stepped peer step left = record peer { end = end_after peer.end step; left = left; driver = driver_after peer.driver step.marks }

@@ -1,4 +1,4 @@
--- The schedule: each act is a list of events, and each event is one peer's.
+-- The schedule: each act is a list of events, and each event belongs to one peer.
 use Rattle.std.specs.Prelude.{ℕ, ◌==◌, if◌then◌else◌, List, [], ◌∷◌, replicate}
 use Rattle.std.specs.List.{flat_map}
 use Rattle.split_ring.specs.declared.steps.Access.{Access}
@@ -8,8 +8,8 @@ use Rattle.scenario_text.specs.declared.acts.Act.{Act}
 use Rattle.scenario_text.specs.declared.acts.Act.TheVariants as act
 use Rattle.call_grammar.specs.Calls.{Call, Tick, Stop, Offer, Poll}
 
--- an access to the device's own parts: the configuration space, the register page or the MSI-X region of a peer (the device's
--- specification; offsets and widths are in bytes)
+-- A device access: a read or write of the configuration space, the register page or the MSI-X
+-- region of a peer (the device's specification; offsets and widths are in bytes).
 pub data DeviceAccess : Type 0 where
   ReadsConfig : (offset width : ℕ) → DeviceAccess
   WritesConfig : (offset width value : ℕ) → DeviceAccess
@@ -18,9 +18,9 @@ pub data DeviceAccess : Type 0 where
   ReadsMsix : (offset : ℕ) → DeviceAccess
   WritesMsix : (offset value : ℕ) → DeviceAccess
 
--- what happens: a peer is told to make a call, to choose its calls from now on, or to write at random from now on; it takes its turn;
--- it makes one access of its own accord; its device is reset; it reaches a part of its device; its next interrupt is to be lost; or an
--- interrupt with this vector is repeated at it
+-- An event. A call is queued, an automatic end or a storm starts, or a peer makes its turn. A peer
+-- makes an access outside a call, a device is reset, or a peer makes a device access. The next
+-- interrupt of a peer is dropped, or an interrupt with this vector is repeated at it.
 pub data Event : Type 0 where
   CallQueued : (peer : ℕ) (call : Call) → Event
   AutoStarted : (peer expected : ℕ) → Event
@@ -32,7 +32,7 @@ pub data Event : Type 0 where
   InterruptDropped : (peer : ℕ) → Event
   InterruptRepeated : (peer vector : ℕ) → Event
 
--- whose event it is
+-- The peer of an event.
 abbrev pub event_peer : Event → ℕ
 event_peer (CallQueued peer call) = peer
 event_peer (AutoStarted peer expected) = peer
@@ -44,14 +44,14 @@ event_peer (DeviceAccessed peer a) = peer
 event_peer (InterruptDropped peer) = peer
 event_peer (InterruptRepeated peer vector) = peer
 
--- a write of the register page: one of State or of the Doorbell is the access that writes it
+-- A write to the register page. A write of State or of the Doorbell is the access that writes it.
 abbrev pub register_event : (peer offset value : ℕ) → Event
 register_event peer offset value =
     if offset == device.state_register then RegionAccessed peer (access.State value)
     else if offset == device.doorbell_register then RegionAccessed peer (access.Ring (device.doorbell_target value) (device.doorbell_vector value))
     else DeviceAccessed peer (WritesRegister offset value)
 
--- the events of an act, as a scenario's table of acts has it; `turn P K` is K turns of P
+-- The events of an act, by a scenario's table of acts. `turn P K` is K turns of P.
 abbrev pub events_of : Act → List Event
 events_of (act.Tick peer) = CallQueued peer Tick ∷ []
 events_of (act.Offer peer frame) = CallQueued peer (Offer frame) ∷ []
@@ -74,6 +74,6 @@ events_of (act.MsixWrite peer offset value) = DeviceAccessed peer (WritesMsix of
 events_of (act.Lose peer) = InterruptDropped peer ∷ []
 events_of (act.Again peer vector) = InterruptRepeated peer vector ∷ []
 
--- the events of a schedule
+-- The events of a schedule.
 abbrev pub schedule : List Act → List Event
 schedule acts = flat_map events_of acts

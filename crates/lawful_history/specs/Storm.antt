@@ -7,15 +7,19 @@ use Rattle.split_ring.specs.declared.steps.Access.TheVariants.{Write, State, Rin
 use Rattle.scenario_text.specs.Scenario.{World}
 use Rattle.call_grammar.specs.Steps.{Step, step_of}
 
--- the generator's next number (a linear congruence modulo 2^64), and the 32 bits that are drawn from a number
+-- The generator's next number (a linear congruence modulo 2^64), and the 32 bits that are drawn
+-- from a number.
 abbrev pub next_number : ℕ → ℕ
 next_number x = (x * 6364136223846793005 + 1442695040888963407) % 18446744073709551616
 
 abbrev pub draw : ℕ → ℕ
 draw x = x / 4294967296
 
--- what three draws do: by the first, a write of the third to a word of the own section, or to one of its ring part, that the second chooses; a
--- State below 8; or a doorbell with a vector below 4 to the peer that the second chooses
+-- The access of three draws. The first draw chooses one of these:
+-- - a write of the third draw to a word of the own section, or to a word of its descriptors and
+--   rings, which the second draw chooses;
+-- - a State below 8;
+-- - a doorbell with a vector below 4 to the peer that the second draw chooses.
 abbrev pub drawn_access : World → ℕ → (kind place value : ℕ) → Access
 drawn_access world peer kind place value =
     if kind % 4 == 0 then Write (section_start world.geometry peer + place % world.geometry.out) value
@@ -23,7 +27,7 @@ drawn_access world peer kind place value =
     else if kind % 4 == 2 then State (value % 8)
     else Ring (place % world.geometry.peers) (value % 4)
 
--- the step of a storm whose generator is at x, and where the generator is then: three numbers further
+-- The step of a storm whose generator has the state x, and the state after it: three numbers later.
 abbrev pub storm_step : World → ℕ → ℕ → Step
 storm_step world peer x =
     let first = next_number x in

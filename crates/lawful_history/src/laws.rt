@@ -1,22 +1,27 @@
-//! What holds of every lawful history. The functions do nothing: their contracts are the laws.
+//! The laws of every lawful history. Each law is the contract of a function with an empty body.
 ghost use Rattle.lawful_history.specs.Lawful.{HasMarksInTwo, HasNoMarksInOne, HasOneHistory, HasOneHistoryIn, HasRecordInTwo, ReadsWhatWasWritten, WritesWhereItMay};
 ghost use Rattle.lawful_history.specs.History.{CutHistoriesBegin, HistoryIsLawful, HistoryIsLawfulIn, PeersKeepOrder};
 
 use call_grammar::calls_stay_in_reach;
 
-/// A scenario has one lawful history at most: the schedule and the values read decide each next line.
+/// Law: a scenario has at most one lawful history: the schedule and the values read determine each
+/// next line.
+// top claim: A scenario has at most one lawful history. below: lawful_history.history_is_lawful,
+//    lawful_history.records_tell_one_history.one
 pub fn one_history()
     ensures { HasOneHistory }
 {}
 
-/// A scenario has a lawful history, which `specs/History` computes.
+/// Law: a scenario has a lawful history, which `specs/History` computes.
+// claim: Every scenario has a lawful history, and `history` computes it.
 pub fn history_is_lawful()
     ensures { HistoryIsLawful }
 {
     calls_stay_in_reach();
 }
 
-/// A record of either version tells one history of a scenario: other lines are none that it may tell, and such lines there are.
+/// Law: for each version a scenario has exactly one list of lines that a record may have.
+// claim one, told: A record of either version holds exactly one history of its scenario.
 pub fn records_tell_one_history()
     ensures one { HasOneHistoryIn }
     ensures told { HistoryIsLawfulIn }
@@ -25,21 +30,31 @@ pub fn records_tell_one_history()
     history_is_lawful();
 }
 
-/// Records of the two versions differ in the marks of sessions alone: version 1 tells the lawful history as it is, version 2 the same one
-/// with the marks of its sessions.
+/// Law: records of the two versions differ only in the marks of sessions. Version 1 has the lawful
+/// history, version 2 the same history with the marks of its sessions.
+// claim first, second, each: Version 1 of a record holds the lawful history as it is, without a
+//    mark of a session. Version 2 holds the same history with the mark of a session right before
+//    the `over` of each step that enters RUN, and nothing else.
 pub fn versions_differ_in_marks()
     ensures first { HasNoMarksInOne }
     ensures second { HasMarksInTwo }
     ensures each { HasRecordInTwo }
 {}
 
-/// What the computed history keeps of its peers goes on as the order of their calls does: the calls asked for since the last reset, in their
-/// order, and those that the rule of an automatic peer chooses by the call before.
+/// Law: the peers of the computed history follow the order of their calls: the calls queued since
+/// the last reset, in order, and then the calls that the rule of an automatic end chooses, from the
+/// call before.
+// claim: What the computed history keeps of a peer follows the order of its calls at each event:
+//    the calls asked for since the last reset, in order, and those that the rule of an automatic
+//    peer chooses by the call before.
 pub fn peers_keep_order()
     ensures { PeersKeepOrder }
 {}
 
-/// Of two lawful histories one begins the other, where the schedule of one begins that of the other.
+/// Law: of two lawful histories one begins the other if the schedule of one begins the schedule of
+/// the other.
+// claim: If the schedule of a scenario begins that of another with the same head, its history
+//    begins the other's.
 pub fn cut_histories_begin()
     ensures { CutHistoriesBegin }
 {
@@ -47,7 +62,11 @@ pub fn cut_histories_begin()
     history_is_lawful();
 }
 
-/// What a peer read is what was written last, and a peer writes where it may.
+/// Law: the value that a peer read is the last value written, and a peer writes only words that it
+/// may write.
+// claim reads: A peer read what was written last, or 0 if nothing was.
+// top claim writes: A peer's writes lie in its own section or in the common one. below:
+//    lawful_history.memory_is_kept.reads, section_map.Region.write.allowed
 pub fn memory_is_kept()
     ensures reads { ReadsWhatWasWritten }
     ensures writes { WritesWhereItMay }

@@ -1,23 +1,32 @@
-//! The history of a run, line by line, and which history of a scenario is lawful: the schedule, the memory law and the
-//! calls of each peer, put together in `specs/Lawful`. It stands on `scenario_text` for scenarios and on `call_grammar`
-//! for the calls. Its laws promise that a scenario has exactly one lawful history, which `specs/History` computes.
+//! The history of a run, line by line, and the lawful histories of a scenario: the schedule, the
+//! memory law and the calls of each peer, which `specs/Lawful` combines. The crate uses
+//! `scenario_text` for scenarios and `call_grammar` for the calls. Its laws promise that a scenario
+//! has exactly one lawful history, which `specs/History` computes.
 //!
 //! # Design
 //!
-//! - The definitions speak of a `World`, what a scenario says without the proof that it is one.
-//! - A history is made of entries: an event, the step that was made in it, or none, and the lines of the devices. Each question on a line
-//!   is answered by one function over all lines (`touch_of`: what it says of a word; `told_by`: what it tells the devices), and every
-//!   definition looks at the answer alone.
-//! - Every peer is told alike: its entries are its calls in their order. A peer that is no honest end of the link has no calls, since no
-//!   act queues one for it. That each entry is one of the world's peers is a part of the definition, since a stranger's entries would be
-//!   free.
-//! - What is asked of a peer's calls is said of its entries, not of a machine's state: `specs/Order` counts the calls that were asked for
-//!   since the last reset, and the rule of an automatic peer (`choice_by_rule`) speaks of the call before. The computed history keeps a
-//!   queue and a round; that these are functions of the entries, event by event, is a law (`peers_keep_order`).
-//! - The device's rules aren't stated again: `specs/Device` turns the lines so far into the events of `doorbell_irq`.
-//! - The relation (`IsLawful`) and the computed history (`history`) stand beside each other. The relation leaves the step of a read to the
-//!   memory law; `history_is_lawful` ties the two, and `one_history` says that the relation has no other solution.
-//! - Lines stand here and not in `link_model`, since the stage tells lines and `link_model` stands on the stage.
+//! - The definitions are over a `World`, the content of a scenario without the proof that it is
+//!   well formed.
+//! - A history consists of event records: an event, its step (or none), and the lines of the
+//!   devices. Each property of a line has one function over all lines: `memory_effect_of` for its
+//!   effect on words, `device_event_of` for its effect on the devices. Every definition uses only
+//!   the result.
+//! - All peers have the same definitions: a peer's event records are its calls in order. A peer
+//!   that isn't an honest end of the link has no calls, because no act queues one for it. The
+//!   definition requires that each event record belongs to a peer of the world; otherwise a
+//!   stranger's event records would be arbitrary.
+//! - The rules of a peer's calls are over its event records, not over a machine's state.
+//!   `specs/Order` counts the calls queued since the last reset, and the rule of an automatic end
+//!   (`choice_by_rule`) depends on the call before. The computed history stores a queue and a
+//!   round. A law (`peers_keep_order`) says, event by event, that they are functions of the event
+//!   records.
+//! - The device's rules aren't restated: `specs/Device` turns the earlier lines into the events of
+//!   `doorbell_irq`.
+//! - There are the relation (`IsLawful`) and the computed history (`history`). In the relation only
+//!   the memory law determines the value of a read. `history_is_lawful` relates the two, and
+//!   `one_history` says that the relation has no other solution.
+//! - Lines are defined here and not in `link_model`, because the simulator records lines and
+//!   `link_model` uses the simulator.
 #![tactic(auto)]
 
 mod laws;

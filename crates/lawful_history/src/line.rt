@@ -7,7 +7,8 @@ use split_ring::Refused;
 use std::alloc::Global;
 use std::marker::Model;
 
-/// One line of a history, in the order of the record's table of lines: what a peer did, what came to it, or a mark.
+/// One line of a history, in the order of the record's table of lines: an action of a peer, an
+/// interrupt, or a mark.
 ///
 /// Words are numbered from the base of the region, and values are those of whole words.
 #[derive(Debug, Drop)]
@@ -34,23 +35,23 @@ pub enum Line {
         peer: u32,
         value: u32,
     },
-    /// The peer wrote its Doorbell register, for this target and vector.
+    /// The peer wrote its Doorbell register with this target and vector.
     Doorbell {
         peer: u32,
         target: u32,
         vector: u32,
     },
-    /// An interrupt with this vector came to the peer.
+    /// An interrupt with this vector was delivered to the peer.
     Interrupt {
         peer: u32,
         vector: u32,
     },
-    /// An interrupt with this vector was delivered to the peer, and lost on its way.
+    /// An interrupt with this vector to the peer was lost.
     Lost {
         peer: u32,
         vector: u32,
     },
-    /// A device reset of the peer; its state word is 0.
+    /// A device reset of the peer; its State word is 0.
     Reset {
         peer: u32,
     },
@@ -58,7 +59,8 @@ pub enum Line {
     Idle {
         peer: u32,
     },
-    /// The peer read this value of its configuration space, at this byte and of so many bytes.
+    /// The peer read this value of its configuration space, at this byte offset and of this width
+    /// in bytes.
     ConfigRead {
         peer: u32,
         offset: u32,
@@ -72,7 +74,7 @@ pub enum Line {
         width: u32,
         value: u32,
     },
-    /// The peer read a register, at this byte of the register page.
+    /// The peer read a register, at this byte offset of the register page.
     RegisterRead {
         peer: u32,
         offset: u32,
@@ -84,7 +86,7 @@ pub enum Line {
         offset: u32,
         value: u32,
     },
-    /// The peer read its MSI-X region, at this byte.
+    /// The peer read its MSI-X region, at this byte offset.
     MsixRead {
         peer: u32,
         offset: u32,
@@ -96,22 +98,22 @@ pub enum Line {
         offset: u32,
         value: u32,
     },
-    /// Mark: the peer's Tick read this state of the other.
+    /// Mark: the peer's Tick read this State of the other.
     Saw {
         peer: u32,
         value: u32,
     },
-    /// Mark: an offer found so many used elements.
+    /// Mark: an offer found this number of used elements.
     Reclaim {
         peer: u32,
         count: u32,
     },
-    /// Mark: a poll found so many frames.
+    /// Mark: a poll found this number of frames.
     Look {
         peer: u32,
         count: u32,
     },
-    /// Mark: the frame that is offered has no room; the offer is over.
+    /// Mark: the offered frame doesn't fit; the offer is over.
     Full {
         peer: u32,
     },
@@ -123,7 +125,7 @@ pub enum Line {
     Over {
         peer: u32,
     },
-    /// Mark: the call was made outside RUN; it is over.
+    /// Mark: the call was made outside RUN, and is over.
     Down {
         peer: u32,
     },
@@ -132,7 +134,7 @@ pub enum Line {
         peer: u32,
         frame: Frame,
     },
-    /// Mark: the frame was read whole.
+    /// Mark: the whole frame was read and is delivered.
     Deliver {
         peer: u32,
         frame: Frame,
@@ -146,7 +148,8 @@ pub enum Line {
         peer: u32,
         refused: Refused,
     },
-    /// Mark: the peer enters RUN, in the session that it opened as this one of its own, beside this one of the other's.
+    /// Mark: the peer enters RUN. `opened` is the number of its own session, and `other` the number
+    /// of the other's, or 0 if the other is hostile.
     Session {
         peer: u32,
         opened: u32,
@@ -154,7 +157,7 @@ pub enum Line {
     },
 }
 
-/// A history: its lines in their order.
+/// A history: its lines in order.
 #[derive(Debug, Drop)]
 pub struct Lines {
     lines: Vec<Line>,
@@ -169,8 +172,9 @@ impl Model for Lines {
     ghost view = { λ history. history.lines.items };
 }
 
-/// Makes room for a line more, where there is none. With it `push` is short enough to be inlined: a line goes to its place part by part, and isn't
-/// put together elsewhere first and copied, which would wait for the parts that were just written.
+/// Reserves space for one more line if there is none. It keeps `push` short enough to be inlined.
+/// Then a line is written to its place field by field; otherwise it is built elsewhere and copied,
+/// and the copy waits for the fields that were just written.
 fn make_room(lines: &mut Vec<Line>) -> Result<(), NoMemory>
     ensures items { lines.new.items ≡ lines.old.items }
     ensures room { OnOk result (vec_len lines.new < vec_capacity lines.new) }
@@ -182,7 +186,7 @@ fn make_room(lines: &mut Vec<Line>) -> Result<(), NoMemory>
 }
 
 impl Lines {
-    /// The history without a line.
+    /// Returns the history without lines.
     pub fn new(alloc: Global) -> Lines
         ensures { result ≡ [] }
     {
@@ -191,7 +195,7 @@ impl Lines {
         }
     }
 
-    /// Makes room for so many lines more. NoMemory says that memory ran out.
+    /// Reserves space for `more` more lines. Returns `Err(NoMemory)` if the allocation fails.
     pub fn reserve(&mut self, more: usize) -> Result<(), NoMemory>
         ensures { self.new ≡ self.old }
     {
@@ -199,7 +203,10 @@ impl Lines {
         Ok(())
     }
 
-    /// Puts a line last. After NoMemory the history is unchanged and the line is dropped.
+    /// Appends a line. After `Err(NoMemory)` the history is unchanged and the line is dropped.
+    // claim put, unchanged with Lines::new, Lines::reserve, Lines::clear, Lines::items,
+    //    Lines::into_items: A list of lines has the lines that were appended, in order; a failed
+    //    call changes nothing.
     #[inline(always)]
     pub fn push(&mut self, line: Line) -> Result<(), NoMemory>
         ensures put { OnOk result (self.new ≡ self.old ++ line ∷ []) }
@@ -210,21 +217,21 @@ impl Lines {
         Ok(())
     }
 
-    /// Drops the lines. The room that they had stays.
+    /// Drops the lines. Their space stays reserved.
     pub fn clear(&mut self)
         ensures { self.new ≡ [] }
     {
         self.lines.clear();
     }
 
-    /// The lines in their order.
+    /// Returns the lines in order.
     pub fn items(&self) -> &[Line]
         ensures { result.now ≡ self.now }
     {
         self.lines.as_slice()
     }
 
-    /// The lines in their order, as a vector.
+    /// Returns the lines in order, as a vector.
     pub fn into_items(self) -> Vec<Line>
         ensures { result.items ≡ self }
     {

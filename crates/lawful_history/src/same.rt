@@ -1,10 +1,11 @@
-//! Whether two lines are the same; `its_` names a field of the other one.
+//! Whether two lines are equal. The prefix `its_` is for a field of the other line.
 ghost use Rattle.std.specs.Prelude.{◌≡◌, ◌↔◌, IsTrue};
 
 use crate::line::Line;
 
 impl Line {
-    /// Is it the same line?
+    /// Whether the two lines are equal.
+    // claim: Two lines are the same exactly if they are equal, field by field.
     pub fn same(&self, found: &Line) -> bool
         ensures { IsTrue result ↔ self.now ≡ found.now }
     {

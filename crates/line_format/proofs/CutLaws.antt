@@ -23,7 +23,7 @@ cut_at c bytes i lt here before =
     rw (get_or-take i bytes k d low, get_or_default bytes k d 0 far) (no_test _ (before k (omega arith) low)) in
     ap (cuts c) (sym parts) ∙ slice_split_at (λ b. eqb b c) (take i bytes) (get_or bytes i 0) (drop (suc i) bytes) front here ∙ ap (λ (t : List ℕ). take i bytes ∷ cuts c (drop 1 t)) (sym tail)
 
--- there is a piece after the last cut
+-- A piece comes after the last cut.
 pub more_than : (c : ℕ) (before : List (List ℕ)) (rest piece more bytes : List ℕ) (n : ℕ) → before ++ cuts c rest ≡ cuts c bytes → cuts c rest ≡ piece ∷ cuts c more → n ≤ length before → n + 1 < length (cuts c bytes)
 more_than c before rest piece more bytes n so_far next le =
     let all : length before + length (cuts c rest) ≡ length (cuts c bytes) = sym (length-append before (cuts c rest)) ∙ ap length so_far in

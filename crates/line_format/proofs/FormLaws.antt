@@ -7,7 +7,7 @@ use Rattle.std.proofs.lemmas.Option.{option_and_then_some}
 use Rattle.line_format.specs.Numbers.{number_of}
 use Rattle.line_format.specs.Forms.{Piece, Word, Number, Hex, numbers_of, AreInRange, high_at}
 
--- the number in range and the numbers after it
+-- The number in range and the numbers after it.
 pub guarded : (a b : Bool) (n : ℕ) (later : Option (List ℕ)) (ns : List ℕ) → cond (a && b) (option_map (λ ms. n ∷ ms) later) None ≡ Some ns
     → (a ≡ true) × (b ≡ true) × (ms : List ℕ) × (later ≡ Some ms) × (ns ≡ n ∷ ms)
 guarded true true n (Some ms) ns e = (refl, refl, ms, refl, cc)

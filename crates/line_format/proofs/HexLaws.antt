@@ -1,4 +1,4 @@
--- Hex digits by the kit's words: lower case digits decode as they are read here.
+-- Hex digits in the kit's definitions: lower case digits decode as they are read here.
 use Rattle.std.proofs.Common.{◌≡◌, ℕ, ◌+◌, ◌*◌, ◌/◌, ◌%◌, ◌<◌, Bool, true, false, ◌&&◌, eqb, ltb, List, [], ◌∷◌, ◌++◌, length, get_or, take, drop, Option, Some, None, Result, Ok, Err, refl, sym, ap, ◌∙◌, append_assoc, inl, inr, arith}
 use Rattle.std.specs.Prelude.{option_map, option_and_then, unwrap_or, is_some, MatchResult}
 use Rattle.std.specs.Option.{option_map_or}
@@ -34,7 +34,7 @@ digit_is : (c : ℕ) (o : Option ℕ) → hex_digit c ≡ o → is_some o ≡ tr
 digit_is c (Some v) is e = (v, is)
 digit_is c None is e = absurd cc
 
--- ---- what is no lower case digit
+-- ---- bytes that are no lower case digits
 
 no_pair : (oh ol : Option ℕ) (rest : Option (List ℕ)) (later : Bool) → (is_some oh && (is_some ol && later)) ≡ false → (later ≡ false → rest ≡ None) →
     option_and_then (λ high. option_and_then (λ low. option_map (λ bytes. (high * 16 + low) ∷ bytes) rest) ol) oh ≡ None
@@ -48,7 +48,7 @@ not_lower [] e = absurd cc
 not_lower (d ∷ []) e = refl
 not_lower (h ∷ l ∷ digits) e = no_pair (hex_digit h) (hex_digit l) (hex_bytes digits) (list_all is_lower digits) e (not_lower digits)
 
--- ---- what is decoded
+-- ---- decoding
 
 abbrev pub ok_of : Result (List ℕ) FromHexError → Option (List ℕ)
 ok_of (Ok bytes) = Some bytes
@@ -85,7 +85,7 @@ length_mapped b (Some more) bytes n e later =
     omega (arith, ap length is)
 length_mapped b None bytes n e later = absurd cc
 
--- two digits spell a byte
+-- Two digits spell a byte.
 pub hex_bytes-length : (digits bytes : List ℕ) → hex_bytes digits ≡ Some bytes → length digits ≡ 2 * length bytes
 unfolding hex_bytes
 hex_bytes-length [] bytes e = let is : bytes ≡ [] = cc in omega (arith, ap length is)
@@ -103,7 +103,7 @@ odd_none digits None is odd = refl
 odd_refused : (digits : List ℕ) (n : ℕ) → length digits % 2 ≡ 1 → ok_of (decode_sized digits n) ≡ None
 odd_refused digits n odd = rw odd refl
 
--- lower case digits that are decoded into half as many bytes
+-- Lower case digits decode into half as many bytes.
 pub decoded : (digits : List ℕ) (n : ℕ) → list_all is_lower digits ≡ true → length digits / 2 ≡ n → hex_bytes digits ≡ ok_of (decode_sized digits n)
 decoded digits n e half =
     elim (cases_lt (length digits % 2) 1) [
@@ -131,7 +131,7 @@ unfolding encode_with
 encode_done out total [] none e = sym (append-nil out) ∙ e
 encode_done out total (r ∷ rest) none e = absurd (omega arith)
 
--- ---- what decoding answers
+-- ---- the result of decoding
 
 module _ {A : Type 0} (ok : A) (new : List ℕ) (result : Result A FromHexError) where
   pub ok_from : (r : Result (List ℕ) FromHexError) → MatchResult r (λ bytes. (result ≡ Ok ok) × (new ≡ bytes)) (λ e. result ≡ Err e) → (a : A) → result ≡ Ok a → Some new ≡ ok_of r

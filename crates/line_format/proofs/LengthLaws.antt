@@ -1,11 +1,11 @@
--- How many bytes a text of rows has at the most.
+-- The most bytes of a text of rows.
 use Rattle.std.proofs.Common.{◌≡◌, ℕ, ◌+◌, ◌≤◌, List, [], ◌∷◌, ◌++◌, length, ap, ◌∙◌, arith, length-append}
 use Rattle.std.specs.List.{join_with_byte}
 use Rattle.std.proofs.lemmas.List.Concat.{flat_map-append, flat_map-cons}
 use Rattle.line_format.specs.Forms.{Piece, line_of}
 use Rattle.line_format.specs.Rows.{Row, fields_of_row, line_of_row, text_of}
 
--- the fields, each with a byte after it
+-- The bytes of the fields, each with a byte after it.
 abbrev pub widths : List (List ℕ) → ℕ
 widths [] = 0
 widths (f ∷ fs) = length f + 1 + widths fs
@@ -25,7 +25,7 @@ text_cons pieces_of r rs = ap length (flat_map-cons (line_of_row pieces_of) r rs
 pub text_append : {F : Type 0} (pieces_of : F → List Piece) (rs qs : List (Row F)) → length (text_of pieces_of (rs ++ qs)) ≡ length (text_of pieces_of rs) + length (text_of pieces_of qs)
 text_append pieces_of rs qs = ap length (flat_map-append (line_of_row pieces_of) rs qs) ∙ length-append (text_of pieces_of rs) (text_of pieces_of qs)
 
--- no more than these bytes
+-- The most bytes of these rows' lines.
 abbrev pub most_of : {F : Type 0} → (F → List Piece) → List (Row F) → ℕ
 most_of pieces_of [] = 0
 most_of pieces_of (r ∷ rs) = 1 + widths (fields_of_row pieces_of r) + most_of pieces_of rs

@@ -62,7 +62,7 @@ at_place : (test : ℕ → Bool) (c : ℕ) → (test c ≡ true → ⊥) → (b 
 at_place test c fails b bytes here later zero d lt = differs b c (λ is. fails (rw is at here))
 at_place test c fails b bytes here later (suc k) d lt = later k d (omega arith)
 
--- where each byte passes a test that c fails, none is c
+-- If each byte passes a test that `c` fails, none is `c`.
 pub free_of : (test : ℕ → Bool) (c : ℕ) → (test c ≡ true → ⊥) → (bytes : List ℕ) → list_all test bytes ≡ true → All (λ b. eqb b c ≡ false) bytes
 free_of test c fails [] all = λ k d lt. absurd (omega arith)
 free_of test c fails (b ∷ bytes) all =
@@ -97,6 +97,6 @@ line_printable (f ∷ g ∷ fs) all =
     let t = both_true (is_field f) (list_all is_field (g ∷ fs)) all in
     list_all-append is_printable f (32 ∷ line_of (g ∷ fs)) (field_printable f t.0) (line_printable (g ∷ fs) t.1)
 
--- a line and its newline
+-- A line and its newline.
 pub cuts-line : (line rest : List ℕ) → list_all is_printable line ≡ true → cuts 10 (line ++ 10 ∷ rest) ≡ line ∷ cuts 10 rest
 cuts-line line rest all = slice_split_at (λ b. eqb b 10) line 10 rest (free_of is_printable 10 (λ e. cc) line all) refl

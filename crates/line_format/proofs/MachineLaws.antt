@@ -154,7 +154,7 @@ reads_cut m d n (line ∷ next ∷ more) e j leads lt =
           rw part (one_piece m d n (take j line) (plain_front line j leads.1))
     ]
 
--- ---- each piece is without newline
+-- ---- no piece has a newline
 
 go : (b : ℕ) (line : List ℕ) → eqb b 10 ≡ false → HasNoNewline line → (k d : ℕ) → k < length (b ∷ line) → eqb (get_or (b ∷ line) k d) 10 ≡ false
 go b line here plain zero d lt = here
@@ -175,13 +175,13 @@ pieces_plain : (bytes : List ℕ) → AllPlain (cuts 10 bytes)
 pieces_plain [] = ((λ k d lt. absurd (omega arith)), tt)
 pieces_plain (b ∷ bytes) = plain_step b (cuts 10 bytes) (eqb b 10) refl (pieces_plain bytes)
 
--- a text is read exactly where it is lines that lead to what is read
+-- A text is read exactly if it is lines that lead to the value read.
 pub read_is_lines : {S C : Type 0} (m : Machine S C) (start e : S) (bytes : List ℕ) → read m start bytes ≡ Ok e → (lines : List (List ℕ)) × (bytes ≡ text_of_lines lines) × Leads m start lines e
 read_is_lines m start e bytes is =
     let back = lines_back m start 0 (cuts 10 bytes) e (pieces_plain bytes) is in
     (back.0, sym (join_with_byte-slice_split 10 bytes) ∙ back.1, back.2)
 
--- ---- the first line that is wrong
+-- ---- the first faulty line
 
 abbrev FirstWrong : {S C : Type 0} → Machine S C → S → ℕ → List (List ℕ) → C → ℕ → Type 0
 FirstWrong {S} m d n pieces cause k = (good : List (List ℕ)) × (line : List ℕ) × (rest : List (List ℕ)) × (now : S) × (pieces ≡ good ++ line ∷ rest) × (0 < length rest) × Passes m d good now × (m.step now line ≡ Err cause) × (k ≡ n + length good + 1)
@@ -218,7 +218,7 @@ is_first_wrong m d pieces cause k is =
 
 -- ---- lines before the last
 
--- the lines are good and lead from d to e, none of them to an end, and none has a newline
+-- No line is faulty and none has a newline, and the lines lead from `d` to `e` without an end.
 abbrev pub Goes : {S C : Type 0} → Machine S C → S → List (List ℕ) → S → Type 0
 Goes m d [] e = d ≡ e
 Goes {S} m d (line ∷ lines) e = (now : S) × HasNoNewline line × (m.step d line ≡ Ok now) × (m.ended now ≡ false) × Goes m now lines e

@@ -1,4 +1,4 @@
--- A field is a number exactly where it is the decimal spelling of one.
+-- A field is a number exactly if it is the decimal spelling of one.
 use Rattle.std.proofs.Common.{◌≡◌, ℕ, ◌+◌, ◌-◌, ◌*◌, ◌^◌, ◌<◌, ◌≤◌, Bool, true, false, cond, ltb, ◌&&◌, List, [], ◌∷◌, length, get_or, take, Some, None, refl, sym, ap, subst, ◌∙◌, arith, inl, inr}
 use Rattle.std.specs.Prelude.{decimal}
 use Rattle.std.specs.Str.{bytes_eq}
@@ -76,7 +76,7 @@ is_number field n small some first digits value =
     let spelled : decimal (digits_value 10 field) ≡ field = decimal-digits_value (numerals_by_value (AllDigits 10) tells_digits) field digits some one small' in
     ap number_of (sym spelled ∙ ap decimal (sym value)) ∙ number_of-decimal n small
 
--- one digit more
+-- One more digit.
 pub one_more : (field : List ℕ) (i n : ℕ) → i < length field → n ≡ digits_value 10 (take i field) → IsInRange 48 57 (get_or field i 0) → n * 10 + (get_or field i 0 - 48) ≡ digits_value 10 (take (i + 1) field)
 one_more field i n lt is digit =
     let more = digits_value_more 10 field i lt in

@@ -1,4 +1,4 @@
--- Reading line by line, as a loop does: what is still to come gives what the whole text gives.
+-- Reading line by line in a loop: the rest gives what the whole text gives.
 use Rattle.std.proofs.Common.{◌≡◌, ℕ, ◌+◌, ◌<◌, true, false, List, [], ◌∷◌, length, Result, Ok, Err, refl, sym, ap, ◌∙◌, arith}
 use Rattle.std.proofs.lemmas.List.{nil_from_length}
 use Rattle.line_format.specs.Forms.{cuts}

@@ -10,12 +10,12 @@ use Rattle.line_format.proofs.SpellLaws.{hex_bytes-encode}
 use Rattle.line_format.proofs.LineLaws.{is_field, spell_visible, fields_of-line_of, line_printable, free_of}
 use Rattle.line_format.proofs.TableLaws.{IsTable}
 
--- the values of a row are its form's
+-- The values of a row are those of its form.
 pub record IsRow {F : Type 0} (pieces_of : F → List Piece) (r : Row F) : Type 0 where
   pub values : Fit (pieces_of r.form) r.numbers
   pub hex : FitBytes (pieces_of r.form) r.frame
 
--- the row's line, without its newline
+-- The row's line, without its newline.
 abbrev pub bare : {F : Type 0} → (F → List Piece) → Row F → List ℕ
 bare pieces_of r = line_of (fields_of_row pieces_of r)
 
@@ -39,11 +39,11 @@ some_fields (Hex ∷ ps) ns bytes lt fit = omega arith
 some_fields (Number low high ∷ ps) [] bytes lt fit = absurd fit
 some_fields (Number low high ∷ ps) (n ∷ ns) bytes lt fit = omega arith
 
--- a row's line is cut into the row's fields again
+-- A row's line is cut into the row's fields again.
 pub row_cut : {F : Type 0} (pieces_of : F → List Piece) (forms : List F) → IsTable pieces_of forms → (r : Row F) → IsRow pieces_of r → fields_of (bare pieces_of r) ≡ fields_of_row pieces_of r
 row_cut pieces_of forms table r is = whole_line (fields_of_row pieces_of r) (some_fields (pieces_of r.form) r.numbers r.frame (table.some r.form) is.values) (row_fields pieces_of forms table r is)
 
--- the field of hex digits spells the bytes
+-- The field of hex digits spells the bytes.
 pub hex_of-spell : (ps : List Piece) (ns bytes : List ℕ) → Fit ps ns → FitBytes ps bytes → hex_bytes (hex_of ps (spell ps ns bytes)) ≡ Some bytes
 unfolding hex_bytes
 hex_of-spell [] ns bytes fit hex = ap (λ (t : List ℕ). Some t) (sym hex)
@@ -53,7 +53,7 @@ hex_of-spell (Number low high ∷ ps) (n ∷ ns) bytes fit hex = hex_of-spell ps
 hex_of-spell (Hex ∷ []) ns bytes fit hex = hex_bytes-encode bytes hex
 hex_of-spell (Hex ∷ p ∷ ps) ns bytes fit hex = absurd hex
 
--- a line is its fields, joined
+-- A line is its fields, joined.
 pub line_is : (line : List ℕ) (fields : List (List ℕ)) → fields_of line ≡ fields → line ≡ line_of fields
 line_is line fields is = sym (join_with_byte-slice_split 32 line) ∙ ap line_of is
 
@@ -63,7 +63,7 @@ pub text-cons : {F : Type 0} (pieces_of : F → List Piece) (r : Row F) (rs : Li
 unfolding line_of_row
 text-cons pieces_of r rs = flat_map-cons (line_of_row pieces_of) r rs ∙ append_assoc (bare pieces_of r) (10 ∷ []) (text_of pieces_of rs)
 
--- a text of rows is the text of their lines
+-- A text of rows is the text of their lines.
 pub text_is_lines : {F : Type 0} (pieces_of : F → List Piece) (rs : List (Row F)) → text_of pieces_of rs ≡ text_of_lines (map (bare pieces_of) rs)
 text_is_lines pieces_of [] = refl
 text_is_lines pieces_of (r ∷ rs) =

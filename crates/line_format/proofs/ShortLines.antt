@@ -1,4 +1,4 @@
--- A word and some numbers as the fields of a line.
+-- A word and numbers as the fields of a line.
 use Rattle.std.proofs.Common.{◌≡◌, ℕ, List, [], ◌∷◌, ◌++◌, append_assoc}
 use Rattle.line_format.specs.Forms.{line_of}
 

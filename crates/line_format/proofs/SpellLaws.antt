@@ -1,4 +1,4 @@
--- What a form spells is read again, and what is read is what the form spells.
+-- A form's spelling is read again, and what is read is what the form spells.
 use Rattle.std.proofs.Common.{◌≡◌, ℕ, zero, suc, ◌+◌, ◌-◌, ◌*◌, ◌/◌, ◌%◌, ◌^◌, ◌<◌, ◌≤◌, Bool, true, false, cond, eqb, leb, ltb, ◌&&◌, List, [], ◌∷◌, get_or, Option, Some, None, refl, sym, ap, subst, arith, inl, inr}
 use Rattle.std.specs.Prelude.{option_map, option_and_then, decimal}
 use Rattle.std.specs.List.{list_all}
@@ -65,7 +65,7 @@ first_byte : (b : ℕ) (bytes : List ℕ) → b < 256 → ((i : ℕ) → get_or 
 first_byte b bytes small later zero = small
 first_byte b bytes small later (suc i) = later i
 
--- a test of each number below a bound, which computes
+-- Whether each number below a bound passes a test, as a function.
 abbrev pub below : (ℕ → Bool) → ℕ → Bool
 below test zero = true
 below test (suc n) = test n && below test n

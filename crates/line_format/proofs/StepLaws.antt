@@ -1,4 +1,4 @@
--- What a chain of tests says where it ends well.
+-- What a chain of tests says if all pass.
 use Rattle.std.proofs.Common.{◌≡◌, Bool, true, false, cond, not, Option, Some, None, Result, Ok, Err, refl}
 use Rattle.line_format.specs.Steps.{◌>>=◌, some_or}
 

@@ -8,7 +8,7 @@ use Rattle.line_format.specs.Rows.{find_form, overlaps, are_apart}
 use Rattle.line_format.proofs.SpellLaws.{both_true, matches-spell}
 use Rattle.line_format.proofs.StepLaws.{not_true, same_some}
 
--- each form stands in the list, no fields have two forms, and each form is one
+-- Each form is in the list, no fields match two forms, and each form is allowed.
 pub record IsTable {F : Type 0} (pieces_of : F → List Piece) (forms : List F) : Type 0 where
   pub place : F → ℕ
   pub listed : (f : F) → slice_get forms (place f) ≡ Some f
@@ -62,12 +62,12 @@ finds_at pieces_of (g ∷ fs) (suc i) f ns bytes all is fit =
     let other : overlaps (pieces_of g) (pieces_of f) ≡ false = not_true _ (passes_at (λ h. not (overlaps (pieces_of g) (pieces_of h))) fs i f t.0 is) in
     rw (apart_from (pieces_of g) (pieces_of f) ns bytes other fit) (finds_at pieces_of fs i f ns bytes t.1 is fit)
 
--- the fields of a form with its numbers have that form and no other
+-- The fields of a form with its numbers have that form and no other.
 pub finds : {F : Type 0} (pieces_of : F → List Piece) (forms : List F) → IsTable pieces_of forms → (f : F) (ns bytes : List ℕ) → Fit (pieces_of f) ns → find_form pieces_of forms (spell (pieces_of f) ns bytes) ≡ Some f
 unfolding find_form
 finds pieces_of forms table f ns bytes fit = finds_at pieces_of forms (table.place f) f ns bytes table.apart (table.listed f) fit
 
--- a form that is found has these words and this number of fields
+-- A form that is found has these words and this number of fields.
 here : {F : Type 0} (pieces_of : F → List Piece) (b : Bool) (g : F) (forms : List F) (fs : List (List ℕ)) (f : F) → matches (pieces_of g) fs ≡ b → ((find (λ h. matches (pieces_of h) fs) forms ≡ Some f) → matches (pieces_of f) fs ≡ true) → cond b (Some g) (find (λ h. matches (pieces_of h) fs) forms) ≡ Some f → matches (pieces_of f) fs ≡ true
 here pieces_of true g forms fs f is later e = let same : g ≡ f = cc in subst (λ x. matches (pieces_of x) fs ≡ true) same is
 here pieces_of false g forms fs f is later e = later e
@@ -80,7 +80,7 @@ pub found : {F : Type 0} (pieces_of : F → List Piece) (forms : List F) (fs : L
 unfolding find_form
 found pieces_of forms fs f e = found_in pieces_of forms fs f e
 
--- a form has as many fields as pieces
+-- A form has as many fields as pieces.
 too_many : (ps : List Piece) (fs : List (List ℕ)) → length ps < length fs → matches ps fs ≡ false
 too_many [] [] lt = absurd (omega arith)
 too_many [] (f ∷ fs) lt = refl

@@ -1,20 +1,21 @@
--- Reading a text line by line, whatever its lines are.
+-- Reading a text line by line, for every kind of line.
 use Rattle.std.specs.Prelude.{◌≡◌, ℕ, ◌+◌, ◌<◌, ◌==◌, not, if◌then◌else◌, Bool, true, false, List, [], ◌∷◌, ◌++◌, length, All, Result, Ok, Err}
 use Rattle.std.specs.List.{flat_map}
 use Rattle.line_format.specs.Forms.{cuts}
 
--- how a line changes what the lines so far say, and where a text ends
+-- The effect of a line on the value of the lines so far, and the test for the end of a text.
 pub record Machine (S C : Type 0) : Type 0 where
   pub step : S → List ℕ → Result S C
   pub ended : S → Bool
 
--- the first line that is wrong and why, bytes after the end and the number of their line, or no end
+-- The fault of a text: the first faulty line with its cause, bytes after the end with the number of
+-- their line, or no end.
 pub data Wrong (C : Type 0) : Type 0 where
   At : C → ℕ → Wrong C
   After : ℕ → Wrong C
   NoEnd : Wrong C
 
--- nothing stands after the last newline
+-- Nothing comes after the last newline.
 abbrev pub is_nothing : List (List ℕ) → Bool
 is_nothing ([] ∷ []) = true
 is_nothing _ = false
@@ -25,7 +26,7 @@ bytes_after_line ended n more later (Ok now) =
     if not (ended now) then later now
     else if is_nothing more then Ok now else Err (After (n + 2))
 
--- the pieces between newlines, of which the last is no line, after n lines
+-- The value of the pieces between newlines, after n lines; the last piece is no line.
 unfoldable pub read_pieces : {S C : Type 0} → Machine S C → S → ℕ → List (List ℕ) → Result S (Wrong C)
 read_pieces m d n [] = Err NoEnd
 read_pieces m d n (line ∷ []) = Err NoEnd
@@ -42,20 +43,20 @@ text_of_lines lines = flat_map (λ line. line ++ 10 ∷ []) lines
 abbrev pub HasNoNewline : List ℕ → Type 0
 HasNoNewline line = All (λ b. (b == 10) ≡ false) line
 
--- the lines lead from d to the end e
+-- The lines lead from `d` to the end `e`.
 abbrev pub Leads : {S C : Type 0} → Machine S C → S → List (List ℕ) → S → Type 0
 Leads m d [] e = ⊥
 Leads m d (line ∷ []) e = HasNoNewline line × (m.step d line ≡ Ok e) × (m.ended e ≡ true)
 Leads {S} m d (line ∷ next ∷ more) e = (now : S) × HasNoNewline line × (m.step d line ≡ Ok now) × (m.ended now ≡ false) × Leads m now (next ∷ more) e
 
--- ---- the first line that is wrong
+-- ---- the first faulty line
 
--- the lines are good and lead from d to e, none of them to an end
+-- No line is faulty, and the lines lead from `d` to `e` without an end.
 abbrev pub Passes : {S C : Type 0} → Machine S C → S → List (List ℕ) → S → Type 0
 Passes m d [] e = d ≡ e
 Passes {S} m d (line ∷ lines) e = (now : S) × (m.step d line ≡ Ok now) × (m.ended now ≡ false) × Passes m now lines e
 
--- line k is the first that is wrong, for this cause: the lines before it pass
+-- Line k is the first faulty one, for this cause: the lines before it pass.
 pub record IsFirstWrong {S C : Type 0} (m : Machine S C) (d : S) (pieces : List (List ℕ)) (cause : C) (k : ℕ) : Type 0 where
   pub good : List (List ℕ)
   pub line : List ℕ

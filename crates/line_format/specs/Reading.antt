@@ -1,4 +1,4 @@
--- What reading answers, against what the definitions say. Want of memory is the one free answer.
+-- What reading returns, against the definitions. A failed allocation is the one free answer.
 use Rattle.std.specs.Prelude.{◌≡◌, Result, Ok, Err}
 use Rattle.line_format.specs.declared.reading.LineFault.{LineFault}
 use Rattle.line_format.specs.declared.reading.LineFault.TheVariants as lines
@@ -6,17 +6,19 @@ use Rattle.line_format.specs.declared.reading.TextFault.{TextFault}
 use Rattle.line_format.specs.declared.reading.TextFault.TheVariants as texts
 use Rattle.line_format.specs.Machine.{Wrong, At, After, NoEnd}
 
--- the line is wrong for this cause, unless memory ran out
+-- The line is faulty for this cause, unless an allocation failed.
 abbrev pub Fails : {S C : Type 0} → LineFault C → Result S C → Type 0
 Fails lines.NoMemory said = Unit {0}
 Fails (lines.Wrong cause) said = said ≡ Err cause
 
--- after a line that was taken it is so now, else the line is wrong, unless memory ran out
+-- After a line that was taken the value is `now`; otherwise the line is faulty, unless an
+-- allocation failed.
 abbrev pub Gives : {S C U : Type 0} → S → Result U (LineFault C) → Result S C → Type 0
 Gives now (Ok done) said = said ≡ Ok now
 Gives now (Err fault) said = Fails fault said
 
--- after a text that was read it is so now, else this is wrong first, unless memory ran out
+-- After a text that was read the value is `now`; otherwise this is its first fault, unless an
+-- allocation failed.
 abbrev pub Reads : {S C U : Type 0} → S → Result U (TextFault C) → Result S (Wrong C) → Type 0
 Reads now (Ok done) said = said ≡ Ok now
 Reads now (Err texts.NoMemory) said = Unit {0}

@@ -1,10 +1,10 @@
--- Lines as values: a table says what the fields of each form are, and a row is a form with its values.
+-- Lines as values: a table has the fields of each form, and a row is a form with its values.
 use Rattle.std.specs.Prelude.{ℕ, Bool, not, ◌&&◌, List, [], ◌∷◌, ◌++◌, true, false, Option}
 use Rattle.std.specs.Str.{bytes_eq}
 use Rattle.std.specs.List.{find, flat_map, list_all}
 use Rattle.line_format.specs.Forms.{Piece, Word, matches, spell, line_of}
 
--- a line as a value: its form, its numbers from left to right, and its bytes
+-- A line as a value: its form, its numbers from left to right, and its bytes.
 pub record Row (F : Type 0) : Type 0 where
   pub form : F
   pub numbers : List ℕ
@@ -13,23 +13,23 @@ pub record Row (F : Type 0) : Type 0 where
 abbrev pub row : {F : Type 0} → F → List ℕ → List ℕ → Row F
 row form ns frame = record { form = form; numbers = ns; frame = frame }
 
--- the fields of the row's line
+-- The fields of the row's line.
 abbrev pub fields_of_row : {F : Type 0} → (F → List Piece) → Row F → List (List ℕ)
 fields_of_row pieces_of r = spell (pieces_of r.form) r.numbers r.frame
 
--- the row's line with its newline
+-- The row's line with its newline.
 unfoldable pub line_of_row : {F : Type 0} → (F → List Piece) → Row F → List ℕ
 line_of_row pieces_of r = line_of (fields_of_row pieces_of r) ++ 10 ∷ []
 
--- the text of rows is their lines, each with its newline
+-- The text of rows is their lines, each with its newline.
 abbrev pub text_of : {F : Type 0} → (F → List Piece) → List (Row F) → List ℕ
 text_of pieces_of rows = flat_map (line_of_row pieces_of) rows
 
--- the first form of the list whose words and number of fields these are
+-- The first form of the list whose words and number of fields match.
 unfoldable pub find_form : {F : Type 0} → (F → List Piece) → List F → List (List ℕ) → Option F
 find_form pieces_of forms fields = find (λ form. matches (pieces_of form) fields) forms
 
--- some fields have both forms
+-- Whether there are fields that match both forms.
 abbrev pub overlaps : List Piece → List Piece → Bool
 overlaps [] [] = true
 overlaps [] (q ∷ qs) = false
@@ -37,7 +37,7 @@ overlaps (p ∷ ps) [] = false
 overlaps (Word v ∷ ps) (Word w ∷ qs) = bytes_eq v w && overlaps ps qs
 overlaps (p ∷ ps) (q ∷ qs) = overlaps ps qs
 
--- no fields have two of the forms
+-- Whether no fields match two of the forms.
 abbrev pub are_apart : {F : Type 0} → (F → List Piece) → List F → Bool
 are_apart pieces_of [] = true
 are_apart pieces_of (f ∷ fs) = list_all (λ g. not (overlaps (pieces_of f) (pieces_of g))) fs && are_apart pieces_of fs

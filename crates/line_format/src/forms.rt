@@ -8,14 +8,14 @@ use crate::cuts::cut;
 use crate::numbers::number;
 use arrayvec::ArrayVec;
 
-/// Is each byte of the line one from the space to `~`?
+/// Whether each byte of the line is from the space to `~`.
 pub fn is_printable(line: &[u8]) -> bool
     ensures { result ≡ list_all is_printable line.now }
 {
     line.iter().all(|b| 32 <= *b && *b <= 126)
 }
 
-/// What stands in one field of a form.
+/// The kind of one field of a form.
 #[derive(Clone, Copy)]
 pub enum FieldKind {
     /// This word.
@@ -26,7 +26,7 @@ pub enum FieldKind {
     Hex,
 }
 
-/// The fields of a line, unless they are more than any form has.
+/// Returns the fields of a line, or `None` if there are more than six, the most of any form.
 pub fn fields<'a>(line: &'a [u8]) -> Option<ArrayVec<&'a [u8], 6>>
     ensures { MatchOption result (6 < length (fields_of line.now)) (λ v. texts v.items ≡ fields_of line.now) }
 {
@@ -43,7 +43,8 @@ pub fn fields<'a>(line: &'a [u8]) -> Option<ArrayVec<&'a [u8], 6>>
     Some(fields)
 }
 
-/// Whether the words and the number of the fields are those of the form.
+/// Whether the number of fields and the words in them are those of the form.
+// claim with fields: A line has a form by its words and its number of fields.
 pub fn has_form(slots: &[FieldKind], fields: &[&[u8]]) -> bool
     ensures { result ≡ matches (pieces slots.now) (texts fields.now) }
 {
@@ -59,7 +60,7 @@ pub fn has_form(slots: &[FieldKind], fields: &[&[u8]]) -> bool
     }
 }
 
-/// Puts the numbers of the fields after the others, if each is one and in its range.
+/// Appends the numbers of the fields. Returns whether each of them is a number in its range.
 fn read_numbers(slots: &[FieldKind], fields: &[&[u8]], numbers: &mut ArrayVec<u64, 6>) -> bool
     requires { array_vec_len numbers.old + length slots.now ≤ 6 }
     ensures { MatchOption (numbers_of (pieces slots.now) (texts fields.now)) (IsFalse result) (λ ns. IsTrue result × (numbers.new.items ≡ numbers.old.items ++ ns)) }
@@ -85,7 +86,7 @@ fn read_numbers(slots: &[FieldKind], fields: &[&[u8]], numbers: &mut ArrayVec<u6
     }
 }
 
-/// The field of hex digits, or nothing.
+/// Returns the field of hex digits, or no bytes if the form has none.
 pub fn hex_field<'a>(slots: &[FieldKind], fields: &[&'a [u8]]) -> &'a [u8]
     ensures { result.now ≡ hex_of (pieces slots.now) (texts fields.now) }
 {
@@ -101,7 +102,9 @@ pub fn hex_field<'a>(slots: &[FieldKind], fields: &[&'a [u8]]) -> &'a [u8]
     }
 }
 
-/// The numbers of the fields, if each is one and in its range.
+/// Returns the numbers of the fields, if each of them is a number in its range.
+// claim value, limits with hex_field: The numbers of a form are read exactly if each is a number in
+//    its range.
 pub fn numbers_in(slots: &[FieldKind], fields: &[&[u8]]) -> Option<ArrayVec<u64, 6>>
     requires { length slots.now ≤ 6 }
     ensures value { option_map (λ v. v.items) result ≡ numbers_of (pieces slots.now) (texts fields.now) }
@@ -114,7 +117,7 @@ pub fn numbers_in(slots: &[FieldKind], fields: &[&[u8]]) -> Option<ArrayVec<u64,
     Some(numbers)
 }
 
-/// The number at this place of a line's numbers, from 0; 0 where there is none.
+/// Returns number `i` of a line, from 0, or 0 if there is none.
 pub fn number_at(numbers: &[u64], i: usize) -> u64
     ensures { result ≡ slice_index numbers.now i }
 {

@@ -6,24 +6,26 @@ ghost use Rattle.line_format.specs.Forms.{hex_digit, hex_bytes};
 
 use std::alloc::{AllocError, Global};
 
-/// How many bytes are written in one go.
+/// The number of bytes that are written at once.
 const PIECE: usize = 64;
 
-/// Is it a digit, with a lower case letter where it has one?
+/// Whether the byte is a hex digit, and no upper case letter.
 fn is_lower_digit(byte: u8) -> bool
     ensures { result ≡ is_some (hex_digit byte) }
 {
     matches!(byte, b'0'..=b'9' | b'a'..=b'f')
 }
 
-/// Is each byte such a digit?
+/// Whether each byte is such a digit.
 fn are_lower_digits(digits: &[u8]) -> bool
     ensures { result ≡ list_all (λ c. is_some (hex_digit c)) digits.now }
 {
     digits.iter().all(|byte| is_lower_digit(*byte))
 }
 
-/// The bytes that lower case hex digits spell, if they spell any. The error says that memory ran out.
+/// Returns the bytes that lower case hex digits spell, if they spell any. Returns an error if the
+/// allocation fails.
+// claim: Hexadecimal digits are read exactly if they are lower-case pairs.
 pub fn read_hex(alloc: Global, digits: &[u8]) -> Result<Option<Vec<u8>>, AllocError>
     ensures { IfOk result (λ o. option_map (λ v. v.items) o ≡ hex_bytes digits.now) }
 {
@@ -37,7 +39,7 @@ pub fn read_hex(alloc: Global, digits: &[u8]) -> Result<Option<Vec<u8>>, AllocEr
     }
 }
 
-/// Puts the digits of the bytes last.
+/// Appends the digits of the bytes.
 pub(crate) fn put_hex(out: &mut Vec<u8>, bytes: &[u8]) -> Result<(), AllocError>
     ensures { OnOk result (out.new.items ≡ out.old.items ++ encode_lower bytes.now) }
 {

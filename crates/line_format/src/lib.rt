@@ -1,9 +1,11 @@
-//! What the texts of scenarios and records stand on: reading a text line by line, cutting bytes into lines and lines
-//! into fields, numbers in decimal, bytes as hexadecimal digits, forms of lines as tables of pieces, and short lines that
-//! are put together from their end, without a table. It stands
-//! on `ivs_base`, `arrayvec`, `hex`, `itoa` and `memchr`. Its contracts promise that reading a form's fields and writing
-//! them are one relation, so that each value has one spelling, whatever the table of forms is, and that the first
-//! line that is wrong is told, whatever its lines are.
+//! The common part of all texts: reading a text line by line, cutting bytes into lines and lines
+//! into fields, numbers in decimal and bytes as hex digits. Forms of lines are tables of pieces.
+//! Short lines are built from their end, without a table.
+//!
+//! The crate uses `ivs_base`, `arrayvec`, `hex`, `itoa` and `memchr`. Its contracts promise for
+//! every table of forms that reading a form's fields and writing them are one relation, so each
+//! value has one spelling. They promise for every kind of line that the first faulty line is
+//! reported.
 #![tactic(auto)]
 
 mod cuts;

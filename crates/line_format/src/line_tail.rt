@@ -1,4 +1,5 @@
-//! The end of a line, which grows to its front in a small buffer on the stack, so that the line is appended at once.
+//! The tail of a line. It grows towards its front in a small buffer on the stack, so that the line
+//! is appended at once.
 ghost use Rattle.std.specs.Prelude.{◌≡◌, ℕ, ◌+◌, ◌*◌, ◌<◌, ◌≤◌, ◌^◌, ◌++◌, [], ◌∷◌, OnOk, length, decimal};
 ghost use Rattle.hex.specs.Hex.{encode_lower};
 
@@ -6,7 +7,7 @@ use itoa::write_digits;
 use std::alloc::AllocError;
 use std::marker::Model;
 
-/// The last bytes of a line; at most 64.
+/// The last bytes of a line, at most 64.
 #[derive(Drop)]
 pub struct LineTail {
     bytes: [u8; 64],
@@ -24,7 +25,7 @@ impl Model for LineTail {
 }
 
 impl LineTail {
-    /// One byte alone.
+    /// Returns a tail of one byte.
     #[inline(always)]
     pub fn of(byte: u8) -> LineTail
         ensures { result ≡ byte ∷ [] }
@@ -34,7 +35,7 @@ impl LineTail {
         LineTail { bytes, start: 63 }
     }
 
-    /// Puts a byte in front.
+    /// Prepends a byte.
     #[inline(always)]
     fn byte(&mut self, byte: u8)
         requires { length self.old < 64 }
@@ -44,7 +45,7 @@ impl LineTail {
         self.start -= 1;
     }
 
-    /// Puts a number of at most 10 digits in front, with a space before it.
+    /// Prepends a number of at most 10 digits, with a space before it.
     #[inline(always)]
     pub fn number(&mut self, number: u32)
         requires { length self.old + 11 ≤ 64 }
@@ -55,7 +56,7 @@ impl LineTail {
         self.byte(b' ');
     }
 
-    /// Puts a number of at most 20 digits in front, with a space before it.
+    /// Prepends a number of at most 20 digits, with a space before it.
     #[inline(always)]
     pub fn long_number(&mut self, number: u64)
         requires { length self.old + 21 ≤ 64 }
@@ -66,7 +67,7 @@ impl LineTail {
         self.byte(b' ');
     }
 
-    /// Puts a word in front.
+    /// Prepends a word.
     #[inline(always)]
     pub fn word(&mut self, word: &[u8])
         requires { length self.old + length word.now ≤ 64 }
@@ -77,7 +78,7 @@ impl LineTail {
         self.start = start;
     }
 
-    /// Puts the digits of a few bytes in front.
+    /// Prepends the digits of a few bytes.
     #[inline(always)]
     pub fn hex(&mut self, bytes: &[u8])
         requires { length self.old + 2 * length bytes.now ≤ 64 }
@@ -91,7 +92,11 @@ impl LineTail {
         self.start = start;
     }
 
-    /// Puts it last in a text.
+    /// Appends the tail to a text.
+    // claim with LineTail::of, LineTail::number.put, LineTail::number.short,
+    //    LineTail::long_number.put, LineTail::long_number.short, LineTail::word, LineTail::hex.put,
+    //    LineTail::hex.short: The end of a line grows to its front, in 64 bytes on the stack, and
+    //    is written as it is.
     #[inline(always)]
     pub fn put(&self, out: &mut Vec<u8>) -> Result<(), AllocError>
         ensures { OnOk result (out.new.items ≡ out.old.items ++ self.now) }

@@ -2,7 +2,9 @@
 ghost use Rattle.std.specs.Prelude.{◌≡◌};
 ghost use Rattle.line_format.specs.Numbers.{number_of};
 
-/// The number that a field spells, if it spells one.
+/// Returns the number that a field spells, if it spells one.
+// claim with number_at: A field is a number exactly if it is the decimal spelling of one below
+//    2^64.
 pub fn number(field: &[u8]) -> Option<u64>
     ensures { result ≡ number_of field.now }
 {

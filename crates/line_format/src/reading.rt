@@ -1,4 +1,4 @@
-//! Reading a text line by line, whatever its lines are.
+//! Reading a text line by line, for every kind of line.
 ghost use Rattle.std.specs.Prelude.{◌≡◌};
 ghost use Rattle.line_format.specs.declared.reading.LineFault.TheVariants.{NoMemory as OutOfMemory};
 ghost use Rattle.line_format.specs.Forms.{cuts};
@@ -11,14 +11,14 @@ use std::alloc::{AllocError, Global};
 use std::fmt::Display;
 use thiserror::Error;
 
-/// Why a line was not taken.
+/// Why a line was refused.
 #[derive(Clone, Copy, Debug, PartialEq, Eq, Error)]
 #[error_bound(C: Display)]
 pub enum LineFault<C> {
-    /// There was no memory left.
+    /// An allocation failed.
     #[error("out of memory")]
     NoMemory,
-    /// The line is wrong.
+    /// The line is faulty.
     #[error("{0}")]
     Wrong(C),
 }
@@ -39,45 +39,49 @@ impl<C> From<NoMemory> for LineFault<C> {
     }
 }
 
-/// What is wrong with a text. Lines count from 1.
+/// The fault of a text. Lines count from 1.
 #[derive(Clone, Copy, Debug, PartialEq, Eq, Error)]
 #[error_bound(C: Display)]
 pub enum TextFault<C> {
-    /// There was no memory left.
+    /// An allocation failed.
     #[error("out of memory")]
     NoMemory,
-    /// The first line that is wrong, and its number.
+    /// The first faulty line: its cause and its number.
     #[error("line {1}: {0}")]
     At(C, u64),
-    /// Bytes stand after the end, on the line with this number.
+    /// Bytes come after the end, on the line with this number.
     #[error("line {0} stands after the end")]
     After(u64),
-    /// All whole lines are good, and none of them is the end.
+    /// No line is faulty, and none of them is the end.
     #[error("the text has no end")]
     NoEnd,
 }
 
-/// What the lines of a text are taken into, one by one.
+/// A draft that takes the lines of a text one by one.
 pub trait TakeLines {
-    /// What can be wrong with a line.
+    /// The cause of a line's fault.
     type Cause;
-    /// What the lines so far say.
+    /// The value of the lines so far.
     ghost SoFar: { Type 0 };
 
     ghost so_far: { Self → SoFar };
-    /// What a line adds, and where the text ends.
+    /// The effect of a line on the value, and the end of the text.
     ghost machine: { Machine SoFar Self.Cause };
 
-    /// Takes the next line, without its newline. After an error the draft is of no more use.
+    /// Takes the next line, without its newline. After an error the draft must not be used.
     fn take(&mut self, alloc: Global, line: &[u8]) -> Result<(), LineFault<Self::Cause>>
         ensures { Gives (so_far self.new) result (machine.step (so_far self.old) line.now) };
 
-    /// Was the last line the end of the text?
+    /// Whether the last line was the end of the text.
     fn has_ended(&self) -> bool
         ensures { result ≡ machine.ended (so_far self.now) };
 }
 
-/// Takes each line of a text, up to its end. The lines taken before an error stay taken.
+/// Takes each line of a text, up to its end. After an error the draft has the lines before the
+/// faulty one.
+// claim with TakeLines::take, TakeLines::has_ended: Each line of a text is taken up to its end. The
+//    first wrong line is named by its number from 1, bytes after the end by theirs, and a text
+//    without an end is refused.
 pub fn read_text<D: TakeLines>(
     alloc: Global,
     draft: &mut D,

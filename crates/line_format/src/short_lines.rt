@@ -1,4 +1,4 @@
-//! Lines of a word and up to four numbers, each put together from its end and appended at once.
+//! Lines of a word and up to four numbers. Each line is built from its end and appended at once.
 ghost use Rattle.std.specs.Prelude.{◌≡◌, ◌≤◌, ◌++◌, [], ◌∷◌, OnOk, length, decimal};
 ghost use Rattle.hex.specs.Hex.{encode_lower};
 ghost use Rattle.line_format.specs.Forms.{line_of};
@@ -7,7 +7,10 @@ use crate::hex_digits::put_hex;
 use crate::line_tail::LineTail;
 use std::alloc::AllocError;
 
-/// Puts the line of a word and a number last.
+/// Appends the line of a word and a number.
+// claim with put_two, put_three, put_four, put_named, put_with_bytes: A line of a word and one to
+//    four numbers, with a name or with a frame, is written as these fields spell it, with its
+//    newline.
 #[tactic(auto, using(crate::proofs::ShortLines::one))]
 pub fn put_one(out: &mut Vec<u8>, word: &[u8], first: u32) -> Result<(), AllocError>
     requires { length word.now ≤ 16 }
@@ -19,7 +22,7 @@ pub fn put_one(out: &mut Vec<u8>, word: &[u8], first: u32) -> Result<(), AllocEr
     line.put(out)
 }
 
-/// Puts the line of a word and two numbers last.
+/// Appends the line of a word and two numbers.
 #[tactic(auto, using(crate::proofs::ShortLines::two))]
 pub fn put_two(out: &mut Vec<u8>, word: &[u8], first: u32, second: u32) -> Result<(), AllocError>
     requires { length word.now ≤ 16 }
@@ -32,7 +35,7 @@ pub fn put_two(out: &mut Vec<u8>, word: &[u8], first: u32, second: u32) -> Resul
     line.put(out)
 }
 
-/// Puts the line of a word and three numbers last.
+/// Appends the line of a word and three numbers.
 #[tactic(auto, using(crate::proofs::ShortLines::three))]
 pub fn put_three(
     out: &mut Vec<u8>,
@@ -52,7 +55,7 @@ pub fn put_three(
     line.put(out)
 }
 
-/// Puts the line of a word and four numbers last.
+/// Appends the line of a word and four numbers.
 #[tactic(auto, using(crate::proofs::ShortLines::four))]
 pub fn put_four(
     out: &mut Vec<u8>,
@@ -74,7 +77,7 @@ pub fn put_four(
     line.put(out)
 }
 
-/// Puts the line of a word, a number, a word and a number last.
+/// Appends the line of a word, a number, a word and a number.
 #[tactic(auto, using(crate::proofs::ShortLines::three))]
 pub fn put_named(
     out: &mut Vec<u8>,
@@ -96,7 +99,7 @@ pub fn put_named(
     line.put(out)
 }
 
-/// Puts the line of a word, a number and bytes as hex digits last.
+/// Appends the line of a word, a number and bytes as hex digits.
 #[tactic(auto, using(crate::proofs::ShortLines::two))]
 pub fn put_with_bytes(
     out: &mut Vec<u8>,

@@ -1,4 +1,4 @@
-//! Writing a line of a form: its fields, a space between them, and a newline.
+//! Writing a line of a form: its fields with a space between them, and a newline.
 ghost use Rattle.std.specs.Prelude.{◌≡◌, ◌++◌, [], ◌∷◌, OnOk, if◌then◌else◌};
 ghost use Rattle.line_format.specs.Forms.{pieces, spell, line_of, spaced};
 
@@ -7,7 +7,7 @@ use crate::hex_digits::put_hex;
 use itoa::Buffer;
 use std::alloc::AllocError;
 
-/// Puts the fields last, with a space before each, or before each but the first.
+/// Appends the fields, with a space before each, or before each except the first.
 fn put_fields(
     out: &mut Vec<u8>,
     is_later: bool,
@@ -43,7 +43,7 @@ fn put_fields(
     }
 }
 
-/// Puts a space last, where a field stands before.
+/// Appends a space if a field comes before.
 fn put_space(out: &mut Vec<u8>, is_later: bool) -> Result<(), AllocError>
     ensures { OnOk result (out.new.items ≡ out.old.items ++ (if is_later then 32 ∷ [] else [])) }
 {
@@ -53,7 +53,8 @@ fn put_space(out: &mut Vec<u8>, is_later: bool) -> Result<(), AllocError>
     Ok(())
 }
 
-/// Puts the line of a form with these numbers and bytes last.
+/// Appends the line of a form with these numbers and bytes.
+// claim: A line is written as its form spells it, with its newline.
 pub fn put_line(
     out: &mut Vec<u8>,
     slots: &[FieldKind],

@@ -9,7 +9,7 @@ use Rattle.link_endpoint.specs.declared.place.Place.TheVariants.{Offering, Polli
 use Rattle.link_endpoint.specs.Engine.{Engine, is_refusing, is_refusing_at, is_reading_state_at, refused_after}
 use Rattle.link_endpoint.specs.Leaving.{IsLeft, KeepsAway}
 
--- an offer or a poll is open in RUN
+-- An offer or a poll is open in RUN.
 abbrev pub works_at : Place → Bool
 works_at Offering = true
 works_at Polling = true

@@ -18,7 +18,7 @@ use Rattle.rx_engine.specs.declared.place.Place.TheVariants as rx_place
 use Rattle.link_endpoint.specs.Refinement.{goes_on}
 use Rattle.link_endpoint.proofs.Notes.{refuses, IsOfOffer, IsOfPoll}
 
--- the places at which an offer goes on
+-- The places of an offer that neither ended nor refused a value.
 abbrev pub in_offer : places.Place → Bool
 in_offer (places.ReadingUsedIndex pending freed) = true
 in_offer (places.ReadingUsedId pending freed more) = true
@@ -33,12 +33,12 @@ in_offer (places.ReadingAvailEvent number) = true
 in_offer places.RingingOffer = true
 in_offer _ = false
 
--- the State step of a refusal is next
+-- The State step of a refusal is next.
 abbrev pub is_refusing : places.Place → Bool
 is_refusing places.Refusing = true
 is_refusing _ = false
 
--- the places at which a poll goes on
+-- The places of a poll that neither ended nor refused a value.
 abbrev pub in_poll : places.Place → Bool
 in_poll (places.ReadingAvailIndex taken last) = true
 in_poll (places.WritingAvailEvent taken) = true
@@ -54,13 +54,14 @@ in_poll (places.WritingUsedIndex number more) = true
 in_poll places.RingingPoll = true
 in_poll _ = false
 
--- a step of an offer or a poll is no State step; it refuses a value exactly where the State step of a refusal is next, and the end bears the mark then
+-- A step of an offer or a poll isn't a State step. It refuses a value exactly if the State step of
+-- a refusal is next, and then the end has the mark.
 pub record IsStep (config : EndConfig) (end : End) (place : places.Place) (value : ℕ) : Type 0 where
   pub phase : (end_after end (places.step_at config place value)).handshake.phase ≡ end.handshake.phase
   pub mark : (end_after end (places.step_at config place value)).handshake.mark ≡ (if refuses (places.marks_at config place value) then true else end.handshake.mark)
   pub refusing : refuses (places.marks_at config place value) ≡ is_refusing (places.next_place config place value)
 
--- a step of an offer delivers and returns nothing, and takes no look
+-- A step of an offer delivers and returns no frame, and leaves `found_none` unchanged.
 pub record IsOfferStep (config : EndConfig) (end : End) (place : places.Place) (value : ℕ) : Type 0 where
   pub step : IsStep config end place value
   pub delivered : (end_after end (places.step_at config place value)).delivered ≡ end.delivered
@@ -82,12 +83,12 @@ offer_step config end (places.ReadingAvailEvent number) value is = grind (arith,
 offer_step config end places.RingingOffer value is = grind (arith, common_steps)
 offer_step config end _ value is = absurd (cc)
 
--- the index of an offer is written next
+-- The write of the available index of an offer is next.
 abbrev pub is_publishing : places.Place → Bool
 is_publishing (places.WritingAvailIndex pending) = true
 is_publishing _ = false
 
--- a step of an offer that accepts nothing leaves no more frames in flight
+-- A step of an offer that accepts no frame doesn't increase the number of frames in flight.
 pub offer_few : (config : EndConfig) (end : End) (place : places.Place) (value : ℕ) → in_offer place ≡ true → is_publishing place ≡ false → HasFewInFlight config end →
     HasFewInFlight config (end_after end (places.step_at config place value))
 offer_few config end (places.ReadingUsedIndex pending freed) value is quiet few = grind (arith, common_steps)
@@ -103,7 +104,8 @@ offer_few config end (places.ReadingAvailEvent number) value is quiet few = grin
 offer_few config end places.RingingOffer value is quiet few = few
 offer_few config end _ value is quiet few = absurd (cc)
 
--- a sender that is to tell the other of its frame counts the frames in flight
+-- The place of a sender after it published its frame: before the read of avail_event in a link with
+-- events, else before the doorbell.
 abbrev told : Bool → ℕ → places.Place
 told events number = if events then places.ReadingAvailEvent number else places.RingingOffer
 
@@ -137,12 +139,12 @@ by_publishing config end place value true is offers few next sender refines =
     telling_few next config (end_after end (places.step_at config place value)) tells.0 sender
     (subst (λ p. tx.RefinesAt next config (end_after end (places.step_at config place value)) p) tells.1 refines)
 
--- no step of an offer leaves more frames in flight than may be
+-- After each step of an offer the number of frames in flight is at most the limit.
 pub sent_few : (config : EndConfig) (end : End) (place : places.Place) (value : ℕ) (next : Sender) → in_offer place ≡ true → HasFewInFlight config end → IsSender next →
     tx.RefinesAt next config (end_after end (places.step_at config place value)) (places.next_place config place value) → HasFewInFlight config (end_after end (places.step_at config place value))
 sent_few config end place value next offers few sender refines = by_publishing config end place value (is_publishing place) refl offers few next sender refines
 
--- and so where a value is refused
+-- The limit also holds if the step refuses a value.
 publishing_on : (place : places.Place) (config : EndConfig) (value : ℕ) (b : Bool) → is_publishing place ≡ b → places.next_place config place value ≡ places.Refusing → is_publishing place ≡ false
 publishing_on place config value false is refusing = is
 publishing_on place config value true is refusing = let tells = publishing_next config place value is in absurd (telling_on (has_events config.sizes) tells.0 (sym tells.1 ∙ refusing))
@@ -151,11 +153,11 @@ pub refused_few : (config : EndConfig) (end : End) (place : places.Place) (value
     HasFewInFlight config (end_after end (places.step_at config place value))
 refused_few config end place value offers few refusing = offer_few config end place value offers (publishing_on place config value (is_publishing place) refl refusing) few
 
--- the used ring stands after the entries
+-- The used ring is after the available entries.
 below_used : (config : EndConfig) (k : ℕ) → k < size_of config.sizes → word_offset config.sizes (AvailEntry k) < used_ring_offset (size_of config.sizes) / 4
 below_used config k below = omega arith
 
--- a step of a poll accepts and frees nothing, and leaves the words of the entries
+-- A step of a poll accepts and frees no frame, and leaves the words of the available entries.
 pub record IsPollStep (config : EndConfig) (end : End) (place : places.Place) (value : ℕ) : Type 0 where
   pub step : IsStep config end place value
   pub accepted : (end_after end (places.step_at config place value)).accepted ≡ end.accepted
@@ -178,7 +180,7 @@ poll_step config end (places.WritingUsedIndex number more) value is = grind (ari
 poll_step config end places.RingingPoll value is = grind (arith, common_steps)
 poll_step config end _ value is = absurd (cc)
 
--- no call goes on at its end or at the State step of a refusal, and at each other place one does
+-- A call is open and refuses no value at every place except `Closed` and `Refusing`.
 pub goes_on_open : (place : places.Place) → places.is_open place ≡ true → is_refusing place ≡ false → goes_on place ≡ true
 goes_on_open places.Closed opened other = absurd (cc)
 goes_on_open places.Refusing opened other = absurd (cc)
@@ -192,7 +194,7 @@ pub refusing_is : (place : places.Place) → is_refusing place ≡ true → plac
 refusing_is places.Refusing refusing = refl
 refusing_is _ refusing = absurd (cc)
 
--- the call that goes on at a place of the sender is an offer
+-- The open call at a place of the sender is an offer.
 sender_at : (p : tx_places.Place) (sender : Sender) (config : EndConfig) (end : End) (place : places.Place) → tx.IsAt p sender config end place → goes_on place ≡ true → in_offer place ≡ true
 sender_at tx_place.Closed sender config end place at on = absurd (cc)
 sender_at tx_place.Refusing sender config end place at on = absurd (cc)
@@ -201,7 +203,7 @@ sender_at _ sender config end place at on = grind (arith, common_steps)
 pub offer_at : (sender : Sender) (config : EndConfig) (end : End) (place : places.Place) → tx.RefinesAt sender config end place → goes_on place ≡ true → in_offer place ≡ true
 offer_at sender config end place refines on = sender_at sender.place sender config end place refines.at on
 
--- the call that goes on at a place of the receiver is a poll
+-- The open call at a place of the receiver is a poll.
 receiver_at : (p : rx_places.Place) (number : ℕ) (read : List ℕ) → goes_on (rx.place_seen number read p) ≡ true → in_poll (rx.place_seen number read p) ≡ true
 receiver_at rx_place.Closed number read on = absurd (cc)
 receiver_at rx_place.Refusing number read on = absurd (cc)

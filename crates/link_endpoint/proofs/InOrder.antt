@@ -1,4 +1,4 @@
--- The order of the accesses of an offer and of a poll.
+-- The memory order of the accesses of an offer and of a poll.
 use Rattle.std.proofs.Common.{◌≡◌, true, refl}
 use Rattle.call_grammar.specs.Places as places
 use Rattle.call_grammar.specs.Orders.{word_kind}

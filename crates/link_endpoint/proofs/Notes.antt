@@ -10,13 +10,13 @@ use Rattle.link_endpoint.specs.declared.place.Place.TheVariants.{Offering, Polli
 use Rattle.link_endpoint.specs.Engine.{refused_after, IsNoteAt}
 use Rattle.link_endpoint.specs.Refinement.{mark_between, marks_between}
 
--- one of the marks is of a value refused
+-- One of the marks is the mark of a refused value.
 abbrev pub refuses : List Mark → Bool
 refuses [] = false
 refuses (Refuse refused ∷ marks) = true
 refuses (_ ∷ marks) = refuses marks
 
--- no mark is of a frame delivered, and none of one accepted
+-- The mark is neither of a frame delivered nor of a frame accepted.
 abbrev pub IsOfOffer : Mark → Type 0
 IsOfOffer (Deliver frame) = ⊥
 IsOfOffer _ = Unit {0}
@@ -33,7 +33,7 @@ poll_note : (frame : List ℕ) (n : Note) → IsOfPoll (mark_of frame n) → IsN
 poll_note frame note.Accept is = absurd is
 poll_note frame _ is = tt
 
--- notes whose marks are an offer's are an offer's, and so for a poll
+-- Notes whose marks are an offer's are notes of an offer. The same holds of a poll.
 pub offer_notes : (frame : List ℕ) (notes : List Note) → All IsOfOffer (marks_of frame notes) → All (IsNoteAt Offering) notes
 offer_notes frame [] all = All-nil (IsNoteAt Offering)
 offer_notes frame (n ∷ notes) all = All-cons (IsNoteAt Offering) n notes (offer_note frame n (All-head IsOfOffer _ _ all)) (offer_notes frame notes (All-tail IsOfOffer _ _ all))
@@ -50,7 +50,8 @@ poll_mark : (offered frame : List ℕ) (n : Note) → IsNoteAt Polling n → mar
 poll_mark offered frame note.Accept is = absurd is
 poll_mark offered frame _ is = refl
 
--- the marks of an offer's notes are over the frame offered, and those of a poll's over the frame delivered
+-- The marks of an offer's notes are over the frame offered; the marks of a poll's notes are over
+-- the frame delivered.
 pub offer_marks : (frame delivered : List ℕ) (notes : List Note) → All (IsNoteAt Offering) notes → marks_between frame delivered notes ≡ marks_of frame notes
 offer_marks frame delivered [] all = refl
 offer_marks frame delivered (n ∷ notes) all =
@@ -65,7 +66,7 @@ poll_marks offered frame (n ∷ notes) all =
     let more = poll_marks offered frame notes (All-tail (IsNoteAt Polling) n notes all) in
     cc
 
--- what is refused after notes, whatever was refused before
+-- A refusal in the notes replaces what was refused before.
 pub refused_again : (notes : List Note) (old : Option Refused) (refused : Refused) → refused_after notes None ≡ Some refused → refused_after notes old ≡ Some refused
 refused_again [] old refused is = cc
 refused_again (note.Refuse found ∷ notes) old refused is = is
@@ -76,13 +77,13 @@ some_stays [] found = refl
 some_stays (note.Refuse other ∷ notes) found = some_stays notes other
 some_stays (_ ∷ notes) found = some_stays notes found
 
--- notes that refuse nothing leave what was refused
+-- Notes that refuse nothing leave what was refused before.
 pub refused_kept : (notes : List Note) (old : Option Refused) → refused_after notes None ≡ None → refused_after notes old ≡ old
 refused_kept [] old is = refl
 refused_kept (note.Refuse found ∷ notes) old is = let some = some_stays notes found in let none = ap is_some is in absurd (cc)
 refused_kept (_ ∷ notes) old is = refused_kept notes old is
 
--- notes refuse something exactly where their marks do
+-- Notes refuse a value exactly if their marks do.
 pub refusal_marked : (frame : List ℕ) (notes : List Note) → is_some (refused_after notes None) ≡ refuses (marks_of frame notes)
 refusal_marked frame [] = refl
 refusal_marked frame (note.Refuse found ∷ notes) = some_stays notes found

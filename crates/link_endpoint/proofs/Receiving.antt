@@ -24,7 +24,7 @@ use Rattle.link_endpoint.proofs.Notes.{IsOfPoll, poll_notes, poll_marks, refused
 use Rattle.link_endpoint.proofs.Going.{poll_step, poll_at, goes_on_open, closed_is}
 use Rattle.link_endpoint.proofs.Stepping.{IsNoted, refused_place, refused_mark, refused_standing, kept_place, kept_standing}
 
--- a sender without an open offer goes on standing for an end whose session goes on
+-- A sender without an open offer refines the end after a step that leaves the session open.
 sender_stays_at : (p : tx_places.Place) (sender : Sender) (config : EndConfig) (end other : End) → tx.IsAt p sender config end places.Closed →
     other.accepted ≡ end.accepted → other.freed ≡ end.freed →
     ((k : ℕ) → k < size_of config.sizes → other.written (config.own + word_offset config.sizes (AvailEntry k)) ≡ end.written (config.own + word_offset config.sizes (AvailEntry k))) →
@@ -43,7 +43,7 @@ sender_stays_at tx_place.Closed sender config end other at accepted freed entrie
 )
 sender_stays_at _ sender config end other at accepted freed entries phase = absurd (grind (arith, common_steps))
 
--- what the receiver's step says of an end for which the endpoint stands
+-- The facts of the receiver's step for an end that the endpoint refines.
 record Received (old : Engine) (value : ℕ) (notes : List Note) (next : Receiver) (config : EndConfig) (end : End) (place : places.Place) : Type 0 where
   noted : IsNoted next.frame notes config end place value
   few : HasFewInFlight config end → HasFewInFlight config (end_after end (places.step_at config place value))
@@ -68,7 +68,7 @@ received old value notes next config end place polls took refines =
       receiver = taken.refines;
     }
 
--- the step of an endpoint, which stands for some end
+-- The step of an endpoint that refines an end.
 takes : (old new : Engine) (value : ℕ) (notes : List Note) (next : Receiver) (config : EndConfig) (end : End) (place : places.Place) →
     old.place ≡ Polling → rx.TakesStep old.receiver value notes next → RefinesAt old config end place →
     ((w : EndConfig) (e : End) (p : places.Place) → RefinesAt old w e p → Received old value notes next w e p → RefinesAt new w (end_after e (places.step_at w p value)) (places.next_place w p value)) →
@@ -90,7 +90,7 @@ takes old new value notes next config end place polls took refines goes same ref
       down = down;
     }
 
--- the step refused a value
+-- The step refused a value.
 pub takes_refused : (old : Engine) (value : ℕ) (notes : List Note) (next : Receiver) (refused : Refused) (config : EndConfig) (end : End) (place : places.Place) →
     old.place ≡ Polling → rx.TakesStep old.receiver value notes next → RefinesAt old config end place → refused_after notes None ≡ Some refused →
     Takes old value notes (record old { refused = Some refused; place = Refusing; receiver = next })
@@ -104,7 +104,7 @@ takes_refused old value notes next refused config end place polls took refines f
     })
     refl (sym (refused_again notes old.refused refused found)) refl refl refl
 
--- the poll is over where the new receiver isn't busy
+-- The poll is over, because the new receiver isn't busy.
 pub takes_end : (old : Engine) (value : ℕ) (notes : List Note) (next : Receiver) (busy : Bool) (config : EndConfig) (end : End) (place : places.Place) →
     old.place ≡ Polling → rx.TakesStep old.receiver value notes next → RefinesAt old config end place → refused_after notes None ≡ None →
     ((w : EndConfig) (e : End) (p : places.Place) → rx.RefinesAt next w e p → busy ≡ places.is_open p) → busy ≡ false →
@@ -121,7 +121,7 @@ takes_end old value notes next busy config end place polls took refines none bus
     })
     refl (sym (refused_kept notes old.refused none)) refl refl refl
 
--- else it goes on
+-- The poll is still open, because the new receiver is busy.
 pub takes_on : (old : Engine) (value : ℕ) (notes : List Note) (next : Receiver) (busy : Bool) (config : EndConfig) (end : End) (place : places.Place) →
     old.place ≡ Polling → rx.TakesStep old.receiver value notes next → RefinesAt old config end place → refused_after notes None ≡ None →
     ((w : EndConfig) (e : End) (p : places.Place) → rx.RefinesAt next w e p → busy ≡ places.is_open p) → busy ≡ true →

@@ -15,7 +15,7 @@ use Rattle.link_endpoint.specs.Refinement.{RefinesAt}
 use Rattle.link_endpoint.specs.Runs.{TakesStep, TakesSteps, end_after_all, EndpointsMakeCalls}
 use Rattle.link_endpoint.proofs.Opening.{closed_at}
 
--- a value that no read gave makes no difference
+-- A step ignores a value that isn't the result of a read.
 step_given : (config : EndConfig) (place : places.Place) (value : ℕ) → places.step_at config place (value_given (places.access_at config place) value) ≡ places.step_at config place value
 step_given config places.Closed value = refl
 step_given config (places.ReadingOtherState handshake) value = refl
@@ -78,11 +78,11 @@ next_given config (places.WritingUsedLength number more) value = refl
 next_given config (places.WritingUsedIndex number more) value = refl
 next_given config places.RingingPoll value = refl
 
--- a busy endpoint stands at a place of an open call
+-- A busy endpoint is at a place of an open call.
 busy_open : (e : Engine) (config : EndConfig) (end : End) (place : places.Place) → RefinesAt e config end place → is_busy e ≡ places.is_open place
 busy_open e config end place refines = grind (arith, common_steps)
 
--- what a step of the endpoint is, where it stands for an end
+-- The facts of an endpoint's step for an end that it refines.
 record IsStepOf (step : Step) (new : Engine) (config : EndConfig) (end : End) (place : places.Place) : Type 0 where
   open_here : places.is_open place ≡ true
   value : ℕ
@@ -109,7 +109,7 @@ step_is old new step config end place refines takes =
       refines = subst (λ s. RefinesAt new config (end_after end s) (places.next_place config place takes.handed)) (sym is) (takes.takes.refines config end place refines);
     }
 
--- the steps are played from the place where it stands, to the end of the call
+-- The steps replay the call from the endpoint's place to its end.
 played : (old last : Engine) (config : EndConfig) (end : End) (place : places.Place) (steps : List Step) → RefinesAt old config end place → TakesSteps old steps last → is_busy last ≡ false →
     IsReplayed config place steps × RefinesAt last config (end_after_all end steps) places.Closed
 played old last config end place [] refines along over =
@@ -121,7 +121,7 @@ played old last config end place (step ∷ steps) refines along over =
     let more = played along.0 last config (end_after end step) (places.next_place config place one.value) steps one.refines along.2 over in
     ((one.open_here, one.step_is ∙ sym one.same, subst (λ p. IsReplayed config p steps) (sym one.value_is) more.0), more.1)
 
--- and begin the call wherever they end
+-- The steps begin the call, wherever they end.
 goes_along : (old last : Engine) (config : EndConfig) (end : End) (place : places.Place) (steps : List Step) → RefinesAt old config end place → TakesSteps old steps last →
     (left : CallTree) × GoesAlong (places.remaining config place) steps left
 goes_along old last config end place [] refines along = (places.remaining config place, refl)

@@ -1,4 +1,4 @@
--- An endpoint whose sender or receiver took a step.
+-- An endpoint whose sender or receiver made a step.
 use Rattle.std.proofs.Common.{◌≡◌, ◌≢◌, ℕ, true, Option, List, refl, subst, ap, sym, ◌∙◌, arith}
 use Rattle.std.proofs.lemmas.Grind.{common_steps}
 use Rattle.std.specs.Prelude.{is_some}
@@ -20,7 +20,7 @@ use Rattle.link_endpoint.specs.Representation.{seen, IsWellFormed}
 use Rattle.link_endpoint.specs.Refinement.{RefinesAt, Takes}
 use Rattle.link_endpoint.specs.Leaving.{IsLeft}
 
--- the sender keeps its numbers
+-- The sender's parameters are unchanged.
 pub record KeepsNumbers (old new : Sender) : Type 0 where
   pub sizes : new.sizes ≡ old.sizes
   pub own : new.own ≡ old.own
@@ -35,7 +35,7 @@ pub seen_sent : (i : Inside) (next : Sender) (refused : Option Refused) (place :
     record (seen i) { refused = refused; place = place; sender = next } ≡ seen (record i { refused = refused; place = place; tx = next })
 seen_sent i next refused place keeps = ap (λ (w : EndConfig). let e : Engine = record { config = w; phase = i.handshake.phase; refused = refused; place = place; sender = next; receiver = i.rx } in e) (who_stays i next keeps)
 
--- it is kept, where the step is one of the grammar
+-- The endpoint stays well formed if the sender's step is a step of the grammar.
 pub kept_sent : (i : Inside) (next : Sender) (refused : Option Refused) (place : Place) (value : ℕ) (notes : List Note) → IsWellFormed i → KeepsNumbers i.tx next →
     (place ≢ Refusing → i.handshake.mark ≡ is_some refused) → (is_some refused ≡ true → IsLeft place i.handshake.phase) → Takes (seen i) value notes (seen (record i { refused = refused; place = place; tx = next })) →
     IsWellFormed (record i { refused = refused; place = place; tx = next })

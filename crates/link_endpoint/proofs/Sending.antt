@@ -19,12 +19,12 @@ use Rattle.link_endpoint.proofs.Notes.{IsOfOffer, offer_notes, offer_marks, refu
 use Rattle.link_endpoint.proofs.Going.{in_offer, offer_step, offer_at, sent_few, refused_few, goes_on_open, closed_is}
 use Rattle.link_endpoint.proofs.Stepping.{IsNoted, refused_place, refused_mark, refused_standing, kept_place, kept_standing}
 
--- a receiver without an open poll goes on standing for an end whose session goes on
+-- A receiver without an open poll refines the end after a step that leaves the session open.
 receiver_stays : (receiver : Receiver) (config : EndConfig) (end other : End) → rx.RefinesAt receiver config end places.Closed →
     other.delivered ≡ end.delivered → other.returned ≡ end.returned → other.found_none ≡ end.found_none → other.handshake.phase ≡ end.handshake.phase → rx.RefinesAt receiver config other places.Closed
 receiver_stays receiver config end other refines delivered returned found_none phase = grind (arith, common_steps)
 
--- what the sender's step says of an end for which the endpoint stands
+-- The facts of the sender's step for an end that the endpoint refines.
 record Sent (old : Engine) (value : ℕ) (notes : List Note) (next : Sender) (config : EndConfig) (end : End) (place : places.Place) : Type 0 where
   offers : in_offer place ≡ true
   noted : IsNoted (offered old) notes config end place value
@@ -47,12 +47,12 @@ sent old value notes next config end place offers took refines =
       receiver = receiver_stays old.receiver config end _ a.2 step.delivered step.returned step.found_none step.step.phase;
     }
 
--- a step of an offer delivers nothing
+-- A step of an offer delivers no frame.
 offer_frame : (place : places.Place) (value : ℕ) (frame : List ℕ) → in_offer place ≡ true → rx.frame_after place value frame ≡ frame
 offer_frame (places.ReadingFrameWord number more entry address bytes read words) value frame offers = absurd (cc)
 offer_frame _ value frame offers = refl
 
--- the step of an endpoint, which stands for some end
+-- The step of an endpoint that refines an end.
 takes : (old new : Engine) (value : ℕ) (notes : List Note) (next : Sender) (config : EndConfig) (end : End) (place : places.Place) →
     old.place ≡ Offering → tx.TakesStep old.sender value notes next → RefinesAt old config end place →
     ((w : EndConfig) (e : End) (p : places.Place) → RefinesAt old w e p → Sent old value notes next w e p → RefinesAt new w (end_after e (places.step_at w p value)) (places.next_place w p value)) →
@@ -73,7 +73,7 @@ takes old new value notes next config end place offers took refines goes same re
       down = down;
     }
 
--- the step refused a value
+-- The step refused a value.
 pub takes_refused : (old : Engine) (value : ℕ) (notes : List Note) (next : Sender) (refused : Refused) (config : EndConfig) (end : End) (place : places.Place) →
     old.place ≡ Offering → tx.TakesStep old.sender value notes next → RefinesAt old config end place → refused_after notes None ≡ Some refused →
     Takes old value notes (record old { refused = Some refused; place = Refusing; sender = next })
@@ -87,7 +87,7 @@ takes_refused old value notes next refused config end place offers took refines 
     })
     refl (sym (refused_again notes old.refused refused found)) refl refl refl
 
--- the offer is over where the new sender isn't busy
+-- The offer is over, because the new sender isn't busy.
 pub takes_end : (old : Engine) (value : ℕ) (notes : List Note) (next : Sender) (busy : Bool) (config : EndConfig) (end : End) (place : places.Place) →
     old.place ≡ Offering → tx.TakesStep old.sender value notes next → RefinesAt old config end place → refused_after notes None ≡ None → IsSender next →
     ((w : EndConfig) (e : End) (p : places.Place) → tx.RefinesAt next w e p → busy ≡ places.is_open p) → busy ≡ false →
@@ -104,7 +104,7 @@ takes_end old value notes next busy config end place offers took refines none se
     })
     refl (sym (refused_kept notes old.refused none)) refl refl refl
 
--- else it goes on
+-- The offer is still open, because the new sender is busy.
 pub takes_on : (old : Engine) (value : ℕ) (notes : List Note) (next : Sender) (busy : Bool) (config : EndConfig) (end : End) (place : places.Place) →
     old.place ≡ Offering → tx.TakesStep old.sender value notes next → RefinesAt old config end place → refused_after notes None ≡ None → IsSender next →
     ((w : EndConfig) (e : End) (p : places.Place) → tx.RefinesAt next w e p → busy ≡ places.is_open p) → busy ≡ true →

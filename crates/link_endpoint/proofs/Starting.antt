@@ -1,4 +1,4 @@
--- An endpoint at its start.
+-- The initial endpoint.
 use Rattle.std.proofs.Common.{[], refl, arith}
 use Rattle.call_grammar.specs.Ends.{fresh}
 use Rattle.call_grammar.specs.Calls.{EndConfig}
@@ -6,7 +6,7 @@ use Rattle.call_grammar.specs.Places as places
 use Rattle.link_endpoint.specs.Engine.{fresh_engine}
 use Rattle.link_endpoint.specs.Refinement.{RefinesAt}
 
--- it stands for a fresh end
+-- The initial endpoint refines the initial end.
 pub fresh_stands : (config : EndConfig) → RefinesAt (fresh_engine config) config fresh places.Closed
 fresh_stands config = record {
   made = refl;

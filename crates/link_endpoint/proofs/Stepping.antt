@@ -1,4 +1,4 @@
--- The standing of an end after a step of an offer or a poll, by the notes of the step.
+-- The handshake state of an end after a step of an offer or a poll, by the notes of the step.
 use Rattle.std.proofs.Common.{◌≡◌, ℕ, Bool, true, false, Some, None, List, ap, sym, ◌∙◌}
 use Rattle.std.specs.Prelude.{is_some, if◌then◌else◌}
 use Rattle.split_ring.specs.declared.ranges.Refused.{Refused}
@@ -13,7 +13,7 @@ use Rattle.link_endpoint.proofs.Opening.{standing_is}
 use Rattle.link_endpoint.proofs.Notes.{refuses, refusal_marked}
 use Rattle.link_endpoint.proofs.Going.{is_refusing, IsStep, refusing_is}
 
--- a step with these notes, over this frame
+-- A step with these notes, over the frame `frame`.
 pub record IsNoted (frame : List ℕ) (notes : List Note) (config : EndConfig) (end : End) (place : places.Place) (value : ℕ) : Type 0 where
   pub step : IsStep config end place value
   pub marks : marks_of frame notes ≡ places.marks_at config place value
@@ -24,7 +24,7 @@ refuses_is frame notes config end place value noted = refusal_marked frame notes
 mark_is : (config : EndConfig) (end : End) (place : places.Place) (value : ℕ) (b : Bool) → IsStep config end place value → b ≡ refuses (places.marks_at config place value) → (end_after end (places.step_at config place value)).handshake.mark ≡ (if b then true else end.handshake.mark)
 mark_is config end place value b step is = step.mark ∙ sym (ap (λ c. if c then true else end.handshake.mark) is)
 
--- where the step refused a value, the State step of the refusal is next, and the end bears the mark
+-- If the step refused a value, the State step of the refusal is next, and the end has the mark.
 pub refused_place : (frame : List ℕ) (notes : List Note) (refused : Refused) (config : EndConfig) (end : End) (place : places.Place) (value : ℕ) →
     IsNoted frame notes config end place value → refused_after notes None ≡ Some refused → places.next_place config place value ≡ places.Refusing
 refused_place frame notes refused config end place value noted found =
@@ -40,7 +40,8 @@ pub refused_standing : (old : Engine) (frame : List ℕ) (notes : List Note) (re
 refused_standing old frame notes refused config end place value refines noted found =
     standing_is _ old.phase true (noted.step.phase ∙ ap (λ h. h.phase) refines.standing) (refused_mark frame notes refused config end place value noted found)
 
--- where it refused none, the end stands as before, and the State step of a refusal isn't next
+-- If the step refused no value, the handshake state is unchanged, and the State step of a refusal
+-- isn't next.
 pub kept_place : (frame : List ℕ) (notes : List Note) (config : EndConfig) (end : End) (place : places.Place) (value : ℕ) →
     IsNoted frame notes config end place value → refused_after notes None ≡ None → is_refusing (places.next_place config place value) ≡ false
 kept_place frame notes config end place value noted none = sym noted.step.refusing ∙ sym (refuses_is frame notes config end place value noted) ∙ ap is_some none

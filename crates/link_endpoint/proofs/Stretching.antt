@@ -1,4 +1,4 @@
--- Some steps at once.
+-- Bursts of steps.
 use Rattle.std.proofs.Common.{◌≡◌, ℕ, zero, suc, ◌+◌, ◌-◌, ◌*◌, ◌<◌, ◌≤◌, ◌⊎◌, inl, inr, true, false, None, List, [], ◌∷◌, length, replicate, refl, subst, ap, sym, ◌∙◌, arith}
 use Rattle.std.specs.Prelude.{is_some}
 use Rattle.std.proofs.lemmas.Grind.{common_steps}
@@ -34,12 +34,12 @@ use Rattle.link_endpoint.proofs.Receiving as receiving
 use Rattle.link_endpoint.proofs.Sending as sending
 use Rattle.link_endpoint.proofs.Seen.{KeepsNumbers, who_stays}
 
--- notes without a refusal
+-- These notes refuse nothing.
 pub none_refused : (notes : List Note) → (notes ≡ []) ⊎ (notes ≡ note.Deliver ∷ []) → refused_after notes None ≡ None
 none_refused notes (inl none) = ap (λ n. refused_after n None) none
 none_refused notes (inr one) = ap (λ n. refused_after n None) one
 
--- a step that refuses nothing, of an end that neither leaves nor looks
+-- A step that refuses nothing, of an end that neither leaves the link nor reads the other's State.
 away_on : (old new : Engine) (value : ℕ) (notes : List Note) → is_refusing old ≡ false → is_reading_state old ≡ false → refused_after notes None ≡ None → new.refused ≡ old.refused → KeepsAway old value notes new
 away_on old new value notes stays works none same = record {
   refuses = λ other is. let f = ap is_some (sym none ∙ is) in absurd (cc);
@@ -48,7 +48,7 @@ away_on old new value notes stays works none same = record {
   stays = λ is. absurd (cc);
 }
 
--- the steps of the receiver are those of the endpoint
+-- The steps of the receiver are steps of the endpoint.
 polls_one : (old : Engine) (value : ℕ) (notes : List Note) (next : Receiver) (config : EndConfig) (end : End) (place : places.Place) → old.place ≡ Polling →
     rx.StaysOpen old.receiver value notes next → RefinesAt old config end place → refused_after notes None ≡ None → IsTaken old value notes (record old { receiver = next })
 polls_one old value notes next config end place polls step refines none = record {
@@ -64,7 +64,7 @@ polls_on old (value ∷ other ∷ values) notes next config end place polls (bet
     let one = polls_one old value [] between config end place polls first refines refl in
     (record old { receiver = between }, one, polls_on (record old { receiver = between }) (other ∷ values) notes next config _ _ polls rest (one.takes.refines config end place refines) none)
 
--- the steps of the sender are those of the endpoint
+-- The steps of the sender are steps of the endpoint.
 offers_one : (old : Engine) (value : ℕ) (next : Sender) (config : EndConfig) (end : End) (place : places.Place) → old.place ≡ Offering →
     tx.StaysOpen old.sender value [] next → RefinesAt old config end place → IsTaken old value [] (record old { sender = next })
 offers_one old value next config end place offers step refines = record {
@@ -80,7 +80,7 @@ offers_on old (value ∷ other ∷ values) next config end place offers (between
     let one = offers_one old value between config end place offers first refines in
     (record old { sender = between }, one, offers_on (record old { sender = between }) (other ∷ values) next config _ _ offers rest (one.takes.refines config end place refines))
 
--- the sender keeps its numbers
+-- The sender's parameters are unchanged.
 keeps_one : (old new : Sender) (value : ℕ) (notes : List Note) → tx.StaysOpen old value notes new → KeepsNumbers old new
 keeps_one old new value notes takes = let kept = takes.takes.kept in
     record { sizes = ap (λ s. s.sizes) kept; own = ap (λ s. s.own) kept; theirs = ap (λ s. s.theirs) kept; target = ap (λ s. s.target) kept; vector = ap (λ s. s.vector) kept }
@@ -93,7 +93,7 @@ keeps_all old new (value ∷ other ∷ values) notes (between, first, rest) =
     let more = keeps_all between new (other ∷ values) notes rest in
     record { sizes = more.sizes ∙ one.sizes; own = more.own ∙ one.own; theirs = more.theirs ∙ one.theirs; target = more.target ∙ one.target; vector = more.vector ∙ one.vector }
 
--- the endpoint stands for some end after such steps
+-- The endpoint refines an end after these steps.
 pub record StandsFor (e : Engine) (config : EndConfig) : Type 0 where
   pub end : End
   pub place : places.Place
@@ -143,7 +143,7 @@ kept_offered i next values notes kept keeps each =
       refines = subst (λ w. RefinesAt (seen new) w later.end later.place) (who_stays i next keeps) later.refines;
     }
 
--- the writes of 0
+-- Writes of 0 to own words.
 
 left_clear : (old : Engine) (at state : ℕ) → old.place ≡ Clearing at state → (is_refusing old ≡ false) × (is_reading_state old ≡ false)
 left_clear old at state clears = (ap is_refusing_at clears, ap is_reading_state_at clears)
@@ -199,7 +199,7 @@ zeros_on old config end place at state word value count clears within refines fi
     ap (λ p. places.access_at config (place_after config p values)) is.0 ∙ clear_writes config at _ state values (omega (arith, few, sized, within, same))
     ∙ ap (λ n. access.Write (n + length values) 0) word_is ∙ ap (access.Write (word + length values)) (sym (dropped_zeros 4 (4 * length values) count))
 
--- the writes of some or of all of the own words that are left
+-- Writes of 0 to `count` of the own words that are left, or to all of them.
 pub clears_some : (old : Engine) (at state count : ℕ) (place : Place) (values : List ℕ) → old.place ≡ Clearing at state → 0 < count → at + count ≤ old.config.own + old.config.words → length values ≡ count →
     (at + count < old.config.own + old.config.words → place ≡ Clearing (at + count) state) → (at + count ≡ old.config.own + old.config.words → place ≡ WritingState state) → StepsThrough IsTaken old values [] (record old { place = place })
 clears_some old at state count place values clears some within count_is word behind =
@@ -224,6 +224,6 @@ kept_placed i place at then values notes kept clears each =
       refines = later.refines;
     }
 
--- as many values as are asked for
+-- A list of `count` values exists.
 pub some_values : (count : ℕ) → (values : List ℕ) × (length values ≡ count)
 some_values count = let none : ℕ = 0 in (replicate count none, length-replicate count none)

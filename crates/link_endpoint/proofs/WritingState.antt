@@ -17,11 +17,11 @@ use Rattle.link_endpoint.specs.Engine.{Engine, delivered, offered}
 use Rattle.link_endpoint.specs.Refinement.{RefinesAt, IsClearBefore, IdleRefinesAt, Takes}
 use Rattle.link_endpoint.proofs.Opening.{at_place}
 
--- the words of the entries stand in the section
+-- The words of the available entries are inside the section.
 entry_inside : (config : EndConfig) → HasSections config → (k : ℕ) → k < size_of config.sizes → word_offset config.sizes (AvailEntry k) < config.words
 entry_inside config has k below = let inside = (places_lem config.sizes has.queue).inside (AvailEntry k) below in let words = has.words in omega arith
 
--- a session opens over a section that is clear
+-- A session opens over a section whose words are all 0.
 fresh_after : (config : EndConfig) (end : End) (value : ℕ) → HasSections config → IsClearBefore config end (config.own + config.words) → tx.IsFreshSession config (end_after end (places.step_at config (places.WritingState 2) value))
 fresh_after config end value has clear = record {
   accepted = grind arith;
@@ -42,7 +42,7 @@ opened old new value config end place has sets sender receiver refines =
       receiver = receiver config _ a.2.receiver.made (grind (arith, common_steps));
     }
 
--- a session opens
+-- A State step opens a session.
 pub opens_session : (old new : Engine) (value : ℕ) → HasSections old.config →
     old.place ≡ WritingState 2 →
     new ≡ record old { phase = Ready; place = Closed; sender = new.sender; receiver = new.receiver } →
@@ -64,7 +64,7 @@ opens_session old new value has sets new_is sender receiver frame kept = record 
   down = grind (arith, common_steps);
 }
 
--- no session opens
+-- A State step opens no session.
 pub sets_other : (old new : Engine) (state value : ℕ) →
     old.place ≡ WritingState state → state ≢ 2 →
     new ≡ record old { phase = phase_at state; place = Closed } →

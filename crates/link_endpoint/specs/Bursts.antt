@@ -1,4 +1,4 @@
--- Steps of an endpoint that are taken at once, and where they lead.
+-- Steps of an endpoint that are completed together, and the states that they lead to.
 use Rattle.std.specs.Prelude.{ℕ, List}
 use Rattle.split_ring.specs.declared.steps.Note.{Note}
 use Rattle.call_grammar.specs.Ends.{End}
@@ -9,12 +9,13 @@ use Rattle.link_endpoint.specs.Engine.{Engine}
 use Rattle.link_endpoint.specs.Refinement.{RefinesAt, Takes}
 use Rattle.link_endpoint.specs.Leaving.{KeepsAway}
 
--- one step, with all that is said of a step
+-- One step, with all that the contracts say of a step.
 pub record IsTaken (old : Engine) (value : ℕ) (notes : List Note) (new : Engine) : Type 0 where
   pub takes : Takes old value notes new
   pub away : KeepsAway old value notes new
 
--- after some steps taken at once an endpoint stands for the end after as many steps of the grammar, at the place after them
+-- After a burst of steps an endpoint refines the end after these steps of the grammar, at the place
+-- after them.
 abbrev pub BurstsGoOn : Type 0
 BurstsGoOn = (old new : Engine) (values : List ℕ) (notes : List Note) (config : EndConfig) (end : End) (place : places.Place) →
     StepsThrough IsTaken old values notes new → RefinesAt old config end place →

@@ -1,4 +1,4 @@
--- An endpoint as contracts see it.
+-- The view of an endpoint in contracts.
 use Rattle.std.specs.Prelude.{ℕ, ◌+◌, ◌-◌, ◌==◌, Bool, true, false, not, if◌then◌else◌, Option, Some, None, is_some, List, [], ◌∷◌}
 use Rattle.section_map.specs.Geometry.{Shape, section_start}
 use Rattle.split_ring.specs.Layout.{Sizes}
@@ -21,11 +21,12 @@ use Rattle.link_endpoint.specs.declared.place.Call.TheVariants.{Tick, Poll, Stop
 use Rattle.link_endpoint.specs.declared.place.Place.{Place}
 use Rattle.link_endpoint.specs.declared.place.Place.TheVariants.{Closed, ReadingOtherState, Clearing, Refusing, NotInRun, Offering, Polling}
 
--- the two ends of the link are peers 0 and 1 (profile)
+-- The two ends of the link are peers 0 and 1 (profile).
 abbrev pub partner : ℕ → ℕ
 partner peer = if peer == 0 then 1 else 0
 
--- a peer of a region, as the call grammar sees it: the first words of the two sections, the words and the sizes of each, and the vector of its doorbells
+-- The configuration of peer `me`: the first words of the two sections, the words and the sizes of
+-- each, and the vector of its doorbells.
 abbrev pub config_of : Shape → Sizes → (me traffic : ℕ) → EndConfig
 config_of shape sizes me traffic = record {
   me = me;
@@ -37,7 +38,8 @@ config_of shape sizes me traffic = record {
   vector = traffic;
 }
 
--- whose end it is; its phase, and what it refused since its device was reset last; its place in the open call; its sender and its receiver
+-- The view of an endpoint: its configuration, its phase, what it refused since the last reset of
+-- its device, its place in the open call, its sender and its receiver.
 pub record Engine : Type 0 where
   pub config : EndConfig
   pub phase : Phase
@@ -46,7 +48,7 @@ pub record Engine : Type 0 where
   pub sender : Sender
   pub receiver : Receiver
 
--- an endpoint at its start
+-- The initial endpoint.
 abbrev pub fresh_engine : EndConfig → Engine
 fresh_engine config = record {
   config = config;
@@ -57,11 +59,12 @@ fresh_engine config = record {
   receiver = fresh_receiver config.sizes config.own config.theirs config.other config.vector;
 }
 
--- an endpoint whose device was reset: only the frame offered last and the one delivered last stay
+-- An endpoint after a reset of its device: the frame offered last and the frame delivered last
+-- stay.
 abbrev pub engine_after_reset : Engine → Engine
 engine_after_reset e = record (fresh_engine e.config) { sender = sender.renewed e.sender; receiver = renewed e.receiver }
 
--- a call is open at each place but one
+-- A call is open at every place except `Closed`.
 abbrev pub is_open_at : Place → Bool
 is_open_at Closed = false
 is_open_at _ = true
@@ -69,7 +72,7 @@ is_open_at _ = true
 abbrev pub is_busy : Engine → Bool
 is_busy e = is_open_at e.place
 
--- the open call is an offer or a poll that began outside RUN
+-- The open call is down: an offer or a poll that began outside RUN.
 abbrev pub is_down_at : Place → Bool
 is_down_at NotInRun = true
 is_down_at _ = false
@@ -77,7 +80,7 @@ is_down_at _ = false
 abbrev pub is_down : Engine → Bool
 is_down e = is_down_at e.place
 
--- the State step of a refusal is next
+-- The State step of a refusal is next.
 abbrev pub is_refusing_at : Place → Bool
 is_refusing_at Refusing = true
 is_refusing_at _ = false
@@ -85,7 +88,7 @@ is_refusing_at _ = false
 abbrev pub is_refusing : Engine → Bool
 is_refusing e = is_refusing_at e.place
 
--- the look of a Tick is next
+-- The read of the other's State is next.
 abbrev pub is_reading_state_at : Place → Bool
 is_reading_state_at ReadingOtherState = true
 is_reading_state_at _ = false
@@ -93,7 +96,8 @@ is_reading_state_at _ = false
 abbrev pub is_reading_state : Engine → Bool
 is_reading_state e = is_reading_state_at e.place
 
--- how many of the coming accesses read one word after the other, none before the last with a note; 0 where no read of several words comes
+-- How many of the next accesses read consecutive words, of which none before the last has a note. 0
+-- if no burst of reads is next.
 abbrev pub reads_ahead_at : Place → Receiver → ℕ
 reads_ahead_at Polling rx = receiver.reads_ahead rx.place
 reads_ahead_at _ rx = 0
@@ -101,7 +105,7 @@ reads_ahead_at _ rx = 0
 abbrev pub reads_ahead : Engine → ℕ
 reads_ahead e = reads_ahead_at e.place e.receiver
 
--- the same of writes, which have no note
+-- How many of the next accesses write consecutive words. None of them has a note.
 abbrev pub writes_ahead_at : Place → EndConfig → Sender → Receiver → ℕ
 writes_ahead_at Offering config tx rx = sender.writes_ahead tx.place
 writes_ahead_at Polling config tx rx = receiver.writes_ahead rx.place
@@ -111,7 +115,7 @@ writes_ahead_at _ config tx rx = 0
 abbrev pub writes_ahead : Engine → ℕ
 writes_ahead e = writes_ahead_at e.place e.config e.sender e.receiver
 
--- the bytes of a frame whose first word is read next
+-- The length in bytes of the frame whose first word is read next.
 abbrev pub frame_ahead_at : Place → Receiver → Option ℕ
 frame_ahead_at Polling rx = receiver.frame_ahead rx.place
 frame_ahead_at _ rx = None
@@ -119,7 +123,7 @@ frame_ahead_at _ rx = None
 abbrev pub frame_ahead : Engine → Option ℕ
 frame_ahead e = frame_ahead_at e.place e.receiver
 
--- the words that an offer writes before its index, where a word of its frame is next
+-- The bursts that an offer writes before its index, if a word of its frame is next.
 abbrev pub bursts_at : Place → Sender → Option Bursts
 bursts_at Offering tx = ahead.bursts_of tx
 bursts_at _ tx = None
@@ -127,41 +131,42 @@ bursts_at _ tx = None
 abbrev pub bursts_of : Engine → Option Bursts
 bursts_of e = bursts_at e.place e.sender
 
--- where its handshake stands: it bears the mark where it refused something
+-- The handshake state: the phase, with the mark if the end refused a value.
 abbrev pub standing_of : Engine → HandshakeState
 standing_of e = record { phase = e.phase; mark = is_some e.refused }
 
--- the frame offered last, which stays until another is offered
+-- The frame offered last, which stays until another frame is offered.
 abbrev pub offered : Engine → List ℕ
 offered e = e.sender.frame
 
--- the frame delivered last
+-- The frame delivered last.
 abbrev pub delivered : Engine → List ℕ
 delivered e = e.receiver.frame
 
--- the call of the grammar
+-- The call of the grammar.
 abbrev pub call_of : Call → calls.Call
 call_of Tick = calls.Tick
 call_of Poll = calls.Poll
 call_of Stop = calls.Stop
 
--- a call is down where it is a poll outside RUN
+-- A call is down from its first step on: a poll outside RUN.
 abbrev pub comes_down : Call → Phase → Bool
 comes_down Poll phase = not (calls.in_run phase)
 comes_down _ phase = false
 
--- the call is a Tick
+-- The call is a Tick.
 abbrev pub is_tick : Call → Bool
 is_tick Tick = true
 is_tick _ = false
 
--- what was refused last after these notes
+-- What is refused after these notes, if `refused` was refused before them.
 abbrev pub refused_after : List Note → Option Refused → Option Refused
 refused_after [] refused = refused
 refused_after (note.Refuse found ∷ notes) refused = refused_after notes (Some found)
 refused_after (_ ∷ notes) refused = refused_after notes refused
 
--- a note of the open call: an offer notes no frame delivered, a poll none accepted, and any other call no frame at all
+-- A note that the open call can have: an offer has no Deliver note, a poll no Accept note, and any
+-- other call neither.
 abbrev pub IsNoteAt : Place → Note → Type 0
 IsNoteAt Offering note.Accept = Unit {0}
 IsNoteAt Polling note.Deliver = Unit {0}

@@ -1,6 +1,11 @@
--- The order that each access needs of the memory. The words of the two states and of the indices carry all the others: what was written before
--- such a word is seen by whom reads it. So is what was written before a doorbell by whom it wakes. A state is followed by a full fence, so that no old value of the other's is taken for a new one; and a full
--- fence stands between the own event and the look after it, and between the own index and the other's event, so that one of the two sees the other.
+-- The memory order that each access needs. The two State words and the indices order all other
+-- accesses: a peer that reads such a word sees all earlier writes of the peer that wrote it. A peer
+-- that a doorbell interrupts sees the writes before the doorbell.
+--
+-- A full fence follows each write of the own State, so that no old value of the other's State is
+-- read as a new one. A full fence is between the receiver's write of avail_event and its next read
+-- of the available index. Another one is between the sender's write of the available index and its
+-- read of avail_event. So at least one of the two ends sees the other's write.
 use Rattle.std.specs.Prelude.{Bool, true, false}
 use Rattle.split_ring.specs.declared.steps.WordKind.{WordKind}
 use Rattle.split_ring.specs.declared.steps.WordKind.TheVariants.{Plain, IndexRead, IndexWrite, EventRead, EventWrite}
@@ -26,8 +31,13 @@ release = record { order = Release; fence_before = false; fence_after = false }
 abbrev pub release_with_a_fence : Ordering
 release_with_a_fence = record { order = Release; fence_before = false; fence_after = true }
 
--- the other's state is acquired, the own one released, with a fence after it; an index is acquired where it is read, and released where it is
--- written; a doorbell is released, after the index that it announces; a fence stands after the own event and before the other's; all else is relaxed
+-- The order of each access:
+-- - a read of the other's State is an acquire; a write of the own State is a release, with a fence
+--   after it;
+-- - a read of an index is an acquire; a write of an index is a release;
+-- - a doorbell is a release, so it is ordered after the index that it announces;
+-- - a fence is after the write of the own avail_event and before the read of the other's;
+-- - every other access is relaxed.
 abbrev pub order_at : places.Place → Ordering
 order_at (places.ReadingOtherState handshake) = acquire
 order_at (places.WritingState state) = release_with_a_fence
@@ -42,7 +52,7 @@ order_at (places.ReadingAvailEvent number) = relaxed_after_a_fence
 order_at (places.WritingAvailEvent taken) = relaxed_before_a_fence
 order_at _ = relaxed
 
--- the order of an access of an offer or a poll: that of a doorbell, else by what its word is
+-- The order of an access of an offer or a poll: a doorbell's, or the order of the kind of its word.
 abbrev pub order_of : (rings : Bool) → WordKind → Ordering
 order_of true kind = release
 order_of false Plain = relaxed

@@ -1,4 +1,4 @@
--- What the fields of an automatic peer are.
+-- The meaning of the fields of an automatic end.
 use Rattle.std.specs.Prelude.{◌≤◌}
 use Rattle.call_grammar.specs.Automatic.{Round}
 use Rattle.call_grammar.specs.Automatic as laws
@@ -15,6 +15,6 @@ round_of AfterPoll = laws.AfterPoll
 abbrev pub plan_of : Inside → Plan
 plan_of i = record { frames = i.frames.items; expected = i.expected; delivered = i.delivered; round = round_of i.round }
 
--- no more deliveries are counted than are expected
+-- The number of deliveries counted is at most the number expected.
 abbrev pub IsPlan : Inside → Type 0
 IsPlan i = i.delivered ≤ i.expected

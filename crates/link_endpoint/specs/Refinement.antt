@@ -1,4 +1,4 @@
--- For which ends of the call grammar an endpoint stands, and its steps there.
+-- The ends of the call grammar that an endpoint refines, and its steps.
 use Rattle.std.specs.Prelude.{ℕ, ◌≡◌, ◌+◌, ◌-◌, ◌<◌, ◌≤◌, ◌&&◌, Bool, true, false, is_some, List, [], ◌∷◌, map, All}
 use Rattle.link_handshake.specs.declared.Phase.TheVariants.{Init}
 use Rattle.split_ring.specs.Layout.{has_events}
@@ -15,18 +15,18 @@ use Rattle.link_endpoint.specs.declared.place.Place.{Place}
 use Rattle.link_endpoint.specs.declared.place.Place.TheVariants.{Closed, ReadingOtherState, Clearing, WritingState, Refusing, NotInRun, Offering, Polling}
 use Rattle.link_endpoint.specs.Engine.{Engine, is_busy, is_down, standing_of, offered, delivered, refused_after, IsNoteAt}
 
--- For which ends it stands
+-- The ends that it refines
 
--- between two calls, and in a call that isn't theirs, the sender and the receiver stand for the end with no call of their own open
+-- If no call of theirs is open, the sender and the receiver refine the end at `Closed`.
 pub record IdleRefinesAt (e : Engine) (config : EndConfig) (end : End) : Type 0 where
   pub sender : tx.RefinesAt e.sender config end places.Closed
   pub receiver : rx.RefinesAt e.receiver config end places.Closed
 
--- the own words before this one were written as 0 last
+-- The last write to each own word before word `at` was 0.
 abbrev pub IsClearBefore : EndConfig → End → ℕ → Type 0
 IsClearBefore config end at = (word : ℕ) → config.own ≤ word → word < at → end.written word ≡ 0
 
--- an end in INIT writes 0 to this own word next, and opens a session after the last one
+-- An end in INIT writes 0 to the own word `at` next, and opens a session after the last own word.
 pub record IsClearing (config : EndConfig) (end : End) (at state : ℕ) : Type 0 where
   pub phase : end.handshake.phase ≡ Init
   pub first : config.own ≤ at
@@ -34,18 +34,20 @@ pub record IsClearing (config : EndConfig) (end : End) (at state : ℕ) : Type 0
   pub before : IsClearBefore config end at
   pub opens : state ≡ 2
 
--- a state that may be set: a session opens where every own word is clear, and RUN goes on with the open one
+-- An end may set `state`: a session opens only if every own word is clear, and RUN needs an open
+-- session.
 pub record MaySet (config : EndConfig) (end : End) (state : ℕ) : Type 0 where
   pub opens : state ≡ 2 → IsClearBefore config end (config.own + config.words)
   pub goes_on : 2 < state → tx.has_session end.handshake.phase ≡ true
 
--- an offer or a poll goes on here: it neither ended nor refused a value
+-- The call at this place neither ended nor refused a value.
 abbrev pub goes_on : places.Place → Bool
 goes_on places.Closed = false
 goes_on places.Refusing = false
 goes_on _ = true
 
--- its place in the open call is this one of the end. An offer is the sender's, a poll the receiver's
+-- The endpoint's place represents this place of the end. An offer's place is the sender's, a poll's
+-- the receiver's.
 abbrev pub IsAt : Place → Engine → EndConfig → End → places.Place → Type 0
 IsAt Closed e config end place = (place ≡ places.Closed) × IdleRefinesAt e config end
 IsAt ReadingOtherState e config end place = (place ≡ places.ReadingOtherState end.handshake) × IdleRefinesAt e config end
@@ -57,21 +59,23 @@ IsAt NotInRun e config end place = (place ≡ places.NotInRun) × IdleRefinesAt 
 IsAt Offering e config end place = (goes_on place ≡ true) × tx.RefinesAt e.sender config end place × rx.RefinesAt e.receiver config end places.Closed
 IsAt Polling e config end place = (goes_on place ≡ true) × tx.RefinesAt e.sender config end places.Closed × rx.RefinesAt e.receiver config end place
 
--- the endpoint stands for this end of this peer, at this place of its open call; no more of the end's frames are in flight than may be
+-- The endpoint refines the end `end` at `place`, under the configuration `config`. The number of
+-- the end's frames in flight is at most the limit.
 pub record RefinesAt (e : Engine) (config : EndConfig) (end : End) (place : places.Place) : Type 0 where
   pub made : config ≡ e.config
   pub standing : end.handshake ≡ standing_of e
   pub few : HasFewInFlight config end
   pub at : IsAt e.place e config end place
 
--- an end that has no call open waits armed: it is in RUN, and the last look of its session found no new frame, after which its event asks for a doorbell at the
--- next one, in a link with events
+-- An end without an open call waits armed. It is in RUN in a link with events, and its session's
+-- last read of the available index found no new frame. Its avail_event wants a doorbell for the
+-- next one.
 abbrev pub is_armed : EndConfig → End → Bool
 is_armed config end = in_run end.handshake.phase && (has_events config.sizes && end.found_none)
 
 -- Its steps
 
--- the mark of a note, where the one is the frame of the open offer and the other the frame delivered last
+-- The mark of a note, for the frame of the open offer and the frame delivered last.
 abbrev pub mark_between : (offered delivered : List ℕ) → Note → Mark
 mark_between offered delivered note.Accept = Accept offered
 mark_between offered delivered n = mark_of delivered n
@@ -79,12 +83,13 @@ mark_between offered delivered n = mark_of delivered n
 abbrev pub marks_between : (offered delivered : List ℕ) → List Note → List Mark
 marks_between offered delivered notes = map (mark_between offered delivered) notes
 
--- the frame in hand on a step: the one offered, or in a poll the one delivered on it
+-- The frame of a step's mark: the frame offered, or in a poll the frame that the step delivers.
 abbrev pub in_hand : Place → (offered delivered : List ℕ) → List ℕ
 in_hand Polling offered delivered = delivered
 in_hand _ offered delivered = offered
 
--- whatever end it stands for, the endpoint takes the step of its place that meets this value, with these notes, and is the new one then
+-- For every end that it refines, the endpoint makes the step of its place that meets `value`, with
+-- these notes, and then is `new`.
 pub record Takes (old : Engine) (value : ℕ) (notes : List Note) (new : Engine) : Type 0 where
   pub marks : (config : EndConfig) (end : End) (place : places.Place) → RefinesAt old config end place →
       marks_of (in_hand old.place (offered old) (delivered new)) notes ≡ places.marks_at config place value
@@ -100,14 +105,14 @@ pub record Takes (old : Engine) (value : ℕ) (notes : List Note) (new : Engine)
   pub offered : offered new ≡ offered old
   pub down : is_down new ≡ false
 
--- a call opens: nothing of the end changes
+-- A call opens, and nothing else of the end changes.
 pub record Opens (old new : Engine) : Type 0 where
   pub config : new.config ≡ old.config
   pub phase : new.phase ≡ old.phase
   pub refused : new.refused ≡ old.refused
   pub delivered : delivered new ≡ delivered old
 
--- a Tick of an end that refused something looks at the other's state, and that is all
+-- A Tick of an end that refused a value only reads the other's State.
 abbrev pub RefusedEndsStay : Type 0
 RefusedEndsStay = (e : Engine) (config : EndConfig) (end : End) (value : ℕ) → RefinesAt e config end places.Closed → is_some e.refused ≡ true →
     (places.marks_at config (places.first_place config end Tick) value ≡ Saw value ∷ Over ∷ []) ×

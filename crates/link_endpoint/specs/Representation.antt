@@ -1,4 +1,4 @@
--- What the fields of an endpoint are, and those of an automatic peer.
+-- The meaning of the fields of an endpoint.
 use Rattle.std.specs.Prelude.{◌≡◌, ◌≢◌, ◌+◌, ◌*◌, ◌^◌, ◌≤◌, true, is_some}
 use Rattle.call_grammar.specs.Ends.{End}
 use Rattle.call_grammar.specs.Places as places
@@ -21,8 +21,12 @@ seen i = record {
   receiver = i.rx;
 }
 
--- the sender and the receiver are this peer's, whose sections end at or before byte 2^24 of the region; the handshake bears the mark where something was
--- refused, but between a refusal and its State step, and the end has left the link then; and the endpoint stands for some end
+-- The invariant of an endpoint:
+-- - the sender and the receiver belong to this peer, whose sections end at or before byte 2^24 of
+--   the region;
+-- - the handshake has the mark exactly if a value was refused, except between a refusal and its
+--   State step; and an end that refused a value has left the link;
+-- - the endpoint refines an end.
 pub record IsWellFormed (i : endpoint.Inside) : Type 0 where
   pub sections : HasSections (seen i).config
   pub own_room : 4 * i.own + i.tx.sizes.out ≤ 2 ^ 24

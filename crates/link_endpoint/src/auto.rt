@@ -1,4 +1,4 @@
-//! The automatic peer: which call comes next.
+//! The automatic end, which chooses its own calls.
 ghost use Rattle.std.specs.Prelude.{ℕ, List, ◌≡◌, ◌≢◌, ◌+◌, ◌++◌, ◌≤◌, ◌↔◌, ◌∷◌, [], min, IsTrue, MatchOption, OnOk, IfErr};
 ghost use Rattle.call_grammar.specs.Automatic.{choice_of, Anew};
 ghost use Rattle.link_endpoint.specs.Plan.{fresh_plan, HasCounted, IsChoice, head_of, round_after};
@@ -9,20 +9,21 @@ use std::alloc::Global;
 use std::collections::VecDeque;
 use std::marker::Model;
 
-/// What an automatic peer does next.
+/// The next action of an automatic end.
 #[derive(Clone, Copy, Debug, PartialEq, Eq)]
 pub enum Choice {
     /// A Tick.
     Tick,
-    /// An offer of the head.
+    /// An offer of the head, the first frame that isn't accepted yet.
     Offer,
     /// A poll.
     Poll,
-    /// Nothing: no frame is left, and as many were delivered as are expected.
+    /// Nothing: every frame is accepted, and the expected number of deliveries is reached.
     Finished,
 }
 
-/// Where the round is. In RUN a round is an offer where a frame is left, then a poll, then a tick (profile).
+/// The position in the round. In RUN a round is an offer (if a frame is left), then a poll, then a
+/// tick (profile).
 #[derive(Clone, Copy, Debug, PartialEq, Eq)]
 enum Round {
     Anew,
@@ -30,7 +31,8 @@ enum Round {
     AfterPoll,
 }
 
-/// An automatic peer: the frames that are not accepted yet, how many deliveries it expects and how many came, and its round.
+/// An automatic end: the frames that aren't accepted yet, the number of deliveries that it expects,
+/// the number counted, and its round.
 #[derive(Debug, Drop)]
 pub struct Auto {
     frames: VecDeque<Frame>,
@@ -51,7 +53,7 @@ impl Model for Auto {
 }
 
 impl Auto {
-    /// An automatic peer without frames, which expects so many deliveries.
+    /// Returns an automatic end without frames that expects `expect` deliveries.
     pub fn new(alloc: Global, expect: u64) -> Auto
         ensures value { result ≡ fresh_plan expect }
         ensures counted { HasCounted result 0 }
@@ -64,7 +66,11 @@ impl Auto {
         }
     }
 
-    /// Puts a frame after those that wait. After NoMemory the list is unchanged, and the frame is dropped.
+    /// Appends a frame to the frames that aren't accepted yet. After `Err(NoMemory)` the list is
+    /// unchanged, and the frame is dropped.
+    // claim added, unchanged with Auto::head, Auto::accepted.head, Auto::accepted.kept,
+    //    Auto::delivered.value, Auto::delivered.counted, Auto::cut: Its frames are offered in
+    //    order, each until it is accepted. Deliveries are counted. A reset begins the round anew.
     pub fn add(&mut self, frame: Frame) -> Result<(), NoMemory>
         ensures added { OnOk result (self.new ≡ record self.old { frames = self.old.frames ++ frame ∷ [] }) }
         ensures unchanged { IfErr result (λ _. self.new ≡ self.old) }
@@ -73,14 +79,16 @@ impl Auto {
         Ok(())
     }
 
-    /// The first frame that isn't accepted yet.
+    /// Returns the first frame that isn't accepted yet, or `None` if there is none.
     pub fn head(&self) -> Option<&[u8]>
         ensures { MatchOption result (self.now.frames ≡ []) (λ frame. head_of self.now.frames ≡ Some frame.now) }
     {
         self.frames.front().map(|frame| frame.bytes())
     }
 
-    /// What comes next, for an end in this phase. The round goes on with it.
+    /// Returns the next action for an end in `phase`, and advances the round.
+    // claim choice, round with Auto::new.value, Auto::new.counted: The automatic peer chooses by
+    //    its rule, at every count of deliveries.
     pub fn choose(&mut self, phase: Phase) -> Choice
         ensures choice { (count : ℕ) → HasCounted self.old count →
             IsChoice result self.old.frames (choice_of phase self.old.round self.old.frames count self.old.expected) }
@@ -96,7 +104,7 @@ impl Auto {
         choice
     }
 
-    /// Takes the head away: its offer was accepted.
+    /// Removes the head after its offer was accepted.
     pub fn accepted(&mut self)
         requires { self.old.frames ≢ [] }
         ensures head { (frame : List ℕ) × (self.old.frames ≡ frame ∷ self.new.frames) }
@@ -105,7 +113,7 @@ impl Auto {
         let _ = self.frames.pop_front();
     }
 
-    /// Counts a delivery.
+    /// Counts a delivery, up to the number expected.
     pub fn delivered(&mut self)
         ensures value { self.new ≡ record self.old { delivered = min (self.old.delivered + 1) self.old.expected } }
         ensures counted { (count : ℕ) → HasCounted self.old count → HasCounted self.new (count + 1) }
@@ -115,7 +123,7 @@ impl Auto {
         }
     }
 
-    /// The open call was cut by a reset of the device: the round begins anew.
+    /// Restarts the round. The caller uses it when a reset of the device cuts the open call.
     pub fn cut(&mut self)
         ensures { self.new ≡ record self.old { round = Anew } }
     {
@@ -128,7 +136,7 @@ impl Auto {
         self.frames.is_empty() && self.delivered >= self.expected
     }
 
-    /// What comes next.
+    /// Returns the next action, and leaves the round.
     fn choice(&self, phase: Phase) -> Choice
         ensures { (count : ℕ) → HasCounted self.now count →
             IsChoice result self.now.frames (choice_of phase self.now.round self.now.frames count self.now.expected) }

@@ -1,4 +1,4 @@
-//! One end of the link, which takes its calls step by step. It makes no access itself.
+//! One end of the link, which makes its calls step by step. It performs no access itself.
 ghost use Rattle.std.specs.Prelude.{◌≡◌, ℕ, ◌+◌, ◌*◌, ◌%◌, ◌<◌, ◌≤◌, ◌↔◌, not, is_some, Some, None, List, [], ◌∷◌, true, false, IsTrue, IfOk, IfSome, ◌++◌, length, take, flat_map};
 ghost use Rattle.call_grammar.specs.Ends.{End, fresh, after_reset};
 ghost use Rattle.call_grammar.specs.Calls.{EndConfig, Offer, in_run};
@@ -28,10 +28,11 @@ use std::alloc::Global;
 use std::marker::Model;
 use tx_engine::{Bursts, Tx};
 
-/// An end of the link: its handshake, its sender and its receiver, and the place in the open call.
+/// An end of the link: its handshake, its sender, its receiver, and the place in the open call.
 ///
-/// A call goes on by one access a step. The endpoint makes no access itself: `next` says which one comes, and `took` is handed what it
-/// gave. Words are numbered from the base of the region.
+/// Each step of a call is one access. The endpoint performs no access: `next` returns the next one,
+/// and the caller performs it and passes the value read to `took`. Words are numbered from the base
+/// of the region.
 #[derive(Debug, Drop)]
 pub struct Endpoint {
     other: u32,
@@ -56,10 +57,13 @@ impl Model for Endpoint {
 }
 
 impl Endpoint {
-    /// The end of peer `me` in a region of this geometry, whose output sections hold this queue. Its doorbells have the vector
-    /// `traffic`.
+    /// Returns the end of peer `me` in a region of this geometry, whose output sections hold this
+    /// queue. Its doorbells have the vector `traffic`.
     ///
-    /// NoMemory says that memory ran out. No later call answers it.
+    /// Returns `Err(NoMemory)` if an allocation fails. No later call returns it.
+    // claim value, refines with Endpoint::reset.value, Endpoint::reset.refines: A new end is at its
+    //    start. A reset cuts the open call, leaves the end in RESET and forgets the refusal, from
+    //    any place.
     pub fn new(
         alloc: Global,
         me: u32,
@@ -89,7 +93,7 @@ impl Endpoint {
         })
     }
 
-    /// Is a call open?
+    /// Whether a call is open.
     pub fn busy(&self) -> bool
         ensures value { result ≡ is_busy self.now }
         ensures open { (config : EndConfig) (end : End) (place : places.Place) → RefinesAt self.now config end place → result ≡ places.is_open place }
@@ -97,8 +101,10 @@ impl Endpoint {
         !matches!(self.place, Place::Closed)
     }
 
-    /// The phase of the end. It changes at a State step and at a reset. An end that refused a value is in RESET from the State step of
-    /// the refusal on, until it is reset.
+    /// Returns the phase of the end. The phase changes at a State step and at a reset. An end that
+    /// refused a value is in RESET from the State step of the refusal until its reset.
+    // claim value, end with Endpoint::busy.value, Endpoint::busy.open: Phase and openness are those
+    //    of the end.
     pub fn phase(&self) -> Phase
         ensures value { result ≡ self.now.phase }
         ensures end { (config : EndConfig) (end : End) (place : places.Place) → RefinesAt self.now config end place → result ≡ end.handshake.phase }
@@ -107,16 +113,19 @@ impl Endpoint {
         self.handshake.phase()
     }
 
-    /// Does the end wait armed? Asked where no call is open: in RUN it does from a poll that finds nothing on, until one finds a frame. An
-    /// end that does is rung at the next frame that an honest other accepts. In a link without events none does.
+    /// Whether the end waits armed, provided that no call is open. An end in RUN is armed from a
+    /// poll that finds no frame until a poll that finds one. An armed end gets a doorbell when an
+    /// honest other end accepts its next frame. In a link without events no end is armed.
+    // claim: An end waits armed exactly if it is in RUN, the link has events, and the last look of
+    //    its session found nothing.
     pub fn is_armed(&self) -> bool
         ensures { (config : EndConfig) (end : End) → RefinesAt self.now config end places.Closed → result ≡ is_armed config end }
     {
         self.in_run() && self.rx.is_armed()
     }
 
-    /// The value that the end refused, with its field, from the step that read it until the next reset: a Stop leaves it, and each
-    /// Tick finds that the end stays.
+    /// Returns the value that the end refused and its field, from the step that read the value
+    /// until the next reset. A Stop or a Tick doesn't change it.
     pub fn refused(&self) -> Option<Refused>
         ensures value { result ≡ self.now.refused }
         ensures end { (config : EndConfig) (end : End) (place : places.Place) → RefinesAt self.now config end place → is_some result ≡ end.handshake.mark }
@@ -124,15 +133,16 @@ impl Endpoint {
         self.refused
     }
 
-    /// The bytes of the longest frame that may be offered: 18 more than the MTU.
+    /// Returns the length in bytes of the longest frame that may be offered: the MTU plus 18.
     pub fn longest(&self) -> u32
         ensures { result ≡ self.now.config.sizes.mtu + 18 }
     {
         self.tx.longest()
     }
 
-    /// The frame offered last, in whatever phase: that of the open offer, and the one that `offer_again` offers. It stays until another one is
-    /// offered: through its own call and all others, through refusals, sessions and resets. It is empty before the first.
+    /// Returns the frame offered last, in any phase: the frame of an open offer, and the frame that
+    /// `offer_again` offers. It stays until another frame is offered, through all other calls,
+    /// refusals, sessions and resets. It is empty before the first offer.
     pub fn offered(&self) -> &[u8]
         ensures value { result.now ≡ offered self.now }
         ensures most { length result.now ≤ self.now.config.sizes.mtu + 18 }
@@ -140,8 +150,11 @@ impl Endpoint {
         self.tx.frame()
     }
 
-    /// The frame delivered last: from the step that delivers it to the one that delivers the next, through refusals, stops and resets.
-    /// It is empty before the first.
+    /// Returns the frame delivered last. It stays until the step that delivers the next frame,
+    /// through refusals, stops and resets. It is empty before the first delivery.
+    // claim with Endpoint::reset.delivered: The frame delivered last is kept from the step that
+    //    delivers it to the one that delivers the next, through refusals, stops and resets. It is
+    //    empty before the first.
     pub fn delivered(&self) -> &[u8]
         ensures { result.now ≡ delivered self.now }
     {
@@ -149,6 +162,9 @@ impl Endpoint {
     }
 
     /// Opens a call.
+    // claim refines, open, down, kept with Endpoint::offer.refines, Endpoint::offer.open,
+    //    Endpoint::offer.down, Endpoint::offer.kept: A call begins at its first place, in each
+    //    phase. An offer or a poll outside RUN is down, and no other call is.
     pub fn begin(&mut self, call: Call)
         requires { is_busy self.old ≡ false }
         ensures refines { (config : EndConfig) (end : End) → RefinesAt self.old config end places.Closed →
@@ -170,16 +186,25 @@ impl Endpoint {
         }
     }
 
-    /// Is the end in RUN, where offers and polls work?
+    /// Whether the end is in RUN, the phase in which offers and polls work.
     fn in_run(&self) -> bool
         ensures { result ≡ in_run self.now.phase }
     {
         matches!(self.handshake.phase(), Phase::Run)
     }
 
-    /// Opens an offer of this frame, which is copied, in whatever phase: where the offer is down, `offer_again` offers the frame in RUN.
+    /// Opens an offer of `frame`, in any phase, and copies the frame. If the offer is down,
+    /// `offer_again` offers the frame later in RUN.
     ///
-    /// In each phase no more frames are in flight than may be, and so the offer has no more steps than its bound.
+    /// In each phase the number of frames in flight is at most the limit, so the offer has no more
+    /// steps than its bound.
+    // claim frame with Endpoint::begin.offered, Endpoint::reset.offered, Endpoint::offered.value,
+    //    Endpoint::offered.most, Endpoint::longest, bursts_keep_offers: The frame offered last is
+    //    the one that the last offer was given, in whatever phase. It stays until another is
+    //    offered, through each step, call, refusal, session and reset, and is empty before the
+    //    first offer alone.
+    // claim few: In each phase the frames in flight are within the limit, which the step bound of
+    //    an offer needs.
     pub fn offer(&mut self, frame: &[u8])
         requires closed { is_busy self.old ≡ false }
         requires frame { (14 ≤ length frame.now) × (length frame.now ≤ self.old.config.sizes.mtu + 18) }
@@ -200,7 +225,10 @@ impl Endpoint {
         }
     }
 
-    /// Opens an offer of the frame offered last again, which isn't copied: where that offer found the link full, or was down, say.
+    /// Opens another offer of the frame offered last, without a copy. It serves, for example, after
+    /// an offer that was down or found the link full.
+    // claim refines, few, open, down, frame, kept: The frame offered last is offered again without
+    //    a copy: the same call of the grammar.
     pub fn offer_again(&mut self)
         requires closed { is_busy self.old ≡ false }
         requires some { 14 ≤ length (offered self.old) }
@@ -220,8 +248,11 @@ impl Endpoint {
         }
     }
 
-    /// The next access of the open call: a read of the other's state or section, a write in the own section or of the own State, or a
-    /// doorbell to the other. Nothing is the one step of an offer or a poll outside RUN.
+    /// Returns the next access of the open call: a read of the other's State or section, a write to
+    /// the own section or to the own State, or a doorbell to the other. `Nothing` is the only step
+    /// of an offer or a poll outside RUN.
+    // claim access, reach, nothing: The next access is that of the place, and permitted whatever
+    //    was read. It is none exactly if the call is down.
     pub fn next(&self) -> Access
         requires { is_busy self.now ≡ true }
         ensures access { (config : EndConfig) (end : End) (place : places.Place) → RefinesAt self.now config end place → result ≡ places.access_at config place }
@@ -241,10 +272,23 @@ impl Endpoint {
         }
     }
 
-    /// Takes the step of the access that `next` told. `value` is what a read gave; a step of another access makes no use of it.
+    /// Completes the step of the access that `next` returned. `value` is the value that a read met,
+    /// and the step of another access ignores it.
     ///
-    /// The frame of an Accept note is the one offered, and that of a Deliver note is `delivered`. After a step that refuses a value the
-    /// next one is State 0, with which the end is in RESET; it stays there, and keeps what it refused, until it is reset.
+    /// The frame of an Accept note is `offered`, and the frame of a Deliver note is `delivered`.
+    /// After a step that refuses a value the next access is State 0, which puts the end into RESET.
+    /// The end stays in RESET and keeps the refused value until its reset.
+    // claim steps with Endpoint::took_into.steps: Each step has the marks of its place for the
+    //    value read, and leads to the next place. An Accept is of the frame offered, a Deliver of
+    //    the one delivered.
+    // claim refuses with Endpoint::took_into.refuses, Endpoint::next.leaves: After a step that
+    //    refuses a value, the next access is State 0.
+    // claim leaves with Endpoint::took_into.leaves, Endpoint::phase.left: With that State step the
+    //    call is over. The end is in RESET, and stays there until its reset, through stops.
+    // claim keeps with Endpoint::took_into.keeps, Endpoint::refused.value, Endpoint::refused.end:
+    //    An end that refused a value keeps the value and its field until its reset.
+    // claim stays with Endpoint::took_into.stays, Endpoint::begin.looks, refused_ends_stay: Each
+    //    tick of an end that refused reads the other's State, and does nothing else.
     pub fn took(&mut self, value: u32) -> Notes
         requires { is_busy self.old ≡ true }
         ensures steps { Takes self.old value result.items self.new }
@@ -258,7 +302,7 @@ impl Endpoint {
         notes
     }
 
-    /// The same as `took`, with the notes put into a list that the caller has.
+    /// Equivalent to `took`, but puts the notes into the caller's list `notes`.
     pub fn took_into(&mut self, value: u32, notes: &mut Notes)
         requires open { is_busy self.old ≡ true }
         requires empty { notes.old.items ≡ [] }
@@ -280,7 +324,11 @@ impl Endpoint {
         }
     }
 
-    /// The order that the next access needs of the memory, where the words aren't all sequentially consistent.
+    /// Returns the memory order that the next access needs if the shared words aren't all
+    /// sequentially consistent.
+    // claim: Each access has the memory order of its place. The other's State is acquired; the own
+    //    State is released, with a full fence after it. An index is acquired at a read and released
+    //    at a write. A doorbell is released. All other accesses are relaxed.
     pub fn order(&self) -> Ordering
         ensures { (config : EndConfig) (end : End) (place : places.Place) → RefinesAt self.now config end place → result ≡ order_at place }
     {
@@ -297,8 +345,8 @@ impl Endpoint {
         }
     }
 
-    /// How many of the coming accesses read one word after the other, from that of `next` on, none before the last with a note; 0 where no
-    /// read of several words comes.
+    /// Returns how many of the next accesses read consecutive words, beginning with the access of
+    /// `next`. No access before the last has a note. Returns 0 if no burst of reads is next.
     pub fn reads_ahead(&self) -> u32
         ensures value { result ≡ reads_ahead self.now }
         ensures reads { (config : EndConfig) (end : End) (place : places.Place) (word : ℕ) → RefinesAt self.now config end place →
@@ -310,10 +358,18 @@ impl Endpoint {
         }
     }
 
-    /// Takes some of the steps that `reads_ahead` tells at once: `words` has what each read gave as four bytes, the lowest first.
+    /// Completes the next reads, at most `reads_ahead` of them. `words` holds the values read, four
+    /// bytes each, the lowest byte first.
     ///
-    /// It is the same as `took` for each of these words in turn. Where these are all the words of a frame, the frame delivered is their first
-    /// bytes.
+    /// Equivalent to a call of `took` for each of these values in order. If `words` holds all words
+    /// of a frame, the frame delivered is their first bytes.
+    // claim steps with Endpoint::took_reads_into.steps, Endpoint::reads_ahead.value,
+    //    Endpoint::reads_ahead.reads, Endpoint::writes_ahead, Endpoint::words.writes,
+    //    Endpoint::words.sized, Endpoint::took_writes: A burst is of reads of a frame's words, or
+    //    of writes of a frame, a descriptor, a used element or the clears of a tick. Completing a
+    //    burst equals as many single steps, and no step before the last has a note.
+    // claim frame with Endpoint::took_reads_into.frame: If all words of a frame are taken at once,
+    //    the frame delivered is their first bytes.
     pub fn took_reads(&mut self, words: &[u8]) -> Notes
         requires some { 0 < length words.now }
         requires whole { length words.now % 4 ≡ 0 }
@@ -326,7 +382,7 @@ impl Endpoint {
         notes
     }
 
-    /// The same as `took_reads`, with the notes put into a list that the caller has.
+    /// Equivalent to `took_reads`, but puts the notes into the caller's list `notes`.
     pub fn took_reads_into(&mut self, words: &[u8], notes: &mut Notes)
         requires some { 0 < length words.now }
         requires whole { length words.now % 4 ≡ 0 }
@@ -338,8 +394,8 @@ impl Endpoint {
         self.rx.took_reads_into(words, notes)
     }
 
-    /// How many of the coming accesses write one word after the other, from that of `next` on, none with a note; 0 where no write of several
-    /// words comes.
+    /// Returns how many of the next accesses write consecutive words, beginning with the access of
+    /// `next`. None of them has a note. Returns 0 if no burst of writes is next.
     pub fn writes_ahead(&self) -> u32
         ensures { result ≡ writes_ahead self.now }
     {
@@ -351,7 +407,8 @@ impl Endpoint {
         }
     }
 
-    /// Puts some of the words that `writes_ahead` tells into `into`, each as four bytes, the lowest first.
+    /// Writes the values of the next writes into `into`, at most `writes_ahead` words, four bytes
+    /// each, the lowest byte first.
     pub fn words(&self, into: &mut [u8])
         requires whole { length into.old % 4 ≡ 0 }
         requires within { length into.old ≤ 4 * writes_ahead self.now }
@@ -367,9 +424,9 @@ impl Endpoint {
         }
     }
 
-    /// Takes the steps of so many of the writes that `writes_ahead` tells at once.
+    /// Completes the next `count` writes, with `count` at most `writes_ahead`.
     ///
-    /// It is the same as `took` so many times, each of which has no note.
+    /// Equivalent to `count` calls of `took`, none of which has a note.
     pub fn took_writes(&mut self, count: u32)
         requires some { 0 < count }
         requires within { count ≤ writes_ahead self.old }
@@ -383,8 +440,12 @@ impl Endpoint {
         }
     }
 
-    /// Which words the open offer writes before its index: those that are left of its frame, those of the descriptor and that of the entry,
-    /// one behind the other and with no note. None where no word of a frame is next.
+    /// Returns the bursts that the open offer writes before its index: the words left of its frame,
+    /// the descriptor and the available entry, in this order and without notes. Returns `None` if
+    /// the next access isn't the write of a word of a frame.
+    // claim with Endpoint::burst_words.writes, Endpoint::burst_words.sized, Endpoint::took_bursts:
+    //    The bursts are all that an offer writes before its index. Completing them equals as many
+    //    single steps.
     pub fn bursts(&self) -> Option<Bursts>
         ensures { result ≡ bursts_of self.now }
     {
@@ -394,7 +455,7 @@ impl Endpoint {
         }
     }
 
-    /// Puts all the words that `bursts` tells into `into`, each as four bytes, the lowest first.
+    /// Writes all words of `bursts` into `into`, four bytes each, the lowest byte first.
     pub fn burst_words(&self, into: &mut [u8])
         requires sized { length into.old ≡ 4 * words_of (bursts_of self.now) }
         ensures writes { (config : EndConfig) (end : End) (place : places.Place) → RefinesAt self.now config end place →
@@ -406,10 +467,13 @@ impl Endpoint {
         }
     }
 
-    /// Puts the words of the descriptor and of the entry that `bursts` tells into `into`, each as four bytes, the lowest first.
+    /// Writes the words of the descriptor and of the available entry of `bursts` into `into`, four
+    /// bytes each, the lowest byte first. Leaves `into` unchanged if `bursts` is `None`.
     ///
-    /// The words of the frame are the last ones of `offered`, with 0 after its last byte: who has that frame writes them from there. Where no word
-    /// of a frame is next nothing is put.
+    /// The words of the frame are the last ones of `offered`, with 0 after its last byte. A caller
+    /// that still holds the frame can write them from its own copy.
+    // claim writes, untouched, sized: The tail is the five words after the frame, if the words left
+    //    of the frame are the last ones of the frame offered.
     pub fn tail_words(&self, into: &mut [u8])
         requires sized { length into.old ≡ 20 }
         ensures writes { (config : EndConfig) (end : End) (place : places.Place) → RefinesAt self.now config end place →
@@ -422,9 +486,9 @@ impl Endpoint {
         }
     }
 
-    /// Takes the steps of all the writes that `bursts` tells at once.
+    /// Completes all writes of `bursts`.
     ///
-    /// It is the same as `took` so many times, each of which has no note.
+    /// Equivalent to one call of `took` for each of these writes, none of which has a note.
     pub fn took_bursts(&mut self)
         requires { 0 < words_of (bursts_of self.old) }
         ensures { (values : List ℕ) → length values ≡ words_of (bursts_of self.old) → StepsThrough IsTaken self.old values [] self.new }
@@ -435,8 +499,8 @@ impl Endpoint {
         }
     }
 
-    /// The end's own device was reset: the open call is cut, and what was refused is forgotten. The frame offered last and the one delivered
-    /// last stay.
+    /// Resets the end after a reset of its own device: cuts the open call and clears the refused
+    /// value. The frame offered last and the frame delivered last stay.
     pub fn reset(&mut self)
         ensures value { self.new ≡ engine_after_reset self.old }
         ensures refines { (config : EndConfig) (end : End) (place : places.Place) → RefinesAt self.old config end place →
@@ -452,16 +516,16 @@ impl Endpoint {
     }
 }
 
-/// The steps of `took_into`, one for each place.
+/// The steps of `took_into`, one function for each place.
 impl Endpoint {
-    /// The word with the other's State.
+    /// Returns the number of the word that holds the other's State.
     fn other_state(&self) -> u32
         ensures { result ≡ other_state self.now.config }
     {
         self.other
     }
 
-    /// The read of the other's state.
+    /// Completes the read of the other's State.
     fn took_state(&mut self, value: u32, notes: &mut Notes)
         requires place { self.old.place ≡ Place.ReadingOtherState }
         requires empty { notes.old.items ≡ [] }
@@ -479,7 +543,7 @@ impl Endpoint {
         };
     }
 
-    /// The write of 0 to an own word.
+    /// Completes the write of 0 to the own word `at`.
     fn took_clear(&mut self, at: u32, then: u32)
         requires { self.old.place ≡ Place.Clearing at then }
         ensures steps { (value : ℕ) → Takes self.old value [] self.new }
@@ -493,7 +557,7 @@ impl Endpoint {
         };
     }
 
-    /// The writes of 0 to so many own words.
+    /// Completes `count` writes of 0 to own words, beginning at `at`.
     fn took_clears(&mut self, at: u32, then: u32, count: u32)
         requires place { self.old.place ≡ Place.Clearing at then }
         requires some { 0 < count }
@@ -504,7 +568,7 @@ impl Endpoint {
         self.place = clearing(at + count, last, then);
     }
 
-    /// The State step of a Tick or a Stop.
+    /// Completes the State step of a Tick or a Stop.
     fn took_set(&mut self, state: u32, notes: &mut Notes)
         requires place { self.old.place ≡ Place.WritingState state }
         requires empty { notes.old.items ≡ [] }
@@ -519,7 +583,7 @@ impl Endpoint {
         notes.push(Note::Over);
     }
 
-    /// The State step that opens a session.
+    /// Completes the State step that opens a session.
     fn took_opening(&mut self, notes: &mut Notes)
         requires place { self.old.place ≡ Place.WritingState 2 }
         requires empty { notes.old.items ≡ [] }
@@ -533,7 +597,7 @@ impl Endpoint {
         notes.push(Note::Over);
     }
 
-    /// The State step of a refusal, with which the session is over.
+    /// Completes the State step of a refusal, which ends the session.
     fn took_refusal(&mut self, notes: &mut Notes)
         requires place { self.old.place ≡ Place.Refusing }
         requires empty { notes.old.items ≡ [] }
@@ -547,7 +611,7 @@ impl Endpoint {
         notes.push(Note::Over);
     }
 
-    /// The one step of a call that is down.
+    /// Completes the only step of a call that is down.
     fn took_down(&mut self, notes: &mut Notes)
         requires place { self.old.place ≡ Place.NotInRun }
         requires empty { notes.old.items ≡ [] }
@@ -558,7 +622,7 @@ impl Endpoint {
         notes.push(Note::Down);
     }
 
-    /// A step of the sender.
+    /// Completes a step of the sender.
     fn took_offer(&mut self, value: u32, notes: &mut Notes)
         requires place { self.old.place ≡ Place.Offering }
         requires empty { notes.old.items ≡ [] }
@@ -574,7 +638,7 @@ impl Endpoint {
         }
     }
 
-    /// A step of the receiver.
+    /// Completes a step of the receiver.
     fn took_poll(&mut self, value: u32, notes: &mut Notes)
         requires place { self.old.place ≡ Place.Polling }
         requires empty { notes.old.items ≡ [] }
@@ -591,7 +655,8 @@ impl Endpoint {
     }
 }
 
-/// The place before the write of 0 to the own word `at`, where the last own word is before `end`, or after that last write.
+/// Returns the place before the write of 0 to the own word `at`. Returns the place after the last
+/// of these writes if `at` is `end`, the end of the own words.
 fn clearing(at: u32, end: u32, then: u32) -> Place
     ensures word { at < end → result ≡ Place.Clearing at then }
     ensures after { at ≡ end → result ≡ Place.WritingState then }
@@ -603,7 +668,7 @@ fn clearing(at: u32, end: u32, then: u32) -> Place
     }
 }
 
-/// This order, with no fence.
+/// Returns `order` without a fence.
 fn plain(order: Order) -> Ordering
     ensures { result ≡ record { order = order; fence_before = false; fence_after = false } }
 {
@@ -614,7 +679,8 @@ fn plain(order: Order) -> Ordering
     }
 }
 
-/// The order of an access of an offer or a poll: that of a doorbell, else by what its word is.
+/// Returns the memory order of an access of an offer or a poll: a doorbell has its own, and any
+/// other access has the order of its kind of word.
 fn order_of(rings: bool, kind: WordKind) -> Ordering
     ensures { result ≡ order_of rings kind }
 {
@@ -638,7 +704,8 @@ fn order_of(rings: bool, kind: WordKind) -> Ordering
     }
 }
 
-/// What the last Refuse of these notes refused. Each is looked at by its own place, so that the compiler need not put them into memory.
+/// Returns what the last Refuse note of `notes` refused. Each note is read by its own position, so
+/// that the compiler can keep the notes out of memory.
 fn refused_in(notes: &Notes) -> Option<Refused>
     ensures { result ≡ refused_after notes.now.items None }
 {
@@ -650,7 +717,7 @@ fn refused_in(notes: &Notes) -> Option<Refused>
     }
 }
 
-/// What was refused, where another note stands behind it.
+/// Returns what is refused after `note`, if `before` was refused before it.
 fn refused_with(note: &Note, before: Refused) -> Refused
     ensures { Some result ≡ refused_after (note.now ∷ []) (Some before) }
 {
@@ -660,7 +727,10 @@ fn refused_with(note: &Note, before: Refused) -> Refused
     }
 }
 
-/// Law: each offer, poll, tick and stop of an endpoint is a call of the grammar, over any values, and a beginning of one where it is cut.
+/// Law: each offer, poll, tick and stop of an endpoint is a call of the grammar, over any values. A
+/// call that is cut is a beginning of a call of the grammar.
+// claim: Each offer, poll, tick and stop of an endpoint is a call of the grammar, over any values,
+//    and the beginning of one if it is cut.
 pub fn endpoints_make_calls()
     ensures { EndpointsMakeCalls }
 {}

@@ -1,4 +1,5 @@
-//! What holds of the calls of an end, and of two ends that make calls. Each law is the contract of a function that does nothing.
+//! Laws of the calls of an end and of two ends. Each law is the contract of a function without
+//! code.
 ghost use Rattle.link_endpoint.specs.Refinement.{RefusedEndsStay};
 ghost use Rattle.link_endpoint.specs.Bursts.{BurstsGoOn};
 ghost use Rattle.link_endpoint.specs.Offered.{BurstsKeepOffers};
@@ -13,17 +14,19 @@ pub use link_invariant::{
     steps_follow_rows,
 };
 
-/// An end that refused something stays, whatever its Ticks read, until its device is reset.
+/// An end that refused a value stays out of the link until its device is reset, for all values that
+/// its Ticks read.
 pub fn refused_ends_stay()
     ensures { RefusedEndsStay }
 {}
 
-/// Steps that are taken at once are steps of the grammar, one after the other.
+/// The steps of a burst are steps of the grammar, in order.
+// claim: After a burst the end is at the place after as many steps of the grammar.
 pub fn bursts_go_on()
     ensures { BurstsGoOn }
 {}
 
-/// Steps that are taken at once leave the frame offered last, as each single step does.
+/// The steps of a burst leave the frame offered last unchanged, as each single step does.
 pub fn bursts_keep_offers()
     ensures { BurstsKeepOffers }
 {}

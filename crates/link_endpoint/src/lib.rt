@@ -1,21 +1,30 @@
-//! An end of the link: its handshake, its sender and its receiver, one access a step, or some at once; and the automatic peer, which chooses the calls.
-//! It stands on `tx_engine` and `rx_engine` for offers and polls, on `link_handshake` for the phases, and on `call_grammar` for the call
-//! grammar. Its contracts promise that each call is one of the grammar's, for each end for which the endpoint stands, and that the
-//! choice of calls is the grammar's. `laws` holds what follows for two ends.
+//! An end of the link (its handshake, its sender and its receiver) that makes one access a step, or
+//! a burst of them; and the automatic end, which chooses its own calls. The crate uses `tx_engine`
+//! and `rx_engine` for offers and polls, `link_handshake` for the phases, and `call_grammar` for
+//! the call grammar. Its contracts promise that each call is a call of the grammar, for each end
+//! that the endpoint refines. They promise the same of the choice of calls. `laws` holds what
+//! follows for two ends.
 //!
 //! # Design
 //!
-//! - An `Endpoint` is seen as an `Engine`: whose end it is, its phase, what it refused, its place, its sender and its receiver. An offer's
-//!   place is the sender's, a poll's the receiver's.
-//! - `Endpoint::offered` tells the frame offered last, of which the endpoint has a copy: whoever writes a history needs it at the Accept
-//!   mark, and would have to hold it a second time; and `offer_again` offers it once more. It stays until another is offered.
-//! - `Auto::cut` begins the round of an automatic peer anew. A reset cuts the call that the peer chose, and only the caller knows of it.
-//! - An access is in reach without a condition, also before anything is known of the values read: the invariant says that the endpoint
-//!   stands for some end.
-//! - An automatic peer counts deliveries up to the number expected, so no count overflows; the rule asks only whether so many came.
-//! - A State step of READY resets sender and receiver, and so do the State step of a refusal and a device reset. The frame offered last and
-//!   the one delivered last stay through all of these (`renewed`).
-//! - A doorbell has no word. So the engines tell whether it is next (`rings`), and its order is no kind of word.
+//! - The view of an `Endpoint` is an `Engine`: its configuration, its phase, what it refused, its
+//!   place, its sender and its receiver. An offer's place is the sender's, a poll's the receiver's.
+//! - `Endpoint::offered` returns the frame offered last, from the endpoint's own copy. A caller
+//!   that writes a history needs it at the Accept mark without a copy of its own, and `offer_again`
+//!   offers it once more. It stays until another frame is offered.
+//! - `Auto::cut` restarts the round of an automatic end. A reset cuts the call that the end chose,
+//!   and only the caller knows of the reset.
+//! - An access is permitted without a condition, even if nothing is known of the values read: the
+//!   invariant says that the endpoint refines an end.
+//! - An automatic end counts deliveries up to the number expected, so no count overflows. The rule
+//!   needs only whether that number is reached.
+//! - A State step of READY resets sender and receiver, and so do the State step of a refusal and a
+//!   device reset. The frame offered last and the frame delivered last stay through all of these
+//!   (`renewed`).
+//! - A doorbell has no word, so its order doesn't follow from a kind of word. The engines report a
+//!   doorbell by `rings`.
+// tested: No memory is taken after `Endpoint::new`: tried by hand, with one allocation after the
+//    other failing.
 #![tactic(auto)]
 
 mod auto;

@@ -1,23 +1,23 @@
-//! The order that an access needs of the memory.
+//! The memory order that an access needs.
 
-/// How an access is ordered with the accesses before and after it.
+/// The order of an access relative to the accesses before and after it.
 #[derive(Clone, Copy, Debug, PartialEq, Eq)]
 pub enum Order {
-    /// Not at all: it may go to memory sooner or later than its neighbours.
+    /// No order: the access may reach memory earlier or later than its neighbours.
     Relaxed,
-    /// A read that comes before all that follow it.
+    /// A read that is ordered before all later accesses.
     Acquire,
-    /// A write that comes after all that are before it.
+    /// A write that is ordered after all earlier accesses.
     Release,
 }
 
-/// The order of an access, and whether a full fence stands right before or right after it.
+/// The order of an access, and whether a full fence is directly before or after it.
 #[derive(Clone, Copy, Debug, PartialEq, Eq)]
 pub struct Ordering {
     /// The order of the access itself.
     pub order: Order,
-    /// A full fence stands before it.
+    /// Whether a full fence is directly before the access.
     pub fence_before: bool,
-    /// A full fence stands after it.
+    /// Whether a full fence is directly after the access.
     pub fence_after: bool,
 }

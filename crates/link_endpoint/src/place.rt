@@ -1,17 +1,17 @@
-//! The calls of an end, and where an open call is.
+//! The calls of an end, and the place in an open call.
 
-/// A call that an end may be told to make; an offer, which has a frame, is a call of its own.
+/// A call that an end may make. An offer has a frame, so it has a method of its own.
 #[derive(Clone, Copy, Debug, PartialEq, Eq)]
 pub enum Call {
-    /// Looks at the other's state, and moves on.
+    /// Reads the other's State, and follows the handshake.
     Tick,
-    /// Takes the frames that the other published.
+    /// Delivers the frames that the other published.
     Poll,
     /// Leaves the link.
     Stop,
 }
 
-/// The place in the open call: what its next step is.
+/// The place in the open call, which determines its next step.
 #[derive(Clone, Copy, Debug)]
 pub(crate) enum Place {
     /// No call is open.
@@ -20,16 +20,16 @@ pub(crate) enum Place {
     ReadingOtherState,
     /// Before the write of 0 to an own word.
     Clearing {
-        /// The number of that word.
+        /// The number of that word in the region.
         at: u32,
-        /// The value of the State step that comes after the last word.
+        /// The value of the State step after the last word.
         then: u32,
     },
     /// Before the State step with this value, which ends a Tick or a Stop.
     WritingState(u32),
-    /// Before the State step of a refusal.
+    /// Before the State step of a refusal, State 0.
     Refusing,
-    /// Before the one step of an offer or a poll outside RUN.
+    /// Before the only step of an offer or a poll outside RUN.
     NotInRun,
     /// In an offer, at the place of the sender.
     Offering,

@@ -1,12 +1,13 @@
--- The phase table of a link's end (profile, in the manner of the ivshmem-net driver): states are RESET 0,
--- INIT 1, READY 2 and RUN 3, and a state is read as a whole word, so 7 counts as READY or more.
+-- The phase table of a link's end (profile, in the manner of the ivshmem-net driver). States are
+-- RESET 0, INIT 1, READY 2 and RUN 3. A State is read as a whole word, so 7 counts as READY or
+-- more.
 use Rattle.std.specs.Prelude.{ℕ, zero, suc}
 use Rattle.link_handshake.specs.declared.Phase.{Phase}
 use Rattle.link_handshake.specs.declared.Phase.TheVariants.{Reset, Init, Ready, Run}
 use Rattle.link_handshake.specs.declared.Move.{Move}
 use Rattle.link_handshake.specs.declared.Move.TheVariants.{Stay, Set, ClearThenSet}
 
--- the move of an end in this phase that reads this state of the other
+-- The move of an end in phase `phase` that reads the other's State.
 abbrev pub move_on : Phase → ℕ → Move
 move_on Reset zero = Set 1
 move_on Reset (suc zero) = Set 1
@@ -19,14 +20,14 @@ move_on Ready (suc (suc more)) = Set 3
 move_on Run zero = Set 0
 move_on Run (suc more) = Stay
 
--- the phase that a state stands for, 3 and above as RUN
+-- The phase of a State value, 3 and above as RUN.
 abbrev pub phase_at : ℕ → Phase
 phase_at zero = Reset
 phase_at (suc zero) = Init
 phase_at (suc (suc zero)) = Ready
 phase_at (suc (suc (suc more))) = Run
 
--- the state that a phase is set by
+-- The State value of a phase.
 abbrev pub state_of : Phase → ℕ
 state_of Reset = 0
 state_of Init = 1

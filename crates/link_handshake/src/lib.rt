@@ -1,13 +1,17 @@
 //! The handshake of a link's end: its phase, the mark of an end that refused the link, and the move
-//! that each state of the other end calls for. It stands on nothing. Its contract is the phase table
-//! itself, with the laws that follow from it: no phase is skipped; READY waits until the other end has left RESET,
-//! and RUN until it is at least READY; RESET is set only from READY or RUN, where the other end is found there; and
-//! INIT only while the other end is at RESET or INIT.
+//! after each State read of the other end. The crate uses no other crate. Its contract is the phase
+//! table itself, with the laws that follow from it:
+//! - no phase is skipped;
+//! - READY is set only after the other end has left RESET, and RUN only if the other end is at
+//!   least READY;
+//! - RESET is set only from READY or RUN, if the other end is in RESET;
+//! - INIT is set only if the other end is in RESET or INIT.
 //!
 //! # Design
 //!
-//! - The table is a definition by cases, `move_on` of `specs/PhaseTable`, with a line for each arm of `saw`. The laws of `phases_in_step`
-//!   follow from it and don't hold each arm in its place: a must-fail edit for each arm does.
+//! - The table is a definition by cases, `move_on` of `specs/PhaseTable`, with a line for each arm
+//!   of `saw`. The laws of `phases_in_step` follow from it, but they don't determine each arm. A
+//!   must-fail edit does that for each arm.
 #![tactic(auto)]
 
 ghost use Rattle.std.specs.Prelude.{◌≡◌, true, false};
@@ -17,21 +21,21 @@ ghost use Rattle.link_handshake.specs.HandshakeState.{move_of};
 
 use std::marker::Model;
 
-/// The phase of an end. It changes at the step that writes the end's state, whose values are 0 to 3
+/// The phase of an end. It changes at the step that writes the end's State, whose values are 0 to 3
 /// in this order.
 #[derive(Clone, Copy, Debug, PartialEq, Eq)]
 pub enum Phase {
     /// No link.
     Reset,
-    /// Ready to clear its section once the other end has left RESET too.
+    /// The end clears its section as soon as the other end has left RESET.
     Init,
-    /// Its section is clear, and a session is open.
+    /// The end's section is clear, and a session is open.
     Ready,
-    /// The other end is ready too: frames go.
+    /// The other end is also READY or in RUN: frames can be offered and polled.
     Run,
 }
 
-/// The phase that a state stands for: 3 and above stand for RUN.
+/// Returns the phase of a State value. 3 and above are RUN.
 pub fn phase_of(state: u32) -> Phase
     ensures { result ≡ phase_at state }
 {
@@ -43,18 +47,19 @@ pub fn phase_of(state: u32) -> Phase
     }
 }
 
-/// What an end does after it read the other's state.
+/// The move of an end after it read the other's State.
 #[derive(Clone, Copy, Debug, PartialEq, Eq)]
 pub enum Move {
-    /// Nothing.
+    /// No move.
     Stay,
-    /// Sets its state to this value.
+    /// Sets the own State to this value.
     Set(u32),
-    /// Writes 0 to each word of its own section, from first to last, then sets its state to this value.
+    /// Writes 0 to each word of the own section, in order, and then sets the own State to this
+    /// value.
     ClearThenSet(u32),
 }
 
-/// A phase and a mark. An end that refused the link bears the mark and stays in RESET until its own
+/// A phase and a mark. An end that refused the link has the mark and stays in RESET until its own
 /// device is reset.
 #[derive(Clone, Copy, Debug, PartialEq, Eq)]
 pub struct Handshake {
@@ -73,7 +78,7 @@ impl Model for Handshake {
 }
 
 impl Handshake {
-    /// An end in RESET without the mark.
+    /// Returns the initial handshake: RESET without the mark.
     pub fn new() -> Handshake
         ensures { result ≡ record { phase = Phase.Reset; mark = false } }
     {
@@ -83,22 +88,24 @@ impl Handshake {
         }
     }
 
-    /// The phase.
+    /// Returns the phase.
     pub fn phase(&self) -> Phase
         ensures { result ≡ self.now.phase }
     {
         self.phase
     }
 
-    /// Has this end refused the link?
+    /// Whether this end refused the link.
     pub fn refused(&self) -> bool
         ensures { result ≡ self.now.mark }
     {
         self.refused
     }
 
-    /// The move that the other's state calls for. An end that refused the link stays, whatever it
-    /// reads.
+    /// Returns the move after a read of the other's State, `value`. An end that refused the link
+    /// stays, for all values.
+    // claim with Handshake::new, Handshake::phase, Handshake::refused, phase_of: An end makes the
+    //    move of the phase table, and none if it has refused the link.
     pub fn saw(&self, value: u32) -> Move
         ensures { result ≡ move_of self.now value }
     {
@@ -118,14 +125,14 @@ impl Handshake {
         }
     }
 
-    /// Enters a phase, at the step that sets its state.
+    /// Enters a phase, at the step that sets the own State.
     pub fn enter(&mut self, phase: Phase)
         ensures { self.new ≡ record self.old { phase = phase } }
     {
         self.phase = phase;
     }
 
-    /// Leaves the link. An end that refused it stays refused.
+    /// Leaves the link. An end that refused the link keeps the mark.
     pub fn stop(&mut self)
         ensures { self.new ≡ record self.old { phase = Phase.Reset } }
     {
@@ -133,6 +140,8 @@ impl Handshake {
     }
 
     /// Refuses the link.
+    // claim with Handshake::enter, Handshake::stop, Handshake::reset: A refusal lasts until the
+    //    end's own device reset.
     pub fn refuse(&mut self)
         ensures { self.new ≡ record { phase = Phase.Reset; mark = true } }
     {
@@ -140,7 +149,7 @@ impl Handshake {
         self.refused = true;
     }
 
-    /// The end's own device was reset.
+    /// Resets the handshake after a reset of the end's own device.
     pub fn reset(&mut self)
         ensures { self.new ≡ record { phase = Phase.Reset; mark = false } }
     {
@@ -148,8 +157,9 @@ impl Handshake {
     }
 }
 
-/// What the phase table keeps, whatever the other end writes into its state. This function does
-/// nothing: its contract is the law.
+/// Law: the properties of the phase table, for all values that the other end writes into its State.
+// claim skips_none, waits_for_init, waits_for_ready, follows_reset, starts_afresh: No phase is
+//    skipped. READY waits for the other's INIT, RUN for its READY, and RESET follows RESET.
 pub fn phases_in_step()
     ensures skips_none { SkipsNone }
     ensures waits_for_init { WaitsForInit }

@@ -1,4 +1,4 @@
--- What an end keeps alone.
+-- The invariant of one end is preserved.
 use Rattle.std.proofs.Common.{◌≡◌, ◌≢◌, ℕ, suc, zero, ◌+◌, ◌%◌, ◌<◌, Bool, true, false, List, length, refl, sym, ap, ◌∙◌, subst, arith}
 use Rattle.std.specs.Prelude.{if◌then◌else◌, nat_lt}
 use Rattle.std.proofs.lemmas.Nat.{mod_below}
@@ -65,7 +65,7 @@ run_is Init h = let f : false ≡ true = h in cc
 run_is Ready h = let f : false ≡ true = h in cc
 run_is Run h = refl
 
--- an end in RUN that has no call open bears no mark
+-- An end in RUN without an open call has no mark.
 unmarked : (end : End) → RefusalIsFinal end Closed → end.handshake.phase ≡ Run → end.handshake.mark ≡ false
 unmarked end rests run = by_mark end.handshake.mark refl
   where
@@ -77,7 +77,7 @@ either : {link_config : LinkConfig} {memory : ℕ → ℕ} {p : ℕ} {end : End}
 either true x e h a = h refl
 either false x e h a = comes NotInRun (λ run. let f : true ≡ false = sym (ap in_run run) ∙ e in cc) refl a.rests a
 
--- the other entry of the word is as the end wrote that word last
+-- The neighbouring entry is in the last value that the end wrote to that word.
 job_next : (link_config : LinkConfig) (memory : ℕ → ℕ) (p : ℕ) (end : End) (frame : List ℕ) → IsLinkConfig link_config → IsOffered link_config frame → EndInvariant link_config memory p end Closed → IsNext link_config (fields link_config memory p) end.accepted (pending_of (config_of link_config p) end frame)
 job_next link_config memory p end frame is given a = let n = size_of link_config.sizes in let k = length end.accepted % n in let b = numbers link_config is in let least = b.size_least in let whole = b.size_whole in let below : k < n = mod_below (length end.accepted) n (omega arith) in record {
   frame = given;
@@ -153,7 +153,7 @@ own_lem link_config p memory after end place is p2 left a = by_place place left 
     by_place (WritingUsedIndex number more) left h = (puts_lem link_config is p p2 memory after end (WritingUsedIndex number more) left h).only
     by_place place left h = none left
 
--- in RESET it writes no word
+-- In RESET an end writes no word.
 quiet_lem : (link_config : LinkConfig) (p : ℕ) (memory : ℕ → ℕ) (end : End) (place : Place) (word value : ℕ) → EndInvariant link_config memory p end place → end.handshake.phase ≡ Reset → access_at (config_of link_config p) place ≢ access.Write word value
 quiet_lem link_config p memory end place word value a reset e = by_place place e a.holds reset
   where

@@ -1,4 +1,4 @@
--- The fields of a section, and what a store of one word leaves of them.
+-- The fields of a section, and their values after a store of one word.
 use Rattle.std.proofs.Common.{◌≡◌, ◌≢◌, ℕ, zero, suc, ◌+◌, ◌-◌, ◌*◌, ◌/◌, ◌%◌, ◌<◌, ◌≤◌, Bool, true, false, refl, sym, ap, ◌∙◌, arith, eq-eqb, ne_eqb}
 use mathlib.Core.Logic.{dite}
 use native.Mathlib.Decide.{ℕ_discrete, dec_lt}
@@ -18,13 +18,13 @@ use Rattle.link_invariant.specs.Steps.{Stored, IsUntouched, OnlyOwnChange}
 pub numbers : (link_config : LinkConfig) → IsLinkConfig link_config → HasBounds link_config.sizes
 numbers link_config is = bounds link_config.sizes is.queue
 
--- two numbers less than a turn apart have two positions in a ring
+-- Two different numbers that are less than c apart have different positions in a ring.
 pub ring_apart : (c k a : ℕ) → 0 < c → k < a → a < k + c → a % c ≢ k % c
 ring_apart c k a some lt far e = dite (dec_lt (k / c) (a / c))
     (λ up. let h : c * (k / c + 1) ≤ c * (a / c) = mul-le-mul_left c (omega arith) in omega arith)
     (λ down. let h : c * (a / c) ≤ c * (k / c) = mul-le-mul_left c (omega arith) in omega arith)
 
--- What is a field
+-- The fields of a section
 
 abbrev pub Lies : Sizes → Field → Type 0
 Lies q AvailIndex = Unit {0}
@@ -66,13 +66,14 @@ lies q (DescFlags k) h = one_tells k (size_of q) h
 
 -- Frames
 
--- a frame of so many bytes that starts here is in range, and its words end inside the section
+-- A frame of `bytes` bytes that starts at `start` is in range, and its words end inside the
+-- section.
 pub record IsGood (link_config : LinkConfig) (start bytes : ℕ) : Type 0 where
   pub even : start % 4 ≡ 0
   pub after : data_area_start link_config.sizes ≤ start
   pub inside : start + 4 * words_for bytes ≤ link_config.sizes.out
 
--- each frame of a session is
+-- Each frame of a session is in range.
 pub start_good : (link_config : LinkConfig) → IsLinkConfig link_config → (length_of : ℕ → ℕ) (k : ℕ) → length_of k ≤ link_config.sizes.mtu + 18 → IsGood link_config (start_of link_config.sizes length_of k) (length_of k)
 start_good link_config is length_of k short =
     let placed = frames_lem.placed link_config.sizes length_of k is.queue in
@@ -80,13 +81,13 @@ start_good link_config is length_of k short =
     let inside = placed.inside short in
     record { even = placed.even; after = placed.after; inside = omega arith }
 
--- its words are fields
+-- Its words are fields.
 pub is_word : (link_config : LinkConfig) → IsLinkConfig link_config → (start bytes at : ℕ) → IsGood link_config start bytes → at < words_for bytes → is_field link_config.sizes (DataWord (start / 4 + at)) ≡ true
 is_word link_config is start bytes at good below =
     let even = good.even in let after = good.after in let inside = good.inside in let words = is.words in
     both_tests (start / 4 + at) (data_area_start link_config.sizes / 4) (link_config.sizes.out / 4) (omega arith) (omega arith)
 
--- Where the fields stand
+-- The places of the fields
 
 pub inside : (link_config : LinkConfig) → IsLinkConfig link_config → (f : Field) → is_field link_config.sizes f ≡ true → field_word link_config.sizes f < link_config.words
 inside link_config is f h = placed f (lies link_config.sizes f h)
@@ -104,7 +105,7 @@ inside link_config is f h = placed f (lies link_config.sizes f h)
     placed (DescLength i) l = let rings = (numbers link_config is).rings in let words = is.words in omega arith
     placed (DescFlags i) l = let rings = (numbers link_config is).rings in let words = is.words in omega arith
 
--- two fields of one word are two entries
+-- Two fields of one word are two available entries.
 abbrev pub Entries : Field → Field → Type 0
 Entries (AvailEntry k) (AvailEntry l) = l / 2 ≡ k / 2
 Entries s t = ⊥
@@ -131,12 +132,12 @@ if_same : (b : Bool) (x y : ℕ) → (b ≡ true → x ≡ y) → (if b then x e
 if_same true x y h = h refl
 if_same false x y h = refl
 
--- what is read at the word of a field
+-- The value read at the word of a field.
 pub field_read : (link_config : LinkConfig) (memory : ℕ → ℕ) (p : ℕ) (f : Field) (value : ℕ) → is_field link_config.sizes f ≡ true → value ≡ memory (section_of link_config p + field_word link_config.sizes f) → part_of f value ≡ fields link_config memory p f
 unfolding fields
 field_read link_config memory p f value spot met = ap (part_of f) met ∙ sym (yes (is_field link_config.sizes f) (part_of f (memory (section_of link_config p + field_word link_config.sizes f))) 0 spot)
 
--- the fields of a section whose words stay
+-- The fields of a section whose words stay.
 pub fields_same : (link_config : LinkConfig) (memory after : ℕ → ℕ) (p : ℕ) → IsLinkConfig link_config → ((j : ℕ) → j < link_config.words → after (section_of link_config p + j) ≡ memory (section_of link_config p + j)) → (f : Field) → fields link_config after p f ≡ fields link_config memory p f
 unfolding fields
 fields_same link_config memory after p is same f = if_same (is_field link_config.sizes f) _ _ (λ h. ap (part_of f) (same (field_word link_config.sizes f) (inside link_config is f h)))
@@ -145,7 +146,7 @@ either : (b : Bool) (n : ℕ) → (if b then n else n) ≡ n
 either true n = refl
 either false n = refl
 
--- the fields of a section of nothing but 0
+-- The fields of a section whose words are all 0.
 blank_part : (f : Field) → part_of f 0 ≡ 0
 blank_part (AvailEntry k) = either (k % 2 == 0) 0
 blank_part f = refl
@@ -156,20 +157,20 @@ fields_blank link_config memory p f is none = if_same (is_field link_config.size
 
 -- Stores
 
--- the words of the two sections, and those of the states
+-- The words of the two sections and the State words are different.
 pub sections_apart : (link_config : LinkConfig) (p i j : ℕ) → p < 2 → i < link_config.words → j < link_config.words → section_of link_config (1 - p) + j ≢ section_of link_config p + i
 sections_apart link_config zero i j p2 il jl e = omega arith
 sections_apart link_config (suc zero) i j p2 il jl e = omega arith
 sections_apart link_config (suc (suc p)) i j p2 il jl e = omega arith
 
--- a change of the own words leaves the other's
+-- A change of the own words leaves the other's.
 pub theirs_stay : (link_config : LinkConfig) (memory after : ℕ → ℕ) (p : ℕ) → IsLinkConfig link_config → p < 2 → OnlyOwnChange link_config memory after p → IsUntouched link_config memory after (1 - p)
 theirs_stay link_config memory after p is p2 only = record {
   state = only (1 - p) (λ e. omega arith) (λ j lt e. let first = is.first in omega arith);
   section = λ j lt. only (section_of link_config (1 - p) + j) (λ e. let first = is.first in omega arith) (λ i il e. sections_apart link_config p i j p2 il lt e);
 }
 
--- end p puts n into a field of its section
+-- End p writes n to a field of its section.
 pub record Put (link_config : LinkConfig) (memory after : ℕ → ℕ) (p : ℕ) (f : Field) (n : ℕ) : Type 0 where
   pub here : fields link_config after p f ≡ n
   pub neighbour_word : (t : Field) → t ≢ f → fields link_config after p t ≡ fields link_config memory p t
@@ -193,7 +194,7 @@ module _ (link_config : LinkConfig) (is : IsLinkConfig link_config) (memory afte
     only = λ w ne apart. stored.neighbour_word w (apart (field_word link_config.sizes f) (inside link_config is f spot));
   }
 
--- the words that an end wrote last, after one more write
+-- The last values that an end wrote, after one more write.
 pub written_kept : (memory after : ℕ → ℕ) (own x v words : ℕ) (written : ℕ → ℕ) → Stored memory after x v → ((j : ℕ) → j < words → memory (own + j) ≡ written (own + j)) →
     (j : ℕ) → j < words → after (own + j) ≡ (if own + j == x then v else written (own + j))
 written_kept memory after own x v words written stored same j lt = dite (ℕ_discrete (own + j) x)

@@ -1,4 +1,4 @@
--- What a step of an end leaves to be shown of it alone.
+-- The proof obligations of a step for the invariant of one end.
 use Rattle.std.proofs.Common.{◌≡◌, ◌≢◌, ℕ, zero, ◌+◌, ◌*◌, ◌/◌, ◌%◌, ◌<◌, ◌≤◌, inl, inr, Bool, true, false, List, [], ◌∷◌, ◌++◌, length, refl, sym, ap, ◌∙◌, subst, arith}
 use Rattle.std.specs.Prelude.{◌==◌, if◌then◌else◌}
 use Rattle.split_ring.specs.Layout.{size_of, limit_of}
@@ -19,7 +19,7 @@ use Rattle.link_invariant.specs.Steps.{Stored}
 use Rattle.link_invariant.specs.EndInvariant.{Opened, frame_at, start_in, Spelled, IsNext, start_for, HasRoom, Filled, PlaceInvariant, counts, RefusalIsFinal, OwnSection, EndInvariant}
 use Rattle.link_invariant.proofs.Fields.{ring_apart, IsGood, start_good, Put, written_kept}
 
--- a test of a read decides marks and place
+-- The test of a read determines marks and place.
 pub by_test : (P : List Mark → Place → Type 0) (b : Bool) (m n : List Mark) (x y : Place) → (b ≡ true → P m x) → (b ≡ false → P n y) → P (if b then m else n) (if b then x else y)
 by_test P true m n x y good bad = good refl
 by_test P false m n x y good bad = bad refl
@@ -30,7 +30,8 @@ run_ready run two = let e = sym (ap state_of run) ∙ ap state_of two in omega a
 pub opened : {phase : Phase} → phase ≡ Run → Opened phase
 opened run = subst Opened (sym run) tt
 
--- the fields of the own section that spell the frame at position k, which starts at this byte and takes so many
+-- The fields of the own section that hold the frame at position k, which starts at `start` and has
+-- `bytes` bytes.
 abbrev pub SpellsBy : LinkConfig → (k start bytes : ℕ) → Field → Type 0
 SpellsBy link_config k start bytes (AvailEntry e) = e ≡ k % size_of link_config.sizes
 SpellsBy link_config k start bytes (AddressLow i) = i ≡ k % limit_of link_config.sizes
@@ -40,7 +41,7 @@ SpellsBy link_config k start bytes (DescFlags i) = i ≡ k % limit_of link_confi
 SpellsBy link_config k start bytes (DataWord w) = (start ≤ 4 * w) × (4 * w < start + bytes)
 SpellsBy link_config k start bytes field = ⊥
 
--- the fields on which the frames in flight and the two counts rest
+-- The fields on which the frames in flight and the two counts depend.
 abbrev pub Live : LinkConfig → (freed : ℕ) → (accepted : List (List ℕ)) → Field → Type 0
 Live link_config freed accepted AvailIndex = Unit {0}
 Live link_config freed accepted UsedIndex = Unit {0}
@@ -57,7 +58,7 @@ spelled_kept {link_config} {field} {now} {k} {start} {frame} even same h = recor
   words = λ j lt. same (DataWord (start / 4 + j)) (omega arith, omega arith) (λ e. cc) (λ e. cc) ∙ h.words j lt;
 }
 
--- which field of the own section the step at a place writes, and its value
+-- The field of the own section that the step at a place writes, and its value.
 abbrev pub Puts : LinkConfig → ℕ → (memory after : ℕ → ℕ) → Place → Type 0
 Puts link_config p memory after (WritingFrameWord pending at more) = Put link_config memory after p (DataWord (start_for link_config pending / 4 + at)) (frame_word pending.frame at)
 Puts link_config p memory after (WritingDescAddressLow pending) = Put link_config memory after p (AddressLow (pending.number % limit_of link_config.sizes)) (start_for link_config pending)
@@ -72,7 +73,7 @@ Puts link_config p memory after (WritingUsedLength number more) = Put link_confi
 Puts link_config p memory after (WritingUsedIndex number more) = Put link_config memory after p UsedIndex ((number + 1) % 65536)
 Puts link_config p memory after place = Unit {0}
 
--- what spells a frame in flight is live
+-- A field that holds a frame in flight is live.
 live_of : (link_config : LinkConfig) (freed : ℕ) (accepted : List (List ℕ)) (k bytes : ℕ) (f : Field) → freed ≤ k → k < length accepted → bytes ≤ footprint_of link_config.sizes (lengths_of accepted k) → SpellsBy link_config k (start_in link_config accepted k) bytes f → Live link_config freed accepted f
 live_of link_config freed accepted k bytes AvailIndex from below fits h = tt
 live_of link_config freed accepted k bytes UsedIndex from below fits h = tt
@@ -89,14 +90,14 @@ sent_kept {link_config} {field} {now} {accepted} {freed} {returned} is same h = 
       spelled_kept placed.even (λ f live na nu. same f (live_of link_config freed accepted k (4 * words_for (length (frame_at accepted k))) f from below (placed.holds s.offered.most) live)) s;
 }
 
--- where all fields stay, so does what they spell
+-- If no field changes, the fields hold the same frame.
 pub spelled_same : {link_config : LinkConfig} {field now : Field → ℕ} {k start : ℕ} {frame : List ℕ} → ((f : Field) → now f ≡ field f) → Spelled link_config field k start frame → Spelled link_config now k start frame
 spelled_same same h = record { offered = h.offered; entry = same _ ∙ h.entry; low = same _ ∙ h.low; high = same _ ∙ h.high; size = same _ ∙ h.size; flags = same _ ∙ h.flags; words = λ j lt. same _ ∙ h.words j lt }
 
 pub sent_same : {link_config : LinkConfig} {field now : Field → ℕ} {accepted : List (List ℕ)} {freed returned : ℕ} → ((f : Field) → now f ≡ field f) → OwnSection link_config field accepted freed returned → OwnSection link_config now accepted freed returned
 sent_same same h = record { available = same AvailIndex ∙ h.available; used = same UsedIndex ∙ h.used; spelled = λ k from below. spelled_same same (h.spelled k from below) }
 
--- the frame of a job, by its length and its start
+-- The length and the start of the frame of a pending offer.
 long_of : (accepted : List (List ℕ)) (pending : PendingOffer) → pending.number ≡ length accepted → pending.lengths ≡ lengths_of (accepted ++ pending.frame ∷ []) → pending.lengths pending.number ≡ length pending.frame
 long_of accepted pending number lengths = ap (λ (l : ℕ → ℕ). l pending.number) lengths ∙ (ap (lengths_of (accepted ++ pending.frame ∷ [])) number ∙ last_length accepted pending.frame)
 
@@ -112,7 +113,7 @@ job_good_at link_config is accepted pending number lengths most =
 pub job_good : {link_config : LinkConfig} {field : Field → ℕ} {accepted : List (List ℕ)} {pending : PendingOffer} → IsLinkConfig link_config → IsNext link_config field accepted pending → IsGood link_config (start_for link_config pending) (length pending.frame)
 job_good {link_config} {field} {accepted} {pending} is next = job_good_at link_config is accepted pending next.number next.lengths next.frame.most
 
--- a frame stays where it is as one more is accepted
+-- A frame stays at its place when one more is accepted.
 pub start_before : (link_config : LinkConfig) (frames : List (List ℕ)) (g : List ℕ) (k : ℕ) → k < length frames → start_in link_config (frames ++ g ∷ []) k ≡ start_in link_config frames k
 start_before link_config frames g k low = frames_lem.by_prefix link_config.sizes (lengths_of (frames ++ g ∷ [])) (lengths_of frames) k (λ j le. length_before frames g j (omega arith))
 
@@ -123,14 +124,14 @@ pub filled_kept : {link_config : LinkConfig} {field now : Field → ℕ} {accept
     Filled link_config field accepted freed pending count → Filled link_config now accepted freed pending count
 filled_kept entries words h = record { next = next_kept entries h.next; room = h.room; words = λ j lt. words _ ∙ h.words j lt }
 
--- the fields of the next position are free
+-- The fields of the next position are free.
 pub free_descriptor : (link_config : LinkConfig) (freed accepted number : ℕ) → 0 < limit_of link_config.sizes → number ≡ accepted → number < freed + limit_of link_config.sizes → (k : ℕ) × (freed ≤ k) × (k < accepted) × (number % limit_of link_config.sizes ≡ k % limit_of link_config.sizes) → ⊥
 free_descriptor link_config freed accepted number some is room live = ring_apart (limit_of link_config.sizes) live.0 number some (let b = live.2 in omega arith) (let a = live.1 in omega arith) live.3
 
 pub free_entry : (link_config : LinkConfig) (freed accepted number : ℕ) → 0 < limit_of link_config.sizes → limit_of link_config.sizes ≤ size_of link_config.sizes → number ≡ accepted → number < freed + limit_of link_config.sizes → (k : ℕ) × (freed ≤ k) × (k < accepted) × (number % size_of link_config.sizes ≡ k % size_of link_config.sizes) → ⊥
 free_entry link_config freed accepted number some few is room live = ring_apart (size_of link_config.sizes) live.0 number (omega arith) (let b = live.2 in omega arith) (let a = live.1 in omega arith) live.3
 
--- and so is each word of its frame
+-- The words of the next frame are free.
 pub free_word : {link_config : LinkConfig} {field : Field → ℕ} {accepted : List (List ℕ)} {pending : PendingOffer} (freed at : ℕ) → IsLinkConfig link_config → IsNext link_config field accepted pending → HasRoom link_config pending freed → at < words_for (length pending.frame) →
     Live link_config freed accepted (DataWord (start_for link_config pending / 4 + at)) → ⊥
 free_word {link_config} {field} {accepted} {pending} freed at is next room below live =
@@ -148,7 +149,7 @@ free_word {link_config} {field} {accepted} {pending} freed at is next room below
     meets_none from bytes other others word (inl h) a b c d = omega arith
     meets_none from bytes other others word (inr h) a b c d = omega arith
 
--- an end that bears no mark rests wherever it is
+-- An end without the mark satisfies `RefusalIsFinal` at every place.
 pub free : (end : End) (place : Place) → end.handshake.mark ≡ false → RefusalIsFinal end place
 free end Refusing e = tt
 free end Closed e = λ t. let f : true ≡ false = sym t ∙ e in cc
@@ -157,19 +158,19 @@ free end (WritingState zero) e = λ t. let f : true ≡ false = sym t ∙ e in c
 free end NotInRun e = λ t. let f : true ≡ false = sym t ∙ e in cc
 free end place e = e
 
--- another place of the same end
+-- The same end at another place.
 pub comes : {link_config : LinkConfig} {memory : ℕ → ℕ} {p : ℕ} {end : End} {place : Place} (next : Place) → PlaceInvariant link_config memory p end next → counts next ≡ counts place → RefusalIsFinal end next → EndInvariant link_config memory p end place → EndInvariant link_config memory p end next
 comes {link_config} {memory} {p} {end} {place} next holds same rests a = record { state = a.state; written = a.written; holds = holds; rests = rests; ready = a.ready; level = λ o. a.level o ∙ ap (λ (c : ℕ × ℕ). end.returned + c.0) (sym same); sent = a.sent; freed = a.freed; room = a.room }
 
--- of one that bears no mark
+-- The same end without the mark at another place.
 pub moves : {link_config : LinkConfig} {memory : ℕ → ℕ} {p : ℕ} {end : End} {place : Place} (next : Place) → PlaceInvariant link_config memory p end next → counts next ≡ counts place → end.handshake.mark ≡ false → EndInvariant link_config memory p end place → EndInvariant link_config memory p end next
 moves {link_config} {memory} {p} {end} {place} next holds same mark a = comes next holds same (free end next mark) a
 
--- a refusal
+-- A refusal.
 pub refuses : {link_config : LinkConfig} {memory : ℕ → ℕ} {p : ℕ} {end : End} {place : Place} → end.handshake.phase ≡ Run → counts place ≡ (0, 0) → EndInvariant link_config memory p end place → EndInvariant link_config memory p (record end { handshake = record (end.handshake) { mark = true } }) Refusing
 refuses {link_config} {memory} {p} {end} {place} run none a = record { state = a.state; written = a.written; holds = run; rests = tt; ready = λ two. absurd (run_ready run two); level = λ o. a.level o ∙ ap (λ (c : ℕ × ℕ). end.returned + c.0) none; sent = a.sent; freed = a.freed; room = a.room }
 
--- a write in RUN of a field of the own section
+-- A write in RUN of a field of the own section.
 pub writes : (link_config : LinkConfig) → IsLinkConfig link_config → (memory after : ℕ → ℕ) (p : ℕ) (end : End) (place next : Place) (f : Field) (x v n : ℕ) → end.handshake.phase ≡ Run → end.handshake.mark ≡ false → Stored memory after x v → Put link_config memory after p f n → (Live link_config end.freed end.accepted f → ⊥) →
     PlaceInvariant link_config after p (record end { written = λ w. if w == x then v else end.written w }) next → counts next ≡ counts place → EndInvariant link_config memory p end place → EndInvariant link_config after p (record end { written = λ w. if w == x then v else end.written w }) next
 writes link_config is memory after p end place next f x v n run mark stored put unused holds same a = record {

@@ -1,4 +1,4 @@
--- The bytes of a frame whose words stand in a slot.
+-- The bytes of a frame whose words are in a slot.
 use Rattle.std.proofs.Common.{◌≡◌, ℕ, suc, ◌+◌, ◌*◌, ◌/◌, ◌%◌, ◌^◌, ◌<◌, List, [], ◌∷◌, length, take, drop, refl, ap, ◌∙◌, arith, All}
 use Rattle.std.proofs.lemmas.List.Elements.{All-head, All-tail}
 use Rattle.ivs_base.specs.Numbers.{word_of}
@@ -14,20 +14,20 @@ byte_head x xs all = All-head IsByte x xs all
 byte_tail : (x : ℕ) (xs : List ℕ) → All IsByte (x ∷ xs) → All IsByte xs
 byte_tail x xs all = All-tail IsByte x xs all
 
--- a byte of a word, at a place by words and bytes
+-- A byte of a word, at an offset by words and bytes.
 byte_of : (words : ℕ → ℕ) (place at rest : ℕ) → place ≡ 4 * at + rest → rest < 4 → byte_at words place ≡ words at / 256 ^ rest % 256
 byte_of words place at rest is small =
     let e : place / 4 ≡ at = omega arith in let f : place % 4 ≡ rest = omega arith in
     ap (λ k. words k / 256 ^ (place % 4) % 256) e ∙ ap (λ k. words at / 256 ^ k % 256) f
 
--- the bytes of a word of four
+-- The bytes of a word of four bytes.
 byte_0 : (a w : ℕ) → a < 256 → w % 256 ≡ a → w / 256 ^ 0 % 256 ≡ a
 byte_0 a w x e = omega arith
 
 word_parts : (a b c d w : ℕ) → a < 256 → b < 256 → c < 256 → d < 256 → w ≡ a + 256 * (b + 256 * (c + 256 * (d + 256 * 0))) → (w / 256 ^ 0 % 256 ≡ a) × (w / 256 ^ 1 % 256 ≡ b) × (w / 256 ^ 2 % 256 ≡ c) × (w / 256 ^ 3 % 256 ≡ d)
 word_parts a b c d w x y z u e = (omega arith, omega arith, omega arith, omega arith)
 
--- the words of the rest of a frame
+-- The words of the rest of a frame.
 abbrev HasFrame : (ℕ → ℕ) → ℕ → List ℕ → Type 0
 HasFrame words at frame = (j : ℕ) → j < words_for (length frame) → words (at + j) ≡ frame_word frame j
 

@@ -1,4 +1,4 @@
--- A frame by its words and back.
+-- A frame as words, and its bytes again.
 use Rattle.std.proofs.Common.{◌≡◌, ℕ, zero, suc, ◌+◌, ◌*◌, ◌/◌, ◌%◌, ◌<◌, ◌≤◌, List, [], ◌∷◌, ◌++◌, length, take, drop, refl, ap, ◌∙◌, arith, All}
 use Rattle.std.specs.Prelude.{flat_map}
 use Rattle.std.proofs.lemmas.List.Elements.{All-head, All-tail}
@@ -7,7 +7,7 @@ use Rattle.call_grammar.specs.Words.{word_bytes, words_for, frame_word}
 use Rattle.link_invariant.specs.LinkConfig.{first_words}
 use Rattle.link_invariant.specs.Frames.{FramesComeWhole}
 
--- the words of a frame from its first four bytes on
+-- The words of a frame, beginning with its first four bytes.
 first_split : (a b c d : ℕ) (rest : List ℕ) (count : ℕ) → first_words (a ∷ (b ∷ (c ∷ (d ∷ rest)))) (suc count) ≡ word_of (a ∷ (b ∷ (c ∷ (d ∷ [])))) ∷ first_words rest count
 first_split a b c d rest zero = refl
 first_split a b c d rest (suc count) = let g = a ∷ (b ∷ (c ∷ (d ∷ rest))) in
@@ -23,7 +23,7 @@ byte_head x xs all = All-head IsByte x xs all
 byte_tail : (x : ℕ) (xs : List ℕ) → All IsByte (x ∷ xs) → All IsByte xs
 byte_tail x xs all = All-tail IsByte x xs all
 
--- the four bytes of a word of four
+-- The four bytes of a word of four bytes.
 byte_0 : (a b c d : ℕ) → IsByte a → (a + 256 * (b + 256 * (c + 256 * (d + 256 * 0)))) % 256 ≡ a
 byte_0 a b c d x = omega arith
 
@@ -36,7 +36,7 @@ byte_2 a b c d x y z = omega arith
 byte_3 : (a b c d : ℕ) → IsByte a → IsByte b → IsByte c → IsByte d → (a + 256 * (b + 256 * (c + 256 * (d + 256 * 0)))) / 16777216 % 256 ≡ d
 byte_3 a b c d x y z w = omega arith
 
--- and of a shorter one
+-- The bytes of a shorter word.
 short_1 : (a b : ℕ) → IsByte a → IsByte b → (a + 256 * (b + 256 * 0)) / 256 % 256 ≡ b
 short_1 a b x y = omega arith
 

@@ -21,7 +21,7 @@ use Rattle.link_invariant.proofs.Forms.{sent_same}
 use Rattle.link_invariant.proofs.TickSteps.{not_phase, tick_quiet}
 use Rattle.link_invariant.proofs.PairForms.{Facing, takes_on, polls_kept, Before, Leads}
 
--- Places of no offer and no poll
+-- Places of no offer and no poll.
 abbrev pub IsIdle : Place → Type 0
 IsIdle Closed = Unit {0}
 IsIdle (ReadingOtherState handshake) = Unit {0}
@@ -56,7 +56,7 @@ state_at place = 9
 pub set_apart : {place : Place} {m n : ℕ} → state_at place ≡ m → m ≢ n → place ≢ WritingState n
 set_apart e ne f = ne (sym e ∙ ap state_at f)
 
--- outside RUN no poll is open
+-- Outside RUN no poll is open.
 quiet_polls : (link_config : LinkConfig) (memory : ℕ → ℕ) (p : ℕ) (end : End) (place : Place) (field : Field → ℕ) (frames : List (List ℕ)) → (end.handshake.phase ≡ Run → ⊥) → PlaceInvariant link_config memory p end place → Polls link_config field frames place
 quiet_polls link_config memory p end (ReadingAvailEntry number more) field frames ne h = absurd (ne h.0)
 quiet_polls link_config memory p end (ReadingDescAddressLow number more entry) field frames ne h = absurd (ne h.0)
@@ -69,7 +69,7 @@ quiet_polls link_config memory p end (WritingUsedLength number more) field frame
 quiet_polls link_config memory p end (WritingUsedIndex number more) field frames ne h = absurd (ne h.0)
 quiet_polls link_config memory p end place field frames ne h = tt
 
--- two sessions of which nothing was done
+-- Two sessions without any frame.
 link_blank : (link_config : LinkConfig) (memory now : ℕ → ℕ) (p q : ℕ) (end u : End) (field : Field → ℕ) (read : ℕ) (w : Place) → IsBlank link_config memory p end → IsBlank link_config now q u → Polls link_config field end.accepted w → InFlight link_config field end.accepted end.freed read u.delivered u.returned w
 link_blank link_config memory now p q end u field read w b c polls = let f0 = b.freed in let r0 = c.returned in record {
   returns = omega arith;
@@ -90,7 +90,7 @@ attends_high end place (inl e) = let s = ap state_of e in omega arith
 attends_high end place (inr h) = let s = ap state_of h.0 in omega arith
 
 module _ (link_config : LinkConfig) (memory : ℕ → ℕ) (p : ℕ) (end : End) (u : End) (w : Place) where
-  -- the end goes to another idle place, words and lists the same
+  -- The end moves to another idle place with the same words and lists.
   pub idles : (place next : Place) → IsIdle place → IsIdle next → next ≢ WritingState 3 → (IsAttached u w → next ≢ WritingState 1) → Before link_config memory p end place u w → Leads link_config memory p u w end next
   idles place next was idle three one b = record {
     sound = (b.mark, not_refusing next idle);
@@ -108,7 +108,7 @@ module _ (link_config : LinkConfig) (memory : ℕ → ℕ) (p : ℕ) (end : End)
       earlier (inl e) = inl e
       earlier (inr h) = absurd (three h.1)
 
-  -- it is about to set RUN
+  -- The end is about to set RUN.
   rises : (place : Place) (value : ℕ) → IsIdle place → end.handshake.phase ≡ Ready → 2 ≤ value → value ≡ state_of u.handshake.phase → Before link_config memory p end place u w → Leads link_config memory p u w end (WritingState 3)
   rises place value was ready high seen b = record {
     sound = (b.mark, not_refusing (WritingState 3) tt);
@@ -152,7 +152,7 @@ module _ (link_config : LinkConfig) (memory : ℕ → ℕ) (p : ℕ) (end : End)
       (ticks handshake end.handshake.phase value refl (met ∙ b.theirs.state) b))
 
 module _ (link_config : LinkConfig) (memory after : ℕ → ℕ) (p : ℕ) (end : End) (u : End) (w : Place) where
-  -- nobody attends
+  -- No end is attached.
   alone_leads : (now : End) (next : Place) → now.handshake.mark ≡ false → IsIdle next → (IsAttached now next → ⊥) → (IsAttached u w → ⊥) → Leads link_config after p u w now next
   alone_leads now next mark idle mine theirs = record { sound = (mark, not_refusing next idle); from = λ a. absurd (mine a); back = λ a. absurd (theirs a); faces = λ a. absurd (⊎_elim mine theirs a) }
 
@@ -175,7 +175,7 @@ module _ (link_config : LinkConfig) (memory after : ℕ → ℕ) (p : ℕ) (end 
       cleared zero = alone_leads now (WritingState state) b.mark tt low lone
       cleared (suc n) = alone_leads now (Clearing (at + 1) n state) b.mark tt low lone
 
-  -- the same lists at another phase, where no word of a section changed
+  -- The same lists at another phase, if no word of a section changed.
   same_faces : (now : End) (place next : Place) → IsIdle next → now.accepted ≡ end.accepted → now.freed ≡ end.freed → now.delivered ≡ end.delivered → now.returned ≡ end.returned → ((q : ℕ) (f : Field) → q < 2 → fields link_config after q f ≡ fields link_config memory q f) → p < 2 →
       EndInvariant link_config memory p end place → Facing link_config memory p end place u w → Facing link_config after p now next u w
   same_faces now place next idle ac fr de re same p2 a f = record {
@@ -185,11 +185,11 @@ module _ (link_config : LinkConfig) (memory after : ℕ → ℕ) (p : ℕ) (end 
     takes = let t = f.takes in record { returns = let r = t.returns in omega arith; delivers = let v = t.delivers in let e = ap length de in omega arith; prefix = (t.prefix.0, t.prefix.1 ∙ ap (λ (x : List (List ℕ)). x ++ t.prefix.0) (sym de)); named = λ k from below. same p _ p2 ∙ t.named k from (omega arith); polls = idle_polls link_config (fields link_config after p) u.accepted next idle };
   }
 
-  -- a write of the state leaves both sections
+  -- A write of the State leaves both sections.
   fields_stay : (n : ℕ) → IsLinkConfig link_config → p < 2 → Stored memory after p n → (q : ℕ) (f : Field) → q < 2 → fields link_config after q f ≡ fields link_config memory q f
   fields_stay n is p2 stored q f q2 = fields_same link_config memory after q is (λ j lt. stored.neighbour_word (section_of link_config q + j) (λ e. let first = is.first in omega arith)) f
 
-  -- Stop, a reset, and a move to RESET
+  -- Stop, a reset, and a move to RESET.
   pub leads_reset : (place : Place) → IsLinkConfig link_config → p < 2 → Stored memory after p 0 → Before link_config memory p end place u w → Leads link_config after p u w (record end { handshake = record { phase = Reset; mark = false } }) Closed
   leads_reset place is p2 stored b = let now : End = record end { handshake = record { phase = Reset; mark = false } } in record {
     sound = (refl, not_refusing Closed tt);

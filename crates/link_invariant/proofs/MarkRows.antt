@@ -1,4 +1,4 @@
--- The marks of each kind of step go along their rows.
+-- The marks of each kind of step satisfy their rows.
 use Rattle.std.proofs.Common.{◌≡◌, ℕ, zero, suc, ◌+◌, ◌<◌, ◌≤◌, inl, inr, Bool, true, false, List, [], ◌∷◌, ◌++◌, length, refl, sym, ap, ◌∙◌, subst, arith, ne_eqb}
 use Rattle.std.specs.Prelude.{◌==◌, if◌then◌else◌, map}
 use Rattle.split_ring.specs.declared.ranges.FieldName.{FieldName}
@@ -22,14 +22,14 @@ use Rattle.link_invariant.specs.LinkConfig.{LinkConfig, config_of, IsOffered}
 use Rattle.link_invariant.specs.Sides.{HasLeft, CallIs, SideIs}
 use Rattle.link_invariant.proofs.StateRows.{Follows, Same, same_of, side_is, silent, anew, same_anew, same_looked}
 
--- a refusal against a hostile other
+-- A refusal against a hostile other.
 pub refused_row : (link_config : LinkConfig) (other side : Side) (end : End) (f : FieldName) (v : ℕ) → Same end side → side.state ≡ 3 → IsBeyond link_config.sizes side f v → Follows link_config false other side (map Marked (refusal f v)) (with_marks end (refusal f v)) Refusing
 refused_row link_config other side end f v same run beyond = let new = record side { refused = true; read = [] } in
     (new, (new, (refl, (refl, run, beyond, refl)), refl), record { state = same.state; refused = refl; accepted = same.accepted; delivered = same.delivered; returned = same.returned; freed = same.freed; call = refl })
 
 -- Ticks
 
--- a refused end stays
+-- An end that refused stays.
 pub moves_set : (end : End) (value n : ℕ) → move_of end.handshake value ≡ Set n → MovesTo end.handshake.phase value n
 moves_set end value n is = by_mark end.handshake.mark refl
   where
@@ -50,13 +50,13 @@ pub fill_call : (end : End) (pending : PendingOffer) (at count : ℕ) (side : Si
 fill_call end pending at zero side = tt
 fill_call end pending at (suc more) side = tt
 
--- the job is of a frame that may be offered next
+-- The pending offer is of a frame that may be offered next.
 pub record IsNextOf (link_config : LinkConfig) (accepted : List (List ℕ)) (pending : PendingOffer) : Type 0 where
   pub frame : IsOffered link_config pending.frame
   pub number : pending.number ≡ length accepted
   pub lengths : pending.lengths ≡ lengths_of (accepted ++ pending.frame ∷ [])
 
--- where it finds no room, the side is full
+-- If the frame doesn't fit, the side is full.
 full_of : (link_config : LinkConfig) (side : Side) (pending : PendingOffer) (freed : ℕ) → IsNextOf link_config side.accepted pending → has_room link_config.sizes pending.lengths freed pending.number ≡ false → side.freed ≡ freed → length side.accepted ≤ freed + limit_of link_config.sizes → IsFull link_config.sizes side
 full_of link_config side pending freed next none f room = record {
   frame = pending.frame;
@@ -66,7 +66,7 @@ full_of link_config side pending freed next none f room = record {
   in_flight = omega arith;
 }
 
--- the place after ids, of which none was read yet
+-- The place before ids of which none was read.
 ids_call : (config : EndConfig) (end : End) (pending : PendingOffer) (freed count : ℕ) (side : Side) → side.read ≡ [] → side.reclaimed ≡ count → CallIs end (ids_place config pending freed count) side
 ids_call config end pending freed zero side none is = by_bool (frame_fits config pending freed)
   where
@@ -75,7 +75,7 @@ ids_call config end pending freed zero side none is = by_bool (frame_fits config
     by_bool false = none
 ids_call config end pending freed (suc more) side none is = let e = ap length none in (omega arith, omega arith)
 
--- the marks of what was reclaimed
+-- The marks of a reclaim.
 pub reclaim_rows : (link_config : LinkConfig) (theirs : Bool) (other side : Side) (end : End) (config : EndConfig) (pending : PendingOffer) (freed count : ℕ) (c : Bool) → has_room link_config.sizes pending.lengths freed pending.number ≡ c → Same end side → side.state ≡ 3 → ReadsIndex side side.freed count → MayReclaim theirs side other count →
     IsNextOf link_config side.accepted pending → length side.accepted ≤ freed + limit_of link_config.sizes → side.freed ≡ freed →
     Follows link_config theirs other side (map Marked (if count == 0 then Reclaim 0 ∷ (if c then [] else Full ∷ []) else Reclaim count ∷ [])) (with_marks end (if count == 0 then Reclaim 0 ∷ (if c then [] else Full ∷ []) else Reclaim count ∷ [])) (ids_place config pending freed count)
@@ -96,7 +96,7 @@ reclaim_rows link_config theirs other side end config pending freed (suc count) 
       record { state = same.state; refused = same.refused; accepted = same.accepted; delivered = same.delivered; returned = same.returned; freed = ap (λ k. k + suc count) same.freed; call = ids_call config (record end { freed = end.freed + suc count }) pending freed (suc count) mid refl refl },
     )
 
--- the marks of an id that passed
+-- The marks of an id that passed its test.
 pub id_rows : (link_config : LinkConfig) (theirs : Bool) (other side : Side) (end : End) (p : ℕ) (pending : PendingOffer) (freed more : ℕ) → Same end side → side.state ≡ 3 → IsNextOf link_config side.accepted pending → length side.accepted ≤ freed + limit_of link_config.sizes → side.freed ≡ freed + suc more → side.reclaimed ≡ length side.read + more → length side.read ≤ freed + 1 →
     Follows link_config theirs other side (map Marked (if more == 0 then full_marks (config_of link_config p) pending (freed + 1) else [])) (with_marks end (if more == 0 then full_marks (config_of link_config p) pending (freed + 1) else [])) (ids_place (config_of link_config p) pending (freed + 1) more)
 id_rows link_config theirs other side end p pending freed zero same run next room f r l = by_bool (has_room link_config.sizes pending.lengths (freed + 1) pending.number) refl
@@ -110,7 +110,7 @@ id_rows link_config theirs other side end p pending freed (suc more) same run ne
 
 -- Polls
 
--- the place after items
+-- The place before items.
 pub items_call : (end : End) (number count : ℕ) (side : Side) → HasLeft end side count → side.read ≡ [] → CallIs end (items_place number count) side
 items_call end number zero side left none = (left, none)
 items_call end number (suc more) side left none = (left, none)

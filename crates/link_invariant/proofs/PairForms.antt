@@ -1,4 +1,4 @@
--- What a step of one end leaves to be shown of the pair.
+-- The proof obligations of one end's step for the pair.
 use Rattle.std.proofs.Common.{◌≡◌, ◌≢◌, ℕ, ◌+◌, ◌-◌, ◌<◌, ◌≤◌, ◌⊎◌, inl, inr, ⊎_elim, false, List, [], ◌∷◌, ◌++◌, length, sym, ap, ◌∙◌, subst, arith}
 use mathlib.Core.Logic.{dite}
 use native.Mathlib.Decide.{ℕ_discrete}
@@ -16,7 +16,7 @@ use Rattle.link_invariant.proofs.Forms.{start_before}
 use Rattle.link_invariant.specs.Pair.{freed_at, Polls, InFlight, InFlightBetween, IsAttached, OpensNone, EitherIsAttached, Pair}
 
 module _ (link_config : LinkConfig) (memory after : ℕ → ℕ) (ends next : ℕ → End) (places goes : ℕ → Place) (p : ℕ) (end : End) (place : Place) (p2 : p < 2) (only : OnlyEndChanges ends next places goes p end place) where
-  -- what holds of the two ends holds of each in turn
+  -- A property of the two ends holds for each of them.
   turned : (P : ℕ → ℕ → End → Place → End → Place → Type 0) → P p (1 - p) end place (ends (1 - p)) (places (1 - p)) → P (1 - p) p (ends (1 - p)) (places (1 - p)) end place →
       (q : ℕ) → q < 2 → P q (1 - q) (next q) (goes q) (next (1 - q)) (goes (1 - q))
   turned P mine theirs q q2 = dite (ℕ_discrete q p)
@@ -40,7 +40,7 @@ module _ (link_config : LinkConfig) (memory after : ℕ → ℕ) (ends next : �
     link = turned (λ q r e x f y. IsAttached e x ⊎ IsAttached f y → InFlightBetween link_config (fields link_config after r) e x f y) (λ a. (links a).0) (λ a. (links (⊎_elim inr inl a)).1);
   }
 
--- what the two ends are to each other, from the one and from the other
+-- The relation of the two ends, from one and from the other.
 pub record Facing (link_config : LinkConfig) (memory : ℕ → ℕ) (p : ℕ) (end : End) (place : Place) (u : End) (w : Place) : Type 0 where
   pub mine : OwnSection link_config (fields link_config memory p) end.accepted end.freed end.returned
   pub theirs : OwnSection link_config (fields link_config memory (1 - p)) u.accepted u.freed u.returned
@@ -55,11 +55,11 @@ facing link_config memory ends places p p2 m a = let back : 1 - (1 - p) ≡ p = 
   takes = subst (λ k. InFlightBetween link_config (fields link_config memory k) (ends (1 - p)) (places (1 - p)) (ends k) (places k)) back (m.link (1 - p) (omega arith) b);
 }
 
--- the other attends: what it knows of p
+-- If the other is attached, end p opens no session.
 pub known : (link_config : LinkConfig) (memory : ℕ → ℕ) (ends : ℕ → End) (places : ℕ → Place) (p : ℕ) → p < 2 → Pair link_config memory ends places → IsAttached (ends (1 - p)) (places (1 - p)) → OpensNone (ends p) (places p)
 known link_config memory ends places p p2 m a = let back : 1 - (1 - p) ≡ p = omega arith in subst (λ k. OpensNone (ends k) (places k)) back (m.cross (1 - p) (omega arith) a)
 
--- a place in RUN at which no refusal stands
+-- A place in RUN other than a refusal.
 abbrev pub IsCalm : Place → Type 0
 IsCalm Refusing = ⊥
 IsCalm (WritingState state) = ⊥
@@ -68,7 +68,7 @@ IsCalm place = Unit {0}
 pub calm_not : (place other : Place) → IsCalm place → (IsCalm other → ⊥) → place ≢ other
 calm_not place other calm not e = not (subst IsCalm e calm)
 
--- the fields of the taker change, and so does its place
+-- The fields of the receiver change, and so does its place.
 pub takes_on : {link_config : LinkConfig} {field now : Field → ℕ} {accepted delivered : List (List ℕ)} {freed read returned : ℕ} {place : Place} (next : Place) → ((k : ℕ) → now (UsedId k) ≡ field (UsedId k)) → Polls link_config now accepted next → InFlight link_config field accepted freed read delivered returned place → InFlight link_config now accepted freed read delivered returned next
 takes_on next same polls l = record { returns = l.returns; delivers = l.delivers; prefix = l.prefix; named = λ k from below. same _ ∙ l.named k from below; polls = polls }
 
@@ -80,7 +80,7 @@ polls_kept link_config field now frames place same h = h
 pub link_same : {link_config : LinkConfig} {field now : Field → ℕ} {accepted delivered : List (List ℕ)} {freed read returned : ℕ} {place : Place} → ((f : Field) → now f ≡ field f) → InFlight link_config field accepted freed read delivered returned place → InFlight link_config now accepted freed read delivered returned place
 link_same {link_config} {field} {now} {accepted} {delivered} {freed} {read} {returned} {place} same l = takes_on place (λ k. same _) (polls_kept link_config field now accepted place same l.polls) l
 
--- one more frame is accepted: what the other's poll holds stays
+-- One more frame is accepted: the values of the other's poll stay accepted.
 pub polls_more : (link_config : LinkConfig) (field : Field → ℕ) (frames : List (List ℕ)) (g : List ℕ) (place : Place) → Polls link_config field frames place → Polls link_config field (frames ++ g ∷ []) place
 polls_more link_config field frames g (ReadingAvailEntry number more) h = let n = length-append frames (g ∷ []) in omega arith
 polls_more link_config field frames g (ReadingDescAddressLow number more entry) h = let n = length-append frames (g ∷ []) in let up = h.0 in (omega arith, h.1)
@@ -94,7 +94,8 @@ polls_more link_config field frames g (WritingUsedLength number more) h = let n 
 polls_more link_config field frames g (WritingUsedIndex number more) h = let n = length-append frames (g ∷ []) in let up = h.0 in (omega arith, h.1)
 polls_more link_config field frames g place h = h
 
--- what a step in RUN leaves: the end still runs, at a calm place, and both directions are linked
+-- The result of a step in RUN: the end is still in RUN at a calm place, and both directions satisfy
+-- `InFlight`.
 pub record Works (link_config : LinkConfig) (memory after : ℕ → ℕ) (p : ℕ) (u : End) (w : Place) (end : End) (place : Place) : Type 0 where
   pub run : end.handshake.phase ≡ Run
   pub mark : end.handshake.mark ≡ false
@@ -102,12 +103,12 @@ pub record Works (link_config : LinkConfig) (memory after : ℕ → ℕ) (p : �
   pub sends : InFlightBetween link_config (fields link_config memory (1 - p)) end place u w
   pub takes : InFlightBetween link_config (fields link_config after p) u w end place
 
--- an end has room above the ids that it has read
+-- The number of frames in flight, counted from the ids read, is at most the limit.
 pub room_at : (link_config : LinkConfig) (memory : ℕ → ℕ) (p : ℕ) (end : End) (place : Place) → EndInvariant link_config memory p end place → length end.accepted ≤ freed_at end.freed place + limit_of link_config.sizes
 room_at link_config memory p end (ReadingUsedId pending freed more) a = a.holds.3
 room_at link_config memory p end place a = a.room
 
--- what holds before a step of p, which stands at end and place, and of the other
+-- The hypotheses before a step of end p at its place, and of the other.
 pub record Before (link_config : LinkConfig) (memory : ℕ → ℕ) (p : ℕ) (end : End) (place : Place) (u : End) (w : Place) : Type 0 where
   pub mine : EndInvariant link_config memory p end place
   pub theirs : EndInvariant link_config memory (1 - p) u w
@@ -116,7 +117,7 @@ pub record Before (link_config : LinkConfig) (memory : ℕ → ℕ) (p : ℕ) (e
   pub back : IsAttached u w → OpensNone end place
   pub faces : IsAttached end place ⊎ IsAttached u w → Facing link_config memory p end place u w
 
--- and what is left to be shown after it, besides what each end keeps alone
+-- The obligations after the step, in addition to the invariant of each end.
 pub record Leads (link_config : LinkConfig) (after : ℕ → ℕ) (p : ℕ) (u : End) (w : Place) (end : End) (place : Place) : Type 0 where
   pub sound : (end.handshake.mark ≡ false) × (place ≢ Refusing)
   pub from : IsAttached end place → OpensNone u w

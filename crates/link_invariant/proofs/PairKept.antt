@@ -1,4 +1,4 @@
--- Each step of two honest ends keeps the pair.
+-- Each step of two honest ends preserves the pair.
 use Rattle.std.proofs.Common.{◌≡◌, ◌≢◌, ℕ, zero, suc, ◌+◌, ◌-◌, ◌%◌, ◌/◌, ◌<◌, inl, inr, ⊎_elim, Bool, true, false, List, [], ◌∷◌, length, refl, sym, ap, ◌∙◌, subst, arith}
 use Rattle.std.specs.Prelude.{◌==◌, if◌then◌else◌}
 use Rattle.split_ring.specs.Layout.{size_of, limit_of, word_offset, DescAddress}
@@ -43,7 +43,7 @@ module _ (link_config : LinkConfig) (is : IsLinkConfig link_config) (p : ℕ) (p
   pub untouched : (place : Place) → EndInvariant link_config memory p end place → MemoryAfter p memory (access_at (config_of link_config p) place) after → IsUntouched link_config memory after (1 - p)
   untouched place a left = theirs_stay link_config memory after p is p2 (alone_kept.own link_config p memory after end place is p2 left a)
 
-  -- A step in RUN
+  -- A step in RUN.
   worked : {u : End} {w : Place} {place : Place} (now : End) (next : Place) → end.handshake.phase ≡ Run → IsUntouched link_config memory after (1 - p) → EndInvariant link_config after p now next → Works link_config memory after p u w now next → Before link_config memory p end place u w → Leads link_config after p u w now next
   worked {u} {w} {place} now next run keep mine works b = let same = fields_same link_config memory after (1 - p) is keep.section in record {
     sound = (works.mark, calm_not next Refusing works.calm (λ x. x));
@@ -52,7 +52,7 @@ module _ (link_config : LinkConfig) (is : IsLinkConfig link_config) (p : ℕ) (p
     faces = λ a. record { mine = mine.sent (opened works.run); theirs = sent_same (λ f. same f) (b.faces (inl (inl run))).theirs; sends = link_same same works.sends; takes = works.takes };
   }
 
--- what the step at a place leads to
+-- The obligations of the step at a place.
 module _ (link_config : LinkConfig) (is : IsLinkConfig link_config) (p : ℕ) (p2 : p < 2) (memory : ℕ → ℕ) (end u : End) (w : Place) where
   abbrev LeadsTo : (ℕ → ℕ) → Place → ℕ → Type 0
   LeadsTo after place value = Leads link_config after p u w (end_after end (step_at (config_of link_config p) place value)) (next_place (config_of link_config p) place value)
@@ -61,23 +61,23 @@ module _ (link_config : LinkConfig) (is : IsLinkConfig link_config) (p : ℕ) (p
   fill_calm pending at zero = (tt, refl, λ f fs. tt)
   fill_calm pending at (suc more) = (tt, refl, λ f fs. tt)
 
-  -- a place whose step reads
+  -- A place whose step reads.
   reads : (after : ℕ → ℕ) (place : Place) (value : ℕ) → after ≡ memory → EndInvariant link_config after p (end_after end (step_at (config_of link_config p) place value)) (next_place (config_of link_config p) place value) → end.handshake.phase ≡ Run →
       (Facing link_config memory p end place u w → Works link_config memory memory p u w (end_after end (step_at (config_of link_config p) place value)) (next_place (config_of link_config p) place value)) → Before link_config memory p end place u w → LeadsTo after place value
   reads after place value left mine run works b = subst (λ (k : ℕ → ℕ). LeadsTo k place value) (sym left)
       (worked link_config is p p2 memory memory end _ _ run (still link_config is p p2 memory memory end refl) (subst (λ (k : ℕ → ℕ). EndInvariant link_config k p (end_after end (step_at (config_of link_config p) place value)) (next_place (config_of link_config p) place value)) left mine) (works (b.faces (inl (inl run)))) b)
 
-  -- and of an offer's write
+  -- A place of an offer whose step writes.
   word_leads : (after : ℕ → ℕ) (place next : Place) (f : Field) (x v n : ℕ) → end.handshake.phase ≡ Run → ((k : ℕ) → field.UsedId k ≢ f) → IsCalm next → freed_at end.freed place ≡ freed_at end.freed next → ((field : Field → ℕ) (frames : List (List ℕ)) → Polls link_config field frames next) →
       Put link_config memory after p f n → EndInvariant link_config after p (record end { written = λ w. if w == x then v else end.written w }) next → Before link_config memory p end place u w → Leads link_config after p u w (record end { written = λ w. if w == x then v else end.written w }) next
   word_leads after place next f x v n run apart calm read polls put mine b = worked link_config is p p2 memory after end _ next run (by_put link_config is p p2 memory after end put) mine
       (sends_word link_config p memory after end u w b.mark place next f x v n run apart calm read (polls (fields link_config after p) u.accepted) put (b.faces (inl (inl run)))) b
 
-  -- a doorbell, or the read of an event that doesn't ask for one, which ends the call
+  -- A doorbell, or a read of an avail_event that wants none, which ends the call.
   rests : (place : Place) → end.handshake.phase ≡ Run → end.handshake.mark ≡ false → freed_at end.freed place ≡ end.freed → Facing link_config memory p end place u w → Works link_config memory memory p u w end Closed
   rests place run mark read f = record { run = run; mark = mark; calm = tt; sends = subst (λ k. InFlight link_config (fields link_config memory (1 - p)) end.accepted end.freed k u.delivered u.returned w) read f.sends; takes = takes_on Closed (λ k. refl) tt f.takes }
 
-  -- the read of an event
+  -- The read of avail_event.
   hears : (number value : ℕ) → EndInvariant link_config memory p end (ReadingAvailEvent number) → end.handshake.mark ≡ false → Facing link_config memory p end (ReadingAvailEvent number) u w →
       Works link_config memory memory p u w (end_after end (step_at (config_of link_config p) (ReadingAvailEvent number) value)) (next_place (config_of link_config p) (ReadingAvailEvent number) value)
   hears number value a mark f = by_test (λ m x. Works link_config memory memory p u w (with_marks end m) x) (wants_doorbell (low_half value) number) [] (Over ∷ []) RingingOffer Closed
@@ -121,7 +121,7 @@ module _ (link_config : LinkConfig) (is : IsLinkConfig link_config) (p : ℕ) (p
 pub before : (link_config : LinkConfig) (memory : ℕ → ℕ) (ends : ℕ → End) (places : ℕ → Place) (p : ℕ) → p < 2 → Pair link_config memory ends places → Before link_config memory p (ends p) (places p) (ends (1 - p)) (places (1 - p))
 before link_config memory ends places p p2 m = record { mine = m.alone p p2; theirs = m.alone (1 - p) (omega arith); mark = (m.sound p p2).0; from = m.cross p p2; back = known link_config memory ends places p p2 m; faces = facing link_config memory ends places p p2 m }
 
--- one end changed, and the words of the other did not
+-- One end changed, and the words of the other didn't.
 changed : (link_config : LinkConfig) (memory after : ℕ → ℕ) (ends next : ℕ → End) (places goes : ℕ → Place) (p : ℕ) (end : End) (place : Place) → IsLinkConfig link_config → p < 2 → OnlyEndChanges ends next places goes p end place → IsUntouched link_config memory after (1 - p) →
     EndInvariant link_config after p end place → Leads link_config after p (ends (1 - p)) (places (1 - p)) end place → Pair link_config memory ends places → Pair link_config after next goes
 changed link_config memory after ends next places goes p end place is p2 only keep mine leads m = stepped link_config memory after ends next places goes p end place p2 only m mine
@@ -137,7 +137,7 @@ resets_lem : (link_config : LinkConfig) (memory after : ℕ → ℕ) (ends next 
 resets_lem link_config memory after ends next places goes p is p2 reset m = changed link_config memory after ends next places goes p _ _ is p2 reset.comes (by_state link_config is p p2 memory after (ends p) 0 reset.stored) (alone_kept.resets link_config p memory after (ends p) (places p) is p2 reset.stored (m.alone p p2))
     (leads_reset link_config memory after p (ends p) (ends (1 - p)) (places (1 - p)) (places p) is p2 reset.stored (before link_config memory ends places p p2 m)) m
 
--- a call begins
+-- A call begins.
 enters : (link_config : LinkConfig) (memory : ℕ → ℕ) (p : ℕ) (end u : End) (w : Place) (next : Place) → next ≢ Refusing → next ≢ WritingState 3 → next ≢ WritingState 1 → freed_at end.freed next ≡ end.freed → ((field : Field → ℕ) (frames : List (List ℕ)) → Polls link_config field frames next) → Before link_config memory p end Closed u w → Leads link_config memory p u w end next
 enters link_config memory p end u w next calm three one read polls b = record {
   sound = (b.mark, calm);

@@ -1,4 +1,4 @@
--- The reads of an offer and of a poll: an end alone.
+-- The reads of an offer and of a poll: the invariant of one end.
 use Rattle.std.proofs.Common.{◌≡◌, ℕ, zero, suc, ◌+◌, ◌-◌, ◌%◌, ◌<◌, ◌≤◌, Bool, true, false, List, [], ◌∷◌, ◌++◌, length, refl, sym, ap, ◌∙◌, subst, arith, ne_eqb, length-append}
 use Rattle.std.specs.Prelude.{◌==◌, nat_le, if◌then◌else◌}
 use Rattle.std.proofs.lemmas.Bool.Decides.{nat_tests}
@@ -19,11 +19,11 @@ use Rattle.link_invariant.specs.LinkConfig.{LinkConfig, config_of, fields}
 use Rattle.link_invariant.specs.EndInvariant.{IsNext, Filled, PlaceInvariant, counts, EndInvariant}
 use Rattle.link_invariant.proofs.Forms.{by_test, run_ready, opened, free, moves, refuses}
 
--- what is shown of an end at the place after a step of it
+-- The invariant of an end at the place after its step.
 abbrev pub StepsTo : LinkConfig → ℕ → (ℕ → ℕ) → End → Place → ℕ → Type 0
 StepsTo link_config p memory end place value = EndInvariant link_config memory p (end_after end (step_at (config_of link_config p) place value)) (next_place (config_of link_config p) place value)
 
--- Places after counts
+-- Places by counts
 
 pub fill_holds : (link_config : LinkConfig) (memory : ℕ → ℕ) (p : ℕ) (end : End) (pending : PendingOffer) (at count : ℕ) → end.handshake.phase ≡ Run → at + count ≡ words_for (length pending.frame) → Filled link_config (fields link_config memory p) end.accepted end.freed pending at →
     PlaceInvariant link_config memory p end (fill_place pending at count) × (counts (fill_place pending at count) ≡ (0, 0))
@@ -44,7 +44,7 @@ pub items_holds : (link_config : LinkConfig) (memory : ℕ → ℕ) (p : ℕ) (e
 items_holds link_config memory p end number zero run is few = (run, refl)
 items_holds link_config memory p end number (suc more) run is few = ((run, is, omega arith), refl)
 
--- Marks that count frames freed
+-- Marks that count frames freed.
 pub full_quiet : (end : End) (b : Bool) → with_marks end (if b then [] else Full ∷ []) ≡ end
 full_quiet end true = refl
 full_quiet end false = refl
@@ -57,7 +57,7 @@ pub ids_quiet : (end : End) (b c : Bool) → with_marks end (if b then (if c the
 ids_quiet end true c = full_quiet end c
 ids_quiet end false c = refl
 
--- a look changes no more of its end than whether it found none
+-- A read of the available index changes only `found_none`.
 pub looked : (end : End) (last : Bool) (count : ℕ) → with_marks end (look_marks last count) ≡ record end { found_none = count == 0 }
 looked end true zero = refl
 looked end false zero = refl
@@ -66,7 +66,7 @@ looked end last (suc more) = ap (with_marks end) (no (suc more == 0) (look_marks
 pub look_alone : {link_config : LinkConfig} {memory : ℕ → ℕ} {p : ℕ} {end : End} {taken : ℕ} {last : Bool} (none : Bool) → EndInvariant link_config memory p end (ReadingAvailIndex taken last) → EndInvariant link_config memory p (record end { found_none = none }) (ReadingAvailIndex taken last)
 look_alone {link_config} {memory} {p} {end} {taken} {last} none a = record { state = a.state; written = a.written; holds = a.holds; rests = a.rests; ready = λ two. absurd (run_ready a.holds.0 two); level = a.level; sent = a.sent; freed = a.freed; room = a.room }
 
--- the place after a look that finds nothing
+-- The place after a read of the available index that finds no frame.
 pub none_holds : (link_config : LinkConfig) (memory : ℕ → ℕ) (p : ℕ) (end : End) (taken : ℕ) (last : Bool) → end.handshake.phase ≡ Run → taken ≡ length end.delivered → PlaceInvariant link_config memory p end (none_place taken last) × (counts (none_place taken last) ≡ (0, 0))
 none_holds link_config memory p end taken true run is = (tt, refl)
 none_holds link_config memory p end taken false run is = ((run, is), refl)

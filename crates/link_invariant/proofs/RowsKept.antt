@@ -1,4 +1,4 @@
--- Each step of an honest end goes along the rows of the link machine.
+-- Each step of an honest end satisfies rows of the link machine.
 use Rattle.std.proofs.Common.{◌≡◌, ◌≢◌, ℕ, zero, suc, ◌+◌, ◌-◌, ◌/◌, ◌%◌, ◌<◌, ◌≤◌, ◌⊎◌, inl, inr, ⊎_elim, ne_eqb, Bool, true, false, List, [], ◌∷◌, ◌++◌, length, length-append, refl, sym, ap, ◌∙◌, subst, arith}
 use mathlib.Core.Logic.{dite}
 use native.Mathlib.Decide.{ℕ_discrete}
@@ -39,21 +39,21 @@ use Rattle.link_invariant.proofs.Sends.{returned_is}
 use Rattle.link_invariant.proofs.Takes.{published_is, frame_is}
 use Rattle.link_invariant.proofs.PairKept.{leads, before}
 
--- a read by its test: good, or refused by a hostile other alone
+-- A read by its test: valid, or refused against a hostile other alone.
 tested : (link_config : LinkConfig) (theirs : Bool) (other side : Side) (end : End) (x : Place) (b : Bool) (m : List Mark) (f : FieldName) (v : ℕ) → (theirs ≡ true → (if b then x else Refusing) ≢ Refusing) → Same end side → side.state ≡ 3 →
     (b ≡ true → Follows link_config theirs other side (map Marked m) (with_marks end m) x) → (b ≡ false → IsBeyond link_config.sizes side f v) → Follows link_config theirs other side (map Marked (if b then m else refusal f v)) (with_marks end (if b then m else refusal f v)) (if b then x else Refusing)
 tested link_config theirs other side end x true m f v calm same run good beyond = good refl
 tested link_config true other side end x false m f v calm same run good beyond = absurd (calm refl refl)
 tested link_config false other side end x false m f v calm same run good beyond = refused_row link_config other side end f v same run (beyond refl)
 
--- one more value is read
+-- One more value is read.
 read_on : (values : List ℕ) (value : ℕ) (read : List ℕ) → read ≡ values → read ++ value ∷ [] ≡ values ++ value ∷ []
 read_on values value read e = ap (λ (l : List ℕ). l ++ value ∷ []) e
 
 entry_beyond : (n e : ℕ) → nat_le (suc e) n ≡ false → e < n → ⊥
 entry_beyond n e test lt = grind (arith, nat_tests)
 
--- the job of an end is of the next frame of its side
+-- The pending offer of an end is of the next frame of its side.
 next_of : {link_config : LinkConfig} {field : Field → ℕ} {accepted of_side : List (List ℕ)} {pending : PendingOffer} → of_side ≡ accepted → IsNext link_config field accepted pending → IsNextOf link_config of_side pending
 next_of {link_config} {field} {accepted} {of_side} {pending} same next = record {
   frame = next.frame;
@@ -62,7 +62,7 @@ next_of {link_config} {field} {accepted} {of_side} {pending} same next = record 
 }
 
 module _ (link_config : LinkConfig) (is : IsLinkConfig link_config) (p : ℕ) (p2 : p < 2) (memory : ℕ → ℕ) (theirs : Bool) (other side : Side) (end u : End) (w : Place) where
-  -- what is known of an honest other
+  -- The hypotheses about an honest other.
   record Other (place : Place) : Type 0 where
     pub all : Before link_config memory p end place u w
     pub refines : SideIs u w other
@@ -76,7 +76,7 @@ module _ (link_config : LinkConfig) (is : IsLinkConfig link_config) (p : ℕ) (p
   calm : (place : Place) (value : ℕ) → is_open place ≡ true → place ≢ Refusing → ReadsMemory memory (access_at (config_of link_config p) place) value → MemoryAfter p memory (access_at (config_of link_config p) place) memory → EndInvariant link_config memory p end place → (theirs ≡ true → Other place) → theirs ≡ true → next_place (config_of link_config p) place value ≢ Refusing
   calm place value open_ ne met left a known t = (leads link_config is p p2 memory end u w memory place value open_ ne met left (alone_kept.steps link_config p memory memory end place value is p2 open_ left a) (known t).all).sound.1
 
-  -- a read by its test, in RUN
+  -- A read by its test, in RUN.
   judged : (place : Place) (value : ℕ) (x : Place) (b : Bool) (m : List Mark) (f : FieldName) (v : ℕ) → (theirs ≡ true → (if b then x else Refusing) ≢ Refusing) → SideIs end place side → end.handshake.phase ≡ Run → (b ≡ true → Follows link_config theirs other (heard side value) (map Marked m) (with_marks end m) x) →
       (b ≡ false → IsBeyond link_config.sizes (heard side value) f v) → Follows link_config theirs other side (Gave value ∷ map Marked (if b then m else refusal f v)) (with_marks end (if b then m else refusal f v)) (if b then x else Refusing)
   judged place value x b m f v quiet si run good beyond = hears link_config theirs other side _ value (tested link_config theirs other (heard side value) end x b m f v quiet (same_heard value (same_of si)) (in_run place si run) good beyond)

@@ -17,7 +17,7 @@ use Rattle.link_invariant.specs.Runs.{starts, begins, steps, resets, others, Run
 use Rattle.link_invariant.proofs.WholeKept.{whole_kept}
 use Rattle.link_invariant.proofs.RowsKept.{follow_lem}
 
--- the whole, wherever two ends come
+-- All runs of two ends satisfy the invariant.
 pub whole_lem : RunsKeepInvariant
 whole_lem link_config honest _ _ _ is (starts memory ends places none new closed) = whole_kept.starts link_config honest memory ends places none new closed
 whole_lem link_config honest _ _ _ is (begins memory ends after_ends places after_places p call run p2 hp begun) = whole_kept.begins link_config honest memory ends after_ends places after_places p call is p2 hp begun (whole_lem link_config honest memory ends places is run)
@@ -25,14 +25,14 @@ whole_lem link_config honest _ _ _ is (steps memory after ends after_ends places
 whole_lem link_config honest _ _ _ is (resets memory after ends after_ends places after_places p run p2 hp reset) = whole_kept.resets link_config honest memory after ends after_ends places after_places p is p2 hp reset (whole_lem link_config honest memory ends places is run)
 whole_lem link_config honest _ _ _ is (others memory after ends places run keep) = whole_kept.others link_config honest memory after ends places is keep (whole_lem link_config honest memory ends places is run)
 
--- two sides and their sessions in a run of the machine, and where the ends are these sides
+-- Two sides and their sessions in a run of the machine, and that the ends are these sides.
 record AreSides (link_config : LinkConfig) (ends : ℕ → End) (places : ℕ → Place) : Type 0 where
   sides : ℕ → Side
   logs : ℕ → Log
   runs : MachineRuns link_config.sizes (λ p. true) sides logs
   are : (p : ℕ) → p < 2 → SideIs (ends p) (places p) (sides p)
 
--- one side and its log changed
+-- One side and its log change.
 changed : {A : Type 0} → (ℕ → A) → ℕ → A → ℕ → A
 changed f p x q = if q == p then x else f q
 
@@ -44,7 +44,7 @@ changed_beside : {A : Type 0} → (f : ℕ → A) (p q : ℕ) (x : A) → q ≢ 
 unfolding changed
 changed_beside f p q x ne = no (q == p) x (f q) (ne_eqb q p ne)
 
--- p comes to a new side and log in the run, and the other stays
+-- The run continues with a new side and log of p, and the other stays.
 pub record Stepped (sizes : Sizes) (sides : ℕ → Side) (logs : ℕ → Log) (p : ℕ) (new : Side) (log : Log) : Type 0 where
   pub sides' : ℕ → Side
   pub logs' : ℕ → Log
@@ -54,7 +54,7 @@ pub record Stepped (sizes : Sizes) (sides : ℕ → Side) (logs : ℕ → Log) (
   pub sides_stay : (q : ℕ) → q ≢ p → sides' q ≡ sides q
   pub logs_stay : (q : ℕ) → q ≢ p → logs' q ≡ logs q
 
--- a row of p goes on with the run
+-- A row of p continues the run.
 pub row_step : (sizes : Sizes) (p : ℕ) (p2 : p < 2) (sides : ℕ → Side) (logs : ℕ → Log) (told : SideEvent) (new : Side) → MachineRuns sizes (λ p. true) sides logs → Row sizes true true (sides p) (sides (1 - p)) told new →
     Stepped sizes sides logs p new (log_after (logs p) (logs (1 - p)) (sides p) told)
 row_step sizes p p2 sides logs told new r row = let l = log_after (logs p) (logs (1 - p)) (sides p) told in let ne : 1 - p ≢ p = λ e. omega arith in record {
@@ -68,7 +68,7 @@ row_step sizes p p2 sides logs told new r row = let l = log_after (logs p) (logs
   logs_stay = λ q ne. changed_beside logs p q l ne;
 }
 
--- the rows of what is left, after one of them
+-- The rows left after one of them.
 pub rows_on : (sizes : Sizes) (p : ℕ) (p2 : p < 2) (tolds : List SideEvent) (sides : ℕ → Side) (logs : ℕ → Log) (mid new : Side) (log : Log) → (a : Stepped sizes sides logs p mid log) → FollowsRows sizes true (sides (1 - p)) mid tolds new → FollowsRows sizes true (a.sides' (1 - p)) (a.sides' p) tolds new
 rows_on sizes p p2 tolds sides logs mid new log a rows = let ne : 1 - p ≢ p = λ e. omega arith in
     subst (λ (x : Side). FollowsRows sizes true x (a.sides' p) tolds new) (sym (a.sides_stay (1 - p) ne)) (subst (λ (x : Side). FollowsRows sizes true (sides (1 - p)) x tolds new) (sym a.side_is) rows)
@@ -82,7 +82,7 @@ along_runs sizes (told ∷ tolds) sides logs p new p2 runs along = let a = row_s
 pub side_like : (end end' : End) (place place' : Place) (side side' : Side) → end' ≡ end → place' ≡ place → side' ≡ side → SideIs end place side → SideIs end' place' side'
 side_like end end' place place' side side' e f g h = subst (λ (x : End). SideIs x place' side') (sym e) (subst (λ (x : Place). SideIs end x side') (sym f) (subst (λ (x : Side). SideIs end place x) (sym g) h))
 
--- the sides after a step of p
+-- The sides after a step of p.
 moved : (link_config : LinkConfig) (ends after_ends : ℕ → End) (places after_places : ℕ → Place) (p : ℕ) (end : End) (place : Place) (tolds : List SideEvent) (new : Side) → p < 2 → (r : AreSides link_config ends places) → FollowsRows link_config.sizes true (r.sides (1 - p)) (r.sides p) tolds new → SideIs end place new →
     OnlyEndChanges ends after_ends places after_places p end place → AreSides link_config after_ends after_places
 moved link_config ends after_ends places after_places p end place tolds new p2 r along is only = let x = (along_runs link_config.sizes tolds r.sides r.logs p new p2 r.runs along).1 in record {
@@ -94,7 +94,7 @@ moved link_config ends after_ends places after_places p end place tolds new p2 r
       (λ ne. side_like (ends q) (after_ends q) (places q) (after_places q) (r.sides q) (x.sides' q) (only.ends_stay q ne) (only.places_stay q ne) (x.sides_stay q ne) (r.are q q2));
 }
 
--- two honest ends are the sides of such a run
+-- Two honest ends are the sides of a run of the machine.
 sides_lem : (link_config : LinkConfig) (memory : ℕ → ℕ) (ends : ℕ → End) (places : ℕ → Place) → IsLinkConfig link_config → HonestRuns link_config memory ends places → AreSides link_config ends places
 sides_lem link_config _ _ _ is (starts memory ends places none new closed) = record {
   sides = λ p. initial_side;

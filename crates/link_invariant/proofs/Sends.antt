@@ -21,7 +21,7 @@ use Rattle.link_invariant.proofs.Forms.{by_test, Puts}
 use Rattle.link_invariant.proofs.ReadSteps.{full_quiet, freed_by, ids_quiet}
 use Rattle.link_invariant.proofs.PairForms.{Facing, IsCalm, Works, takes_on, polls_more}
 
--- the place after ids
+-- The place before ids.
 abbrev IdsAt : LinkConfig → (Field → ℕ) → List (List ℕ) → (now freed : ℕ) → Place → Type 0
 IdsAt link_config field frames now freed place = IsCalm place × (freed_at now place ≡ freed) × Polls link_config field frames place
 
@@ -40,7 +40,7 @@ ids_at link_config p field frames now freed pending zero e = by_room (frame_fits
     by_room false = (tt, same, tt)
 ids_at link_config p field frames now freed pending (suc more) e = (tt, refl, tt)
 
--- the place after the index of a frame
+-- The place after the write of the available index.
 tell_at : (link_config : LinkConfig) (p : ℕ) (field : Field → ℕ) (frames : List (List ℕ)) (freed number : ℕ) → IdsAt link_config field frames freed freed (notify_place (config_of link_config p) number)
 tell_at link_config p field frames freed number = by_bool (has_events link_config.sizes)
   where
@@ -52,7 +52,7 @@ module _ (link_config : LinkConfig) (is : IsLinkConfig link_config) (p : ℕ) (m
   abbrev Goes : Place → ℕ → Type 0
   Goes place value = Works link_config memory memory p u w (end_after end (step_at (config_of link_config p) place value)) (next_place (config_of link_config p) place value)
 
-  -- how many frames were returned since
+  -- The number of frames returned since the last read.
   pub returned_is : (pending : PendingOffer) (freed value : ℕ) → value ≡ memory (section_of link_config (1 - p) + word_offset link_config.sizes UsedIndex) → EndInvariant link_config memory p end (ReadingUsedIndex pending freed) → Facing link_config memory p end (ReadingUsedIndex pending freed) u w →
       (end.freed + returned_by freed value ≡ u.returned) × (u.returned ≤ length end.accepted)
   returned_is pending freed value met a f = let h = a.holds in let l = f.sends in let same = h.2 in let r = l.returns in let v = l.delivers in let room = a.room in let b = numbers link_config is in let few = b.size_most in let lim = b.limit_most in
@@ -91,7 +91,7 @@ module _ (link_config : LinkConfig) (is : IsLinkConfig link_config) (p : ℕ) (m
       (λ test. absurd (grind (arith, nat_tests)))
 
 module _ (link_config : LinkConfig) (p : ℕ) (memory after : ℕ → ℕ) (end u : End) (w : Place) (mark : end.handshake.mark ≡ false) where
-  -- a write of a field that is no used id
+  -- A write of a field other than a used id.
   pub sends_word : (place next : Place) (f : Field) (x v n : ℕ) → end.handshake.phase ≡ Run → ((k : ℕ) → field.UsedId k ≢ f) → IsCalm next → freed_at end.freed place ≡ freed_at end.freed next → Polls link_config (fields link_config after p) u.accepted next →
       Put link_config memory after p f n → Facing link_config memory p end place u w → Works link_config memory after p u w (record end { written = λ w. if w == x then v else end.written w }) next
   sends_word place next f x v n run apart calm read polls put facing = record {

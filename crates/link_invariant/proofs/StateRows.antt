@@ -1,4 +1,4 @@
--- The rows of a tick and of a State step, and of a step that tells the machine nothing.
+-- The rows of a tick and of a State step, and of a step without a side event.
 use Rattle.std.proofs.Common.{◌≡◌, ℕ, zero, suc, ◌⊎◌, inl, inr, Bool, false, true, List, [], ◌∷◌, ◌++◌, refl, sym, ap, ◌∙◌, subst}
 use Rattle.std.specs.Prelude.{◌==◌, if◌then◌else◌, Some, map}
 use Rattle.link_handshake.specs.declared.Phase.{Phase}
@@ -15,11 +15,11 @@ use Rattle.link_machine.specs.LinkMachine.{Side, SideEvent, Gave, Wrote, Marked,
 use Rattle.link_invariant.specs.LinkConfig.{LinkConfig}
 use Rattle.link_invariant.specs.Sides.{FollowsRows, SawFor, CallIs, SideIs}
 
--- what a step comes to for the machine
+-- The machine's side after a step.
 abbrev pub Follows : LinkConfig → Bool → Side → Side → List SideEvent → End → Place → Type 0
 Follows link_config theirs other side tolds end place = (new : Side) × FollowsRows link_config.sizes theirs other side tolds new × SideIs end place new
 
--- the end and the side, whatever the call
+-- The end and the side agree, for every call.
 pub record Same (end : End) (side : Side) : Type 0 where
   pub state : side.state ≡ state_of end.handshake.phase
   pub refused : side.refused ≡ end.handshake.mark
@@ -34,11 +34,11 @@ same_of si = record { state = si.state; refused = si.refused; accepted = si.acce
 pub side_is : {end : End} {place : Place} {side : Side} → Same end side → CallIs end place side → SideIs end place side
 side_is same call = record { state = same.state; refused = same.refused; accepted = same.accepted; delivered = same.delivered; returned = same.returned; freed = same.freed; call = call }
 
--- no row, and the same side
+-- No row, and the same side.
 pub silent : (link_config : LinkConfig) (theirs : Bool) (other side : Side) {end : End} {place : Place} → Same end side → CallIs end place side → Follows link_config theirs other side [] end place
 silent link_config theirs other side same call = (side, refl, side_is same call)
 
--- a read is told before the marks of its step
+-- The event of a read comes before the marks of its step.
 abbrev pub heard : Side → ℕ → Side
 heard side value = record side { read = side.read ++ value ∷ [] }
 
@@ -51,11 +51,11 @@ same_heard value same = record { state = same.state; refused = same.refused; acc
 pub same_anew : {end : End} {side : Side} → Same end side → Same end (anew side)
 same_anew same = record { state = same.state; refused = same.refused; accepted = same.accepted; delivered = same.delivered; returned = same.returned; freed = same.freed }
 
--- a look
+-- A read of the available index.
 pub same_looked : {end : End} {side : Side} (none : Bool) (looked : ℕ) (read : List ℕ) → Same end side → Same (record end { found_none = none }) (record side { looked = looked; read = read })
 same_looked none looked read same = record { state = same.state; refused = same.refused; accepted = same.accepted; delivered = same.delivered; returned = same.returned; freed = same.freed }
 
--- a write of a word
+-- A write of a word.
 pub wrote : {end : End} {side : Side} (written : ℕ → ℕ) → Same end side → Same (record end { written = written }) side
 wrote written same = record { state = same.state; refused = same.refused; accepted = same.accepted; delivered = same.delivered; returned = same.returned; freed = same.freed }
 
@@ -108,7 +108,7 @@ saw link_config theirs other side end config value (ClearThenSet n) same read me
   record { state = same.state; refused = same.refused; accepted = same.accepted; delivered = same.delivered; returned = same.returned; freed = same.freed; call = clear_call end config.own config.words n new (value, refl, clears n refl) refl },
 )
 
--- a State step
+-- a State step.
 pub wrote_state : (link_config : LinkConfig) (theirs : Bool) (other side : Side) (end : End) (n : ℕ) → Same end side → (n ≡ 0) ⊎ ((end.handshake.mark ≡ false) × SawFor end side.seen n) → Follows link_config theirs other side (Wrote n ∷ Marked Over ∷ []) (with_state end n) Closed
 wrote_state link_config theirs other side end n same may = (
   anew (side_with side n),

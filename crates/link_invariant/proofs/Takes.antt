@@ -29,7 +29,7 @@ use Rattle.link_invariant.proofs.ReadSteps.{looked}
 use Rattle.link_invariant.proofs.Frames.{frames_lem}
 use Rattle.link_invariant.proofs.PairForms.{Facing, IsCalm, Works, takes_on, room_at}
 
--- the tests of what an honest end spells
+-- The tests of the values of an honest end.
 entry_denies : (q : Sizes) (e : ℕ) → is_entry q e ≡ false → e < size_of q → ⊥
 entry_denies q e test lt = grind (arith, nat_tests)
 
@@ -46,7 +46,7 @@ next_frame : (frames done rest : List (List ℕ)) → frames ≡ done ++ rest �
 next_frame frames done [] e lt = absurd (let h = ap length e in let k = length-append done [] in omega arith)
 next_frame frames done (g ∷ rest) e lt = (rest, subst (λ (x : List ℕ). frames ≡ (done ++ x ∷ []) ++ rest) (sym (ap (λ l. frame_at l (length done)) e ∙ get_or-append_seam done g rest [])) (e ∙ sym (append_assoc done (g ∷ []) rest)))
 
--- the place after items
+-- The place before items.
 items_calm : (number count : ℕ) → IsCalm (items_place number count)
 items_calm number zero = tt
 items_calm number (suc more) = tt
@@ -59,7 +59,7 @@ items_poll : (link_config : LinkConfig) (field : Field → ℕ) (frames : List (
 items_poll link_config field frames number zero up = tt
 items_poll link_config field frames number (suc more) up = up
 
--- the place after a look that finds nothing
+-- The place after a read of the available index that finds no frame.
 none_calm : (taken : ℕ) (last : Bool) → IsCalm (none_place taken last)
 none_calm taken true = tt
 none_calm taken false = tt
@@ -76,11 +76,11 @@ module _ (link_config : LinkConfig) (is : IsLinkConfig link_config) (p : ℕ) (m
   abbrev Goes : Place → ℕ → Type 0
   Goes place value = Works link_config memory memory p u w (end_after end (step_at (config_of link_config p) place value)) (next_place (config_of link_config p) place value)
 
-  -- a step to another place of the poll
+  -- A step to another place of the poll.
   onward : (place next : Place) → end.handshake.phase ≡ Run → IsCalm next → freed_at end.freed place ≡ freed_at end.freed next → Polls link_config (fields link_config memory p) u.accepted next → Facing link_config memory p end place u w → Works link_config memory memory p u w end next
   onward place next run calm read polls f = record { run = run; mark = mark; calm = calm; sends = subst (λ k. InFlight link_config (fields link_config memory (1 - p)) end.accepted end.freed k u.delivered u.returned w) read f.sends; takes = takes_on next (λ k. refl) polls f.takes }
 
-  -- the frame in hand
+  -- The current frame.
   in_hand : (place : Place) (number more : ℕ) → number ≡ length end.delivered → number + suc more ≤ length u.accepted → Facing link_config memory p end place u w → Spelled link_config (fields link_config memory (1 - p)) number (start_in link_config u.accepted number) (frame_at u.accepted number)
   in_hand place number more is up f = let r = f.takes.returns in let d = f.takes.delivers in f.theirs.spelled number (omega arith) (omega arith)
 
@@ -93,13 +93,13 @@ module _ (link_config : LinkConfig) (is : IsLinkConfig link_config) (p : ℕ) (m
   read_of : (f : Field) (value : ℕ) → is_field link_config.sizes f ≡ true → value ≡ memory (section_of link_config (1 - p) + field_word link_config.sizes f) → part_of f value ≡ fields link_config memory (1 - p) f
   read_of f value spot met = field_read link_config memory (1 - p) f value spot met
 
-  -- how many frames were accepted since
+  -- The number of frames accepted since the last read.
   pub published_is : (taken : ℕ) (last : Bool) (value : ℕ) → value ≡ memory (section_of link_config (1 - p) + word_offset link_config.sizes AvailIndex) → EndInvariant link_config memory (1 - p) u w → EndInvariant link_config memory p end (ReadingAvailIndex taken last) → Facing link_config memory p end (ReadingAvailIndex taken last) u w → taken + published_by taken value ≡ length u.accepted
   published_is taken last value met b a f = let t = f.takes in let r = t.returns in let v = t.delivers in let room = b.room in let n = numbers link_config is in let few = n.limit_most in let most = n.size_most in let same = a.holds.1 in
       let index : high_half value ≡ length u.accepted % 65536 = read_of field.AvailIndex value refl met ∙ f.theirs.available in
       let up : length end.delivered ≤ length u.accepted = let e = ap length t.prefix.1 in let k = length-append end.delivered t.prefix.0 in omega arith in omega arith
 
-  -- whether a look found none is no matter of the pair
+  -- The pair doesn't depend on `found_none`.
   same_works : {next : Place} (none : Bool) → Works link_config memory memory p u w end next → Works link_config memory memory p u w (record end { found_none = none }) next
   same_works none x = record { run = x.run; mark = x.mark; calm = x.calm; sends = x.sends; takes = x.takes }
 
@@ -155,7 +155,7 @@ module _ (link_config : LinkConfig) (is : IsLinkConfig link_config) (p : ℕ) (m
       first zero e some = absurd (omega arith)
       first (suc words) e some = let q = f.takes.polls in onward (ReadingDescFlags number more entry address bytes) (ReadingFrameWord number more entry address bytes [] words) a.holds.0 tt refl (q.0, q.1, q.2, q.3, refl) f
 
-  -- the word that is read is the next one of the frame
+  -- The word read is the next word of the frame.
   word_is : (number more entry address bytes : ℕ) (read : List ℕ) (words value : ℕ) → value ≡ memory (section_of link_config (1 - p) + (address / 4 + length read)) → EndInvariant link_config memory p end (ReadingFrameWord number more entry address bytes read words) → Facing link_config memory p end (ReadingFrameWord number more entry address bytes read words) u w →
       read ++ value ∷ [] ≡ first_words (frame_at u.accepted number) (suc (length read))
   word_is number more entry address bytes read words value met a f = let h = a.holds in let q = f.takes.polls in let s = in_hand (ReadingFrameWord number more entry address bytes read words) number more h.1 q.0 f in let g = frame_at u.accepted number in let start = start_in link_config u.accepted number in
@@ -165,7 +165,7 @@ module _ (link_config : LinkConfig) (is : IsLinkConfig link_config) (p : ℕ) (m
       let same : value ≡ frame_word g (length read) = read_of (field.DataWord (start / 4 + length read)) value (is_word link_config is start (length g) (length read) good below) (met ∙ ap (λ x. memory (section_of link_config (1 - p) + x)) w) ∙ s.words (length read) below in
       ap (λ (l : List ℕ). l ++ value ∷ []) q.4 ∙ ap (λ (x : ℕ). first_words g (length read) ++ x ∷ []) same
 
-  -- the frame that is delivered is the next one
+  -- The frame delivered is the next one.
   pub frame_is : (number more entry address bytes : ℕ) (read : List ℕ) (value : ℕ) → value ≡ memory (section_of link_config (1 - p) + (address / 4 + length read)) → EndInvariant link_config memory p end (ReadingFrameWord number more entry address bytes read zero) → Facing link_config memory p end (ReadingFrameWord number more entry address bytes read zero) u w →
       frame_in bytes (read ++ value ∷ []) ≡ frame_at u.accepted number
   frame_is number more entry address bytes read value met a f = let h = a.holds in let q = f.takes.polls in let g = frame_at u.accepted number in let s = in_hand (ReadingFrameWord number more entry address bytes read zero) number more h.1 q.0 f in let all = h.5 in let size = q.3 in

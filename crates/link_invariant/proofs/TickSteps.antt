@@ -1,4 +1,4 @@
--- The handshake, stops and resets: an end alone.
+-- The handshake, stops and resets: the invariant of one end.
 use Rattle.std.proofs.Common.{◌≡◌, ◌≢◌, ℕ, zero, suc, ◌+◌, ◌<◌, Bool, true, false, refl, sym, ap, ◌∙◌, subst, arith}
 use mathlib.Core.Logic.{dite}
 use native.Mathlib.Decide.{ℕ_discrete}
@@ -24,13 +24,13 @@ use Rattle.link_invariant.proofs.ReadSteps.{StepsTo}
 pub not_phase : {a b c : Phase} → state_of a ≢ state_of b → c ≡ a → c ≡ b → ⊥
 not_phase ne e f = ne (sym (ap state_of e) ∙ ap state_of f)
 
--- the place after the words that are clear
+-- The place after the words that are clear.
 clear_holds : (link_config : LinkConfig) (memory : ℕ → ℕ) (p : ℕ) (end : End) (at count done : ℕ) → end.handshake.phase ≡ Init → at ≡ section_of link_config p + done → done + count ≡ link_config.words → IsClear link_config memory p done →
     PlaceInvariant link_config memory p end (clear_place at count 2) × (counts (clear_place at count 2) ≡ (0, 0))
 clear_holds link_config memory p end at zero done init here all clear = let e : done ≡ link_config.words = omega arith in ((init, subst (IsClear link_config memory p) e clear), refl)
 clear_holds link_config memory p end at (suc more) done init here all clear = ((init, refl, (done, here, all, clear)), refl)
 
--- what a tick may do next, by the phase table
+-- The next places of a tick, by the phase table.
 tick_holds : (link_config : LinkConfig) (memory : ℕ → ℕ) (p : ℕ) (end : End) (phase : Phase) (value : ℕ) → end.handshake.phase ≡ phase → PlaceInvariant link_config memory p end (tick_place (config_of link_config p) (move_on phase value)) × (counts (tick_place (config_of link_config p) (move_on phase value)) ≡ (0, 0))
 tick_holds link_config memory p end Reset zero is = (is, refl)
 tick_holds link_config memory p end Reset (suc zero) is = (is, refl)
@@ -77,11 +77,11 @@ module _ (link_config : LinkConfig) (p : ℕ) (memory after : ℕ → ℕ) (end 
         room = a.room;
       }
 
-  -- a write of the state leaves the section
+  -- A write of the State leaves the section.
   section_stays : (n : ℕ) → IsLinkConfig link_config → p < 2 → Stored memory after p n → (j : ℕ) → j < link_config.words → after (section_of link_config p + j) ≡ memory (section_of link_config p + j)
   section_stays n is p2 stored j lt = stored.neighbour_word (section_of link_config p + j) (λ e. let first = is.first in omega arith)
 
-  -- and one of 0 leads to RESET
+  -- A write of State 0 leads to RESET.
   pub falls : (place : Place) (mark : Bool) → IsLinkConfig link_config → p < 2 → Stored memory after p 0 → EndInvariant link_config memory p end place → EndInvariant link_config after p (record end { handshake = record { phase = Reset; mark = mark } }) Closed
   falls place mark is p2 stored a = record { state = stored.here; written = λ j lt. section_stays 0 is p2 stored j lt ∙ a.written j lt; holds = tt; rests = λ t. refl; ready = λ e. absurd (not_phase {a = Reset} {b = Ready} (λ f. omega arith) refl e); level = λ o. absurd o; sent = λ o. absurd o; freed = a.freed; room = a.room }
 

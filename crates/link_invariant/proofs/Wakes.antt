@@ -1,4 +1,4 @@
--- The doorbell that an event asked for is rung.
+-- The doorbell that avail_event wants is rung.
 use Rattle.std.proofs.Common.{◌≡◌, ◌≢◌, ℕ, ◌+◌, ◌-◌, ◌%◌, ◌<◌, ◌≤◌, ◌⊎◌, inl, inr, Bool, true, false, List, [], ◌∷◌, ◌++◌, length, length-append, refl, sym, ap, ◌∙◌, subst, arith}
 use mathlib.Core.Logic.{dite}
 use native.Mathlib.Decide.{ℕ_discrete}
@@ -32,7 +32,7 @@ use Rattle.link_invariant.proofs.PairForms.{Before}
 use Rattle.link_invariant.proofs.PairKept.{untouched, before}
 use Rattle.link_invariant.proofs.Takes.{published_is}
 
--- Frames are accepted at the write of an index alone
+-- Frames are accepted only at the write of the available index
 
 abbrev pub AcceptsNone : List Mark → Type 0
 AcceptsNone [] = Unit {0}
@@ -76,7 +76,7 @@ marks_none config (ReadingDescFlags number more entry address bytes) value ne = 
 marks_none config (ReadingFrameWord number more entry address bytes read words) value ne = by_bool (words == 0) (Deliver (frame_in bytes (read ++ value ∷ [])) ∷ []) [] tt tt
 marks_none config place value ne = tt
 
--- a State step of 2 takes them all away, and no other access does
+-- A State step of 2 empties the list of accepted frames, and no other access does.
 stated_most : (end : End) (a : Access) → length (with_access end a).accepted ≤ length end.accepted
 stated_most end (access.Read word) = omega arith
 stated_most end (access.Write word value) = omega arith
@@ -93,11 +93,11 @@ accepted_most config end place value ne = let most = stated_most end (access_at 
 
 -- Events
 
--- an event at a frame asks for its doorbell
+-- An avail_event of frame k's number wants a doorbell for frame k.
 pub asks_there : (k : ℕ) → wants_doorbell (k % 65536) k ≡ true
 asks_there k = grind (arith, nat_tests)
 
--- a step of an end that doesn't write its event
+-- A step of an end that doesn't write its avail_event.
 pub event_stays : (link_config : LinkConfig) (is : IsLinkConfig link_config) (p : ℕ) (p2 : p < 2) (memory after : ℕ → ℕ) (end : End) (place : Place) → ¬ WritesEvent place → MemoryAfter p memory (access_at (config_of link_config p) place) after → PlaceInvariant link_config memory p end place →
     fields link_config after p field.AvailEvent ≡ fields link_config memory p field.AvailEvent
 event_stays link_config is p p2 memory after end place quiet left h = by_place place quiet left h
@@ -124,7 +124,7 @@ event_stays link_config is p p2 memory after end place quiet left h = by_place p
 
 -- The other's step
 
--- what is ahead after the step at a place of the other, or it comes to ring
+-- Frame k is still ahead after the step of the other, or the doorbell is next.
 abbrev Ahead : End → Place → ℕ → Type 0
 Ahead end place k = (length end.accepted ≤ k) ⊎ (place ≡ ReadingAvailEvent k)
 
@@ -132,7 +132,7 @@ module _ (link_config : LinkConfig) (is : IsLinkConfig link_config) (q : ℕ) (m
   abbrev LeavesAhead : Place → ℕ → Type 0
   LeavesAhead place value = Ahead (end_after end (step_at (config_of link_config q) place value)) (next_place (config_of link_config q) place value) k ⊎ (next_place (config_of link_config q) place value ≡ RingingOffer)
 
-  -- the step after which the index stands
+  -- The step that writes the available index.
   published : (pending : PendingOffer) (value : ℕ) → PlaceInvariant link_config memory q end (WritingAvailIndex pending) → Ahead end (WritingAvailIndex pending) k → LeavesAhead (WritingAvailIndex pending) value
   published pending value h (inr e) = absurd (cc)
   published pending value h (inl few) = let number = h.1 in let n = length-append end.accepted (pending.frame ∷ []) in dite (ℕ_discrete pending.number k)
@@ -143,7 +143,7 @@ module _ (link_config : LinkConfig) (is : IsLinkConfig link_config) (q : ℕ) (m
       told true e = inl (inr (ap ReadingAvailEvent e))
       told false e = inr refl
 
-  -- the read of the event
+  -- The read of avail_event.
   heard : (number value : ℕ) → value ≡ memory (section_of link_config (1 - q) + word_offset link_config.sizes AvailEvent) → Ahead end (ReadingAvailEvent number) k → LeavesAhead (ReadingAvailEvent number) value
   heard number value met (inl few) = let most = accepted_most (config_of link_config q) end (ReadingAvailEvent number) value (λ pending e. cc) in inl (inl (omega arith))
   heard number value met (inr e) = let same : number ≡ k = number_is e in
@@ -158,7 +158,7 @@ module _ (link_config : LinkConfig) (is : IsLinkConfig link_config) (q : ℕ) (m
       yes_place true e = refl
       yes_place false e = absurd (cc)
 
-  -- any other step
+  -- Any other step.
   passes : (place : Place) (value : ℕ) → ((pending : PendingOffer) → place ≢ WritingAvailIndex pending) → ((number : ℕ) → place ≢ ReadingAvailEvent number) → Ahead end place k → LeavesAhead place value
   passes place value ne apart (inl few) = let most = accepted_most (config_of link_config q) end place value ne in inl (inl (omega arith))
   passes place value ne apart (inr e) = absurd (apart k e)

@@ -23,7 +23,7 @@ use Rattle.link_invariant.proofs.WriteSteps.{puts_lem}
 use Rattle.link_invariant.proofs.AloneKept.{alone_kept}
 use Rattle.link_invariant.proofs.PairKept.{still, by_state, untouched, starts_alone, pair_kept}
 
--- an honest end changed, and the words of the other did not
+-- An honest end changed, and the words of the other didn't.
 turned : (link_config : LinkConfig) (honest : ℕ → Bool) (memory after : ℕ → ℕ) (ends next : ℕ → End) (places goes : ℕ → Place) (p : ℕ) (end : End) (place : Place) → IsLinkConfig link_config → p < 2 → OnlyEndChanges ends next places goes p end place → IsUntouched link_config memory after (1 - p) → EndInvariant link_config after p end place →
     LinkInvariant link_config honest memory ends places → (q : ℕ) → q < 2 → honest q ≡ true → EndInvariant link_config after q (next q) (goes q)
 turned link_config honest memory after ends next places goes p end place is p2 only keep mine m q q2 hq = dite (ℕ_discrete q p)
@@ -64,7 +64,7 @@ whole_kept = record {
   };
 }
 
--- the same honest ends
+-- The same honest ends.
 pub whole_like : (link_config : LinkConfig) (honest : ℕ → Bool) (memory : ℕ → ℕ) (ends next : ℕ → End) (places : ℕ → Place) → ((p : ℕ) → p < 2 → honest p ≡ true → next p ≡ ends p) → LinkInvariant link_config honest memory ends places → LinkInvariant link_config honest memory next places
 whole_like link_config honest memory ends next places same m = record {
   alone = λ p p2 hp. subst (λ x. EndInvariant link_config memory p x (places p)) (sym (same p p2 hp)) (m.alone p p2 hp);
@@ -86,7 +86,7 @@ whole_like link_config honest memory ends next places same m = record {
 pub agree : HonestEndsAgree
 agree = record { never_refuse = λ link_config memory ends places p p2 m. ((m.sound p p2).1, (m.sound p p2).0); deliver = λ link_config memory ends places p p2 m a. (m.link p p2 a).prefix }
 
--- Frames that are spelled, by the words of the section
+-- Frames in the words of the section
 
 spells : (link_config : LinkConfig) (memory : ℕ → ℕ) (p k start : ℕ) (frame : List ℕ) → IsLinkConfig link_config → IsGood link_config start (length frame) → Spelled link_config (fields link_config memory p) k start frame → SectionSpells link_config memory p k frame
 spells link_config memory p k start frame is good s =

@@ -1,4 +1,4 @@
--- The writes of an offer and of a poll: an end alone.
+-- The writes of an offer and of a poll: the invariant of one end.
 use Rattle.std.proofs.Common.{◌≡◌, ◌≢◌, ℕ, ◌+◌, ◌*◌, ◌/◌, ◌%◌, ◌<◌, ◌≤◌, Bool, true, false, List, [], ◌∷◌, ◌++◌, length, refl, sym, ap, ◌∙◌, subst, arith}
 use mathlib.Core.Logic.{dite}
 use native.Mathlib.Decide.{ℕ_discrete}
@@ -27,7 +27,7 @@ use Rattle.link_invariant.proofs.Fields.{numbers, one_test, is_word, field_read,
 use Rattle.link_invariant.proofs.Forms.{run_ready, opened, free, spelled_kept, next_kept, filled_kept, job_good, start_before, Puts, free_descriptor, free_entry, free_word, writes}
 use Rattle.link_invariant.proofs.ReadSteps.{StepsTo, fill_holds, items_holds}
 
--- two words of one frame by their fields
+-- Two words of one frame are different fields.
 word_same : (start i j : ℕ) → field.DataWord (start + i) ≡ field.DataWord (start + j) → i ≡ j
 word_same start i j e = let w = ap word_of_field e in omega arith
   where
@@ -35,11 +35,11 @@ word_same start i j e = let w = ap word_of_field e in omega arith
     word_of_field (field.DataWord w) = w
     word_of_field f = 0
 
--- one more frame
+-- One more frame.
 longer : (xs : List (List ℕ)) (x : List ℕ) → length (xs ++ x ∷ []) ≡ length xs + 1
 longer xs x = length-append xs (x ∷ [])
 
--- an entry that is written, and the other one of its word
+-- The half of a word that an entry's write changes, and the other half.
 entry_here : (k word d : ℕ) → d < 65536 → entry_half k (with_entry k word d) ≡ d
 entry_here k word d low = dite (ℕ_discrete (k % 2) 0) (λ e. grind (arith, nat_tests)) (λ ne. grind (arith, nat_tests))
 
@@ -48,7 +48,7 @@ entry_there k l word d ne half low = dite (ℕ_discrete (k % 2) 0)
     (λ even. let odd : l % 2 ≢ 0 = omega arith in grind (arith, nat_tests))
     (λ odd. let even : l % 2 ≡ 0 = omega arith in grind (arith, nat_tests))
 
--- the place after the index of a frame
+-- The place after the write of the available index.
 pub tell_holds : (link_config : LinkConfig) (memory : ℕ → ℕ) (p : ℕ) (end : End) (number : ℕ) → end.handshake.phase ≡ Run → number + 1 ≡ length end.accepted → PlaceInvariant link_config memory p end (notify_place (config_of link_config p) number) × (counts (notify_place (config_of link_config p) number) ≡ (0, 0))
 tell_holds link_config memory p end number run next = by_bool (has_events link_config.sizes)
   where
@@ -57,7 +57,7 @@ tell_holds link_config memory p end number run next = by_bool (has_events link_c
     by_bool false = (run, refl)
 
 module _ (link_config : LinkConfig) (is : IsLinkConfig link_config) (p : ℕ) (p2 : p < 2) (memory after : ℕ → ℕ) (end : End) where
-  -- a write of a field that is alone in its word
+  -- A write of a field that is alone in its word.
   puts : (f : Field) (v n : ℕ) → is_field link_config.sizes f ≡ true → ((t : Field) → Entries f t → ⊥) → part_of f v ≡ n → Stored memory after (section_of link_config p + field_word link_config.sizes f) v → Put link_config memory after p f n
   puts f v n spot lone here stored = put_of link_config is memory after p p2 f v n spot stored here (λ t ne h two. absurd (lone t two))
 
@@ -67,15 +67,15 @@ module _ (link_config : LinkConfig) (is : IsLinkConfig link_config) (p : ℕ) (p
   turn_low : (number : ℕ) → number % size_of link_config.sizes < size_of link_config.sizes
   turn_low number = let least = (numbers link_config is).size_least in mod_below number (size_of link_config.sizes) (omega arith)
 
-  -- fewer frames are in flight than may be
+  -- The number of frames in flight is below the limit.
   spare_of : (pending : PendingOffer) → HasRoom link_config pending end.freed → pending.number < end.freed + limit_of link_config.sizes
   spare_of pending room = frames_lem.few link_config.sizes pending.lengths end.freed pending.number room
 
-  -- the job's descriptor holds no frame in flight
+  -- The descriptor of the pending offer holds no frame in flight.
   unused : (pending : PendingOffer) (count : ℕ) → Filled link_config (fields link_config memory p) end.accepted end.freed pending count → (k : ℕ) × (end.freed ≤ k) × (k < length end.accepted) × (pending.number % limit_of link_config.sizes ≡ k % limit_of link_config.sizes) → ⊥
   unused pending count filled live = free_descriptor link_config end.freed (length end.accepted) pending.number (numbers link_config is).limit_least filled.next.number (spare_of pending filled.room) live
 
-  -- the other entry of the word stays
+  -- The neighbouring entry of the word stays.
   entry_beside : (pending : PendingOffer) → IsNext link_config (fields link_config memory p) end.accepted pending → pending.number % limit_of link_config.sizes < 65536 → (t : Field) → t ≢ field.AvailEntry (pending.number % size_of link_config.sizes) → is_field link_config.sizes t ≡ true → Entries (field.AvailEntry (pending.number % size_of link_config.sizes)) t →
       part_of t (with_entry (pending.number % size_of link_config.sizes) pending.neighbour_word (pending.number % limit_of link_config.sizes)) ≡ part_of t (memory (section_of link_config p + word_offset link_config.sizes (ring.AvailEntry (pending.number % size_of link_config.sizes))))
   entry_beside pending next low (field.AvailEntry l) ne spot half = let k = pending.number % size_of link_config.sizes in let other : l ≢ k = λ e. ne (ap field.AvailEntry e) in
@@ -95,7 +95,7 @@ module _ (link_config : LinkConfig) (is : IsLinkConfig link_config) (p : ℕ) (p
   next_start : (pending : PendingOffer) → pending.lengths ≡ lengths_of (end.accepted ++ pending.frame ∷ []) → pending.number ≡ length end.accepted → start_for link_config pending ≡ start_in link_config (end.accepted ++ pending.frame ∷ []) (length end.accepted)
   next_start pending lengths number = ap (λ (l : ℕ → ℕ). start_of link_config.sizes l pending.number) lengths ∙ ap (start_of link_config.sizes (lengths_of (end.accepted ++ pending.frame ∷ []))) number
 
-  -- what the step at a place writes
+  -- The field that the step at a place writes.
   pub puts_lem : (place : Place) → MemoryAfter p memory (access_at (config_of link_config p) place) after → PlaceInvariant link_config memory p end place → Puts link_config p memory after place
   puts_lem (WritingFrameWord pending at more) stored h = let start = start_for link_config pending in let all = h.2 in
       let x : section_of link_config p + start / 4 + at ≡ section_of link_config p + (start / 4 + at) = omega arith in

@@ -1,4 +1,5 @@
--- What one honest end keeps, whatever the other does: stated of its end and its place in a call, over the words of memory.
+-- The invariant of one honest end, for all that the other does: a property of its end and its place
+-- in a call, over the words of the region.
 use Rattle.std.specs.Prelude.{◌≡◌, ◌≢◌, ℕ, zero, suc, ◌+◌, ◌/◌, ◌%◌, ◌<◌, ◌≤◌, true, false, List, [], ◌∷◌, ◌++◌, length, get_or}
 use Rattle.split_ring.specs.Layout.{size_of, limit_of}
 use Rattle.split_ring.specs.Frames.{start_of, has_room}
@@ -15,15 +16,16 @@ use Rattle.link_invariant.specs.LinkConfig.{LinkConfig, section_of, fields, IsOf
 
 -- Frames in flight
 
--- the frame of this number
+-- The frame with this number.
 abbrev pub frame_at : List (List ℕ) → ℕ → List ℕ
 frame_at frames k = get_or frames k []
 
--- the byte of the section at which it starts
+-- The byte of the section at which this frame starts.
 abbrev pub start_in : LinkConfig → List (List ℕ) → ℕ → ℕ
 start_in link_config frames k = start_of link_config.sizes (lengths_of frames) k
 
--- the fields spell this frame at position k in the sender's own way: the entry names descriptor k mod the limit, whose address is that byte
+-- The fields hold this frame at position k in the sender's own form: the available entry names
+-- descriptor k mod the limit, whose address is `start`.
 pub record Spelled (link_config : LinkConfig) (field : Field → ℕ) (k start : ℕ) (frame : List ℕ) : Type 0 where
   pub offered : IsOffered link_config frame
   pub entry : field (AvailEntry (k % size_of link_config.sizes)) ≡ k % limit_of link_config.sizes
@@ -33,15 +35,17 @@ pub record Spelled (link_config : LinkConfig) (field : Field → ℕ) (k start :
   pub flags : field (DescFlags (k % limit_of link_config.sizes)) ≡ 0
   pub words : (j : ℕ) → j < words_for (length frame) → field (DataWord (start / 4 + j)) ≡ frame_word frame j
 
--- the own section in a session: the indexes are the counts, and each frame in flight is spelled
+-- The own section in a session: the indices are the counts, and the section holds each frame in
+-- flight.
 pub record OwnSection (link_config : LinkConfig) (field : Field → ℕ) (accepted : List (List ℕ)) (freed returned : ℕ) : Type 0 where
   pub available : field AvailIndex ≡ length accepted % 65536
   pub used : field UsedIndex ≡ returned % 65536
   pub spelled : (k : ℕ) → freed ≤ k → k < length accepted → Spelled link_config field k (start_in link_config accepted k) (frame_at accepted k)
 
--- What an open offer has written
+-- The words that an open offer has written
 
--- the job is of the next frame after those that were accepted, and it has the other entry of its word as that stands
+-- The pending offer is of the next frame after those that were accepted, and has the neighbouring
+-- entry of its entry's word.
 pub record IsNext (link_config : LinkConfig) (field : Field → ℕ) (accepted : List (List ℕ)) (pending : PendingOffer) : Type 0 where
   pub frame : IsOffered link_config pending.frame
   pub number : pending.number ≡ length accepted
@@ -49,21 +53,22 @@ pub record IsNext (link_config : LinkConfig) (field : Field → ℕ) (accepted :
   pub neighbour_word : (e : ℕ) → e ≢ pending.number % size_of link_config.sizes → e / 2 ≡ pending.number % size_of link_config.sizes / 2 →
       part_of (AvailEntry e) pending.neighbour_word ≡ field (AvailEntry e)
 
--- the byte at which its frame starts
+-- The byte at which its frame starts.
 abbrev pub start_for : LinkConfig → PendingOffer → ℕ
 start_for link_config pending = start_of link_config.sizes pending.lengths pending.number
 
--- its frame has room, where so many frames were freed
+-- Its frame fits after `freed` frames were freed.
 abbrev pub HasRoom : LinkConfig → PendingOffer → ℕ → Type 0
 HasRoom link_config pending freed = has_room link_config.sizes pending.lengths freed pending.number ≡ true
 
--- and so many of its words stand where there is room
+-- Its frame fits, and its first `count` words are written.
 pub record Filled (link_config : LinkConfig) (field : Field → ℕ) (accepted : List (List ℕ)) (freed : ℕ) (pending : PendingOffer) (count : ℕ) : Type 0 where
   pub next : IsNext link_config field accepted pending
   pub room : HasRoom link_config pending freed
   pub words : (j : ℕ) → j < count → field (DataWord (start_for link_config pending / 4 + j)) ≡ frame_word pending.frame j
 
--- all of them; and then each part of the descriptor
+-- All words of its frame are written. The following definitions are for each part of the
+-- descriptor.
 abbrev pub HasWords : LinkConfig → (Field → ℕ) → End → PendingOffer → Type 0
 HasWords link_config field end pending = Filled link_config field end.accepted end.freed pending (words_for (length pending.frame))
 
@@ -79,13 +84,13 @@ HasLength link_config field pending = field (DescLength (pending.number % limit_
 abbrev pub HasFlags : LinkConfig → (Field → ℕ) → PendingOffer → Type 0
 HasFlags link_config field pending = field (DescFlags (pending.number % limit_of link_config.sizes)) ≡ 0
 
--- What an open call holds
+-- The invariant of each place
 
--- the words of the section below this one are 0
+-- The first `count` words of the section are 0.
 pub record IsClear (link_config : LinkConfig) (memory : ℕ → ℕ) (p count : ℕ) : Type 0 where
   pub none : (j : ℕ) → j < count → memory (section_of link_config p + j) ≡ 0
 
--- the state that an end of this phase may set: READY over a section of 0 alone
+-- An end of this phase may set this State: READY only if its section is 0.
 abbrev pub MaySet : LinkConfig → (ℕ → ℕ) → ℕ → Phase → ℕ → Type 0
 MaySet link_config memory p phase zero = Unit {0}
 MaySet link_config memory p phase (suc zero) = phase ≡ Reset
@@ -93,25 +98,27 @@ MaySet link_config memory p phase (suc (suc zero)) = (phase ≡ Init) × IsClear
 MaySet link_config memory p phase (suc (suc (suc zero))) = phase ≡ Ready
 MaySet link_config memory p phase (suc (suc (suc (suc more)))) = ⊥
 
--- a clear has so many words behind it
+-- The words of the section before word `at` are clear, and `more` words follow it.
 abbrev pub HasCleared : LinkConfig → (ℕ → ℕ) → ℕ → (at more : ℕ) → Type 0
 HasCleared link_config memory p at more = (count : ℕ) × (at ≡ section_of link_config p + count) × (count + suc more ≡ link_config.words) × IsClear link_config memory p count
 
 abbrev pub InRun : End → Type 0
 InRun end = end.handshake.phase ≡ Run
 
--- the item of this number is the next one to be delivered; and once delivered the next one to be returned
+-- The item with this number is the next one to be delivered. `IsGivenBack` says that it is the next
+-- one to be returned.
 abbrev pub IsTaken : End → ℕ → Type 0
 IsTaken end number = number ≡ length end.delivered
 
 abbrev pub IsGivenBack : End → ℕ → Type 0
 IsGivenBack end number = number ≡ end.returned
 
--- with the one in hand no more items are left than the queue has
+-- With the current item, the number of items left is at most the queue size.
 abbrev pub AreFew : LinkConfig → ℕ → Type 0
 AreFew link_config more = more < size_of link_config.sizes
 
--- a tick holds what it may set, an offer what it has written, a poll what passed its tests
+-- The invariant of a place: the State that a tick may set, the words that an offer has written, or
+-- the values of a poll that passed their tests.
 abbrev pub PlaceInvariant : LinkConfig → (ℕ → ℕ) → ℕ → End → Place → Type 0
 PlaceInvariant link_config memory p end Closed = Unit {0}
 PlaceInvariant link_config memory p end (ReadingOtherState handshake) = handshake ≡ end.handshake
@@ -156,14 +163,15 @@ PlaceInvariant link_config memory p end (WritingUsedLength number more) = InRun 
 PlaceInvariant link_config memory p end (WritingUsedIndex number more) = InRun end × IsGivenBack end number × AreFew link_config more
 PlaceInvariant link_config memory p end place = InRun end
 
--- how many frames are delivered and not yet returned; and a second count, which is 0 at each place
+-- The number of frames delivered and not yet returned; and a second count, which is 0 at each
+-- place.
 abbrev pub counts : Place → ℕ × ℕ
 counts (WritingUsedId number more entry) = (1, 0)
 counts (WritingUsedLength number more) = (1, 0)
 counts (WritingUsedIndex number more) = (1, 0)
 counts place = (0, 0)
 
--- an end that refused is at its refusal, or in RESET and about to set nothing but 0
+-- An end that refused is at its refusal, or in RESET and sets nothing but 0.
 abbrev pub RefusalIsFinal : End → Place → Type 0
 RefusalIsFinal end Refusing = Unit {0}
 RefusalIsFinal end Closed = end.handshake.mark ≡ true → end.handshake.phase ≡ Reset
@@ -174,14 +182,14 @@ RefusalIsFinal end place = end.handshake.mark ≡ false
 
 -- The end
 
--- a session is open
+-- A session is open.
 abbrev pub Opened : Phase → Type 0
 Opened Reset = ⊥
 Opened Init = ⊥
 Opened Ready = Unit {0}
 Opened Run = Unit {0}
 
--- a session in READY: the section is 0, nothing is listed and nothing is counted
+-- A session in READY: the section is 0, the lists are empty and the counts are 0.
 pub record IsBlank (link_config : LinkConfig) (memory : ℕ → ℕ) (p : ℕ) (end : End) : Type 0 where
   pub section : IsClear link_config memory p link_config.words
   pub accepted : end.accepted ≡ []
@@ -189,7 +197,8 @@ pub record IsBlank (link_config : LinkConfig) (memory : ℕ → ℕ) (p : ℕ) (
   pub delivered : end.delivered ≡ []
   pub returned : end.returned ≡ 0
 
--- one honest end alone: its state word is its phase, its section is what it wrote there last, and its counts follow one another in every phase
+-- The invariant of one honest end. Its State word is its phase, its section is what it wrote there
+-- last, its place satisfies its invariant, and its counts are in order in every phase.
 pub record EndInvariant (link_config : LinkConfig) (memory : ℕ → ℕ) (p : ℕ) (end : End) (place : Place) : Type 0 where
   pub state : memory p ≡ state_of end.handshake.phase
   pub written : (j : ℕ) → j < link_config.words → memory (section_of link_config p + j) ≡ end.written (section_of link_config p + j)

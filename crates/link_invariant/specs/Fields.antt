@@ -1,12 +1,14 @@
--- The fields of an output section that the two ends use: the word in which each stands, and the part of that word which it is
--- (VIRTIO 1.1, section 2.6: split virtqueues; one half of the queue in each section: profile).
+-- The fields of an output section that the two ends use: the word of each field, and the part of
+-- that word (VIRTIO 1.1, section 2.6: split virtqueues; one half of the queue in each section:
+-- profile).
 use Rattle.std.specs.Prelude.{ℕ, ◌+◌, ◌/◌, nat_lt, nat_le, Bool, true, ◌&&◌}
 use Rattle.split_ring.specs.Layout.{Sizes, size_of, data_area_start, word_offset, DescAddress, DescLength as LayoutDescLength, DescFlags as LayoutDescFlags, AvailIndex as LayoutAvailIndex, AvailEntry as LayoutAvailEntry, UsedId as LayoutUsedId, UsedLength as LayoutUsedLength, AvailEvent as LayoutAvailEvent}
 use Rattle.split_ring.specs.Layout as ring
 use Rattle.split_ring.specs.Spelling.{low_half, high_half, entry_half}
 
--- the two indexes and the event; the available entry, and the id and the amount of the used element, at a position of their ring; the parts of a descriptor;
--- and the words of the data area, by their numbers in the section
+-- The two indices and avail_event. The available entry, and the id and the length of the used
+-- element, at a position of their ring. The parts of a descriptor, and the words of the data area,
+-- by their numbers in the section.
 pub data Field : Type 0 where
   AvailIndex : Field
   UsedIndex : Field
@@ -20,7 +22,7 @@ pub data Field : Type 0 where
   DescFlags : (descriptor : ℕ) → Field
   DataWord : (word : ℕ) → Field
 
--- positions and descriptors are below the queue's size, and the data area goes to the section's end
+-- Positions and descriptors are below the queue size, and the data area ends at the section's end.
 abbrev pub is_field : Sizes → Field → Bool
 is_field sizes AvailIndex = true
 is_field sizes UsedIndex = true
@@ -34,7 +36,7 @@ is_field sizes (DescLength i) = nat_lt i (size_of sizes)
 is_field sizes (DescFlags i) = nat_lt i (size_of sizes)
 is_field sizes (DataWord word) = nat_le (data_area_start sizes / 4) word && nat_lt word (sizes.out / 4)
 
--- the word of the section in which a field stands
+-- The word of the section in which a field is.
 abbrev pub field_word : Sizes → Field → ℕ
 field_word sizes AvailIndex = word_offset sizes LayoutAvailIndex
 field_word sizes UsedIndex = word_offset sizes ring.UsedIndex
@@ -48,7 +50,8 @@ field_word sizes (DescLength i) = word_offset sizes (LayoutDescLength i)
 field_word sizes (DescFlags i) = word_offset sizes (LayoutDescFlags i)
 field_word sizes (DataWord word) = word
 
--- the field in its word: indexes, the event, entries and flags are halves of it, any other is all of it
+-- The field in its word: indices, avail_event, entries and flags are halves of it, any other field
+-- is the whole word.
 abbrev pub part_of : Field → ℕ → ℕ
 part_of AvailIndex word = high_half word
 part_of UsedIndex word = high_half word

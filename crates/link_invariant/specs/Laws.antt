@@ -1,4 +1,4 @@
--- What an end keeps alone, and two honest ends between them, is kept by all that an end does.
+-- All that an end does preserves the invariant of one end, and the pair of two honest ends.
 use Rattle.std.specs.Prelude.{◌≡◌, ◌≢◌, ℕ, ◌<◌, true}
 use Rattle.split_ring.specs.declared.steps.Access.TheVariants as access
 use Rattle.link_handshake.specs.declared.Phase.TheVariants.{Reset}
@@ -10,8 +10,9 @@ use Rattle.link_invariant.specs.Steps.{Stored, IsUntouched, OnlyOwnChange, Memor
 use Rattle.link_invariant.specs.EndInvariant.{EndInvariant}
 use Rattle.link_invariant.specs.Pair.{Pair}
 
--- an honest end keeps what holds of it alone: as a call begins, by each step whatever it reads, by a reset, and as other words change; its steps change no
--- other word, and none of its section while it is in RESET
+-- An honest end preserves its invariant as a call begins, at each step for all values read, at a
+-- reset, and as other words change. Its steps change no other word, and no word of its section
+-- while it is in RESET.
 pub record EndInvariantIsKept : Type 0 where
   pub begins : (link_config : LinkConfig) (p : ℕ) (memory : ℕ → ℕ) (end : End) (call : Call) → IsLinkConfig link_config → IsGivenTo link_config call →
       EndInvariant link_config memory p end Closed → EndInvariant link_config memory p end (first_place (config_of link_config p) end call)
@@ -27,7 +28,8 @@ pub record EndInvariantIsKept : Type 0 where
   pub others : (link_config : LinkConfig) (p : ℕ) (memory after : ℕ → ℕ) (end : End) (place : Place) → IsLinkConfig link_config → IsUntouched link_config memory after p →
       EndInvariant link_config memory p end place → EndInvariant link_config after p end place
 
--- two honest ends keep the pair: from their start on, as a call begins, by each step of either, by a reset, and as words change that are neither's
+-- The initial ends are a pair. Two honest ends preserve the pair as a call begins, at each step of
+-- either, at a reset, and as words change that are neither's.
 pub record PairIsKept : Type 0 where
   pub starts : (link_config : LinkConfig) (memory : ℕ → ℕ) (ends : ℕ → End) (places : ℕ → Place) →
       ((w : ℕ) → memory w ≡ 0) → ((p : ℕ) → ends p ≡ fresh) → ((p : ℕ) → places p ≡ Closed) → Pair link_config memory ends places

@@ -1,4 +1,4 @@
--- Two ends, each honest or not: what every step keeps, and what follows.
+-- Two ends, each honest or not: their invariant, and its consequences.
 use Rattle.std.specs.Prelude.{ℕ, ◌≡◌, ◌≢◌, ◌+◌, ◌-◌, ◌%◌, ◌<◌, ◌≤◌, Bool, true, false, List, ◌++◌, length}
 use Rattle.split_ring.specs.Layout.{limit_of}
 use Rattle.split_ring.specs.Spelling.{Spells}
@@ -11,12 +11,13 @@ use Rattle.link_invariant.specs.Steps.{IsUntouched, MemoryAfter, BeginsCall, Tak
 use Rattle.link_invariant.specs.EndInvariant.{Opened, frame_at, EndInvariant}
 use Rattle.link_invariant.specs.Pair.{EitherIsAttached, Pair}
 
--- each honest end alone, and the pair where both are honest
+-- Each honest end satisfies its invariant, and two honest ends satisfy the pair.
 pub record LinkInvariant (link_config : LinkConfig) (honest : ℕ → Bool) (memory : ℕ → ℕ) (ends : ℕ → End) (places : ℕ → Place) : Type 0 where
   pub alone : (p : ℕ) → p < 2 → honest p ≡ true → EndInvariant link_config memory p (ends p) (places p)
   pub pair : honest 0 ≡ true → honest 1 ≡ true → Pair link_config memory ends places
 
--- it holds from the start on, and is kept as an honest end begins a call, by each of its steps, by its reset, and as words change that are no honest end's
+-- The invariant holds at the start. It is preserved as an honest end begins a call, at each of its
+-- steps, at its reset, and as words change that are no honest end's.
 pub record LinkInvariantIsKept : Type 0 where
   pub starts : (link_config : LinkConfig) (honest : ℕ → Bool) (memory : ℕ → ℕ) (ends : ℕ → End) (places : ℕ → Place) →
       ((w : ℕ) → memory w ≡ 0) → ((p : ℕ) → ends p ≡ fresh) → ((p : ℕ) → places p ≡ Closed) → LinkInvariant link_config honest memory ends places
@@ -32,19 +33,20 @@ pub record LinkInvariantIsKept : Type 0 where
   pub others : (link_config : LinkConfig) (honest : ℕ → Bool) (memory after : ℕ → ℕ) (ends : ℕ → End) (places : ℕ → Place) → IsLinkConfig link_config →
       ((q : ℕ) → q < 2 → honest q ≡ true → IsUntouched link_config memory after q) → LinkInvariant link_config honest memory ends places → LinkInvariant link_config honest after ends places
 
--- of two honest ends none is at a refusal or bears its mark; and as soon as one attends, what either delivered begins what the other accepted
+-- Of two honest ends none is at a refusal or has its mark. As soon as one is attached, the frames
+-- that either delivered are a beginning of the frames that the other accepted.
 pub record HonestEndsAgree : Type 0 where
   pub never_refuse : (link_config : LinkConfig) (memory : ℕ → ℕ) (ends : ℕ → End) (places : ℕ → Place) (p : ℕ) → p < 2 → Pair link_config memory ends places →
       (places p ≢ Refusing) × ((ends p).handshake.mark ≡ false)
   pub deliver : (link_config : LinkConfig) (memory : ℕ → ℕ) (ends : ℕ → End) (places : ℕ → Place) (p : ℕ) → p < 2 → Pair link_config memory ends places →
       EitherIsAttached ends places p → (rest : List (List ℕ)) × ((ends p).accepted ≡ (ends (1 - p)).delivered ++ rest)
 
--- the words of the section of end p spell this frame at position k, in its own descriptor
+-- The words of the section of end p hold this frame at position k, in its own descriptor.
 abbrev pub SectionSpells : LinkConfig → (ℕ → ℕ) → (p k : ℕ) → List ℕ → Type 0
 SectionSpells link_config memory p k frame = Spells link_config.sizes (λ w. memory (section_of link_config p + w)) k (k % limit_of link_config.sizes) frame
 
--- the section of an honest end spells each of its frames in flight, whatever the other stores; and the next one from the write of the index on, with which it
--- is accepted
+-- The section of an honest end holds each of its frames in flight, for all stores of the other. It
+-- also holds the next frame from the write of the index on, which accepts it.
 pub record FramesAreSpelled : Type 0 where
   pub in_flight : (link_config : LinkConfig) (memory : ℕ → ℕ) (p : ℕ) (end : End) (place : Place) (k : ℕ) → IsLinkConfig link_config → EndInvariant link_config memory p end place →
       Opened end.handshake.phase → end.freed ≤ k → k < length end.accepted → SectionSpells link_config memory p k (frame_at end.accepted k)

@@ -1,4 +1,4 @@
--- What two honest ends keep between them.
+-- The invariant of two honest ends.
 use Rattle.std.specs.Prelude.{◌≡◌, ◌≢◌, ℕ, suc, ◌+◌, ◌-◌, ◌%◌, ◌<◌, ◌≤◌, ◌⊎◌, false, List, ◌++◌, length}
 use Rattle.split_ring.specs.Layout.{size_of, limit_of}
 use Rattle.link_handshake.specs.declared.Phase.TheVariants.{Init, Ready, Run}
@@ -8,12 +8,12 @@ use Rattle.link_invariant.specs.Fields.{Field, UsedId}
 use Rattle.link_invariant.specs.LinkConfig.{LinkConfig, fields, first_words}
 use Rattle.link_invariant.specs.EndInvariant.{frame_at, start_in, OwnSection, EndInvariant}
 
--- the ids below this number were read: of an end that freed so many, but in the middle of its ids
+-- The ids below this number were read: all ids of the frames freed, or fewer while ids are read.
 abbrev pub freed_at : ℕ → Place → ℕ
 freed_at freed (ReadingUsedId pending number more) = number
 freed_at freed place = freed
 
--- What an open poll has read is what the sender spelled, and the items left were accepted
+-- The values that an open poll has read are the sender's, and the items left were accepted
 
 abbrev pub AreAccepted : List (List ℕ) → (number more : ℕ) → Type 0
 AreAccepted frames number more = number + suc more ≤ length frames
@@ -27,7 +27,7 @@ IsOwnStart link_config frames number address = address ≡ start_in link_config 
 abbrev pub IsSize : List (List ℕ) → (number bytes : ℕ) → Type 0
 IsSize frames number bytes = bytes ≡ length (frame_at frames number)
 
--- the used id stands
+-- The used id of this number is written.
 abbrev pub IsNamed : LinkConfig → (Field → ℕ) → ℕ → Type 0
 IsNamed link_config field number = field (UsedId (number % size_of link_config.sizes)) ≡ number % limit_of link_config.sizes
 
@@ -47,8 +47,9 @@ Polls link_config field frames (WritingUsedLength number more) = AreAccepted fra
 Polls link_config field frames (WritingUsedIndex number more) = AreAccepted frames number more × IsNamed link_config field number
 Polls link_config field frames place = Unit {0}
 
--- the frames on their way: of a sender by what it accepted and freed and the ids that it has read; of a taker by what it delivered and returned, its place in
--- a call, and the fields of its section
+-- The frames in flight: of a sender by the frames accepted and freed and the ids read; of a
+-- receiver by the frames delivered and returned, its place in a call, and the fields of its
+-- section.
 pub record InFlight (link_config : LinkConfig) (field : Field → ℕ) (accepted : List (List ℕ)) (freed read : ℕ) (delivered : List (List ℕ)) (returned : ℕ)
     (place : Place) : Type 0 where
   pub returns : freed ≤ returned
@@ -57,24 +58,25 @@ pub record InFlight (link_config : LinkConfig) (field : Field → ℕ) (accepted
   pub named : (k : ℕ) → read ≤ k → k < returned → IsNamed link_config field k
   pub polls : Polls link_config field accepted place
 
--- from an end to another, whose section has these fields
+-- The frames in flight from one end to another, whose section has these fields.
 abbrev pub InFlightBetween : LinkConfig → (Field → ℕ) → (from : End) (from_place : Place) (to : End) (to_place : Place) → Type 0
 InFlightBetween link_config field from from_place to to_place = InFlight link_config field from.accepted from.freed (freed_at from.freed from_place) to.delivered to.returned to_place
 
--- the end attends to the other's session: it is in RUN, or about to set it
+-- The end is attached to the other's session: it is in RUN, or about to set it.
 abbrev pub IsAttached : End → Place → Type 0
 IsAttached end place = (end.handshake.phase ≡ Run) ⊎ ((end.handshake.phase ≡ Ready) × (place ≡ WritingState 3))
 
--- the end opens no session: it is not in INIT nor about to set it
+-- The end opens no session: it is neither in INIT nor about to set it.
 abbrev pub OpensNone : End → Place → Type 0
 OpensNone end place = (end.handshake.phase ≢ Init) × (place ≢ WritingState 1)
 
--- either of two ends attends
+-- Either of two ends is attached.
 abbrev pub EitherIsAttached : (ends : ℕ → End) (places : ℕ → Place) → ℕ → Type 0
 EitherIsAttached ends places p = IsAttached (ends p) (places p) ⊎ IsAttached (ends (1 - p)) (places (1 - p))
 
--- the pair: each end alone, none of them at a refusal or marked by one; while an end attends, the other opens no session; and as soon as either attends, the
--- frames in flight are spelled, and those of both directions are linked
+-- The pair: each end satisfies its own invariant, and none is at a refusal or has its mark. While
+-- an end is attached, the other opens no session. As soon as either is attached, the sections hold
+-- the frames in flight of both directions.
 pub record Pair (link_config : LinkConfig) (memory : ℕ → ℕ) (ends : ℕ → End) (places : ℕ → Place) : Type 0 where
   pub alone : (p : ℕ) → p < 2 → EndInvariant link_config memory p (ends p) (places p)
   pub sound : (p : ℕ) → p < 2 → ((ends p).handshake.mark ≡ false) × (places p ≢ Refusing)

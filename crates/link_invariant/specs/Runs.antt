@@ -1,4 +1,4 @@
--- Where two ends come, by whatever they do over memory.
+-- The states that two ends can reach over the region's words.
 use Rattle.std.specs.Prelude.{ℕ, ◌≡◌, ◌-◌, ◌<◌, Bool, true}
 use Rattle.call_grammar.specs.Ends.{End, fresh}
 use Rattle.call_grammar.specs.Calls.{Call}
@@ -9,7 +9,8 @@ use Rattle.link_invariant.specs.Steps.{IsUntouched, BeginsCall, TakesStep, IsRes
 use Rattle.link_invariant.specs.LinkInvariant.{LinkInvariant}
 use Rattle.link_invariant.specs.Sides.{SideIs}
 
--- from their start on, an honest end begins a call where none is open, takes the step at its place, or is reset; and words may change that are no honest end's
+-- From the start on, an honest end without an open call begins one, an honest end makes the step at
+-- its place, or is reset. Words may change that are no honest end's.
 pub data Runs (link_config : LinkConfig) (honest : ℕ → Bool) : (ℕ → ℕ) → (ℕ → End) → (ℕ → Place) → Type 0 where
   starts : (memory : ℕ → ℕ) (ends : ℕ → End) (places : ℕ → Place) →
       ((w : ℕ) → memory w ≡ 0) → ((p : ℕ) → ends p ≡ fresh) → ((p : ℕ) → places p ≡ Closed) → Runs link_config honest memory ends places
@@ -22,16 +23,17 @@ pub data Runs (link_config : LinkConfig) (honest : ℕ → Bool) : (ℕ → ℕ)
   others : (memory after : ℕ → ℕ) (ends : ℕ → End) (places : ℕ → Place) → Runs link_config honest memory ends places →
       ((q : ℕ) → q < 2 → honest q ≡ true → IsUntouched link_config memory after q) → Runs link_config honest after ends places
 
--- wherever they come, the whole holds
+-- All runs satisfy the invariant.
 abbrev pub RunsKeepInvariant : Type 0
 RunsKeepInvariant = (link_config : LinkConfig) (honest : ℕ → Bool) (memory : ℕ → ℕ) (ends : ℕ → End) (places : ℕ → Place) → IsLinkConfig link_config →
     Runs link_config honest memory ends places → LinkInvariant link_config honest memory ends places
 
--- of two honest ends
+-- Runs of two honest ends.
 abbrev pub HonestRuns : LinkConfig → (ℕ → ℕ) → (ℕ → End) → (ℕ → Place) → Type 0
 HonestRuns link_config memory ends places = Runs link_config (λ p. true) memory ends places
 
--- wherever two honest ends come, they are two sides of a run of the link machine, and so each delivers in order, through all its sessions
+-- In all runs of two honest ends they are two sides of a run of the link machine. So each delivers
+-- in order, through all its sessions.
 abbrev pub HonestRunsDeliver : Type 0
 HonestRunsDeliver = (link_config : LinkConfig) (memory : ℕ → ℕ) (ends : ℕ → End) (places : ℕ → Place) → IsLinkConfig link_config → HonestRuns link_config memory ends places →
     (sides : ℕ → Side) × (logs : ℕ → Log) × MachineRuns link_config.sizes (λ p. true) sides logs ×

@@ -16,7 +16,8 @@ use Rattle.link_invariant.specs.LinkConfig.{LinkConfig, IsLinkConfig, config_of}
 use Rattle.link_invariant.specs.Steps.{ReadsMemory}
 use Rattle.link_invariant.specs.LinkInvariant.{LinkInvariant}
 
--- what a step tells the machine: the value that its read gave or the write of its State, and then its marks
+-- The side events of a step: the value that its read met or the write of its State, and then its
+-- marks.
 abbrev pub side_events_of : Access → (value : ℕ) → List SideEvent
 side_events_of (access.Read word) value = Gave value ∷ []
 side_events_of (access.State state) value = Wrote state ∷ []
@@ -25,21 +26,22 @@ side_events_of _ value = []
 abbrev pub side_events_by : Step → List SideEvent
 side_events_by step = side_events_of step.access step.value ++ map Marked step.marks
 
--- an honest side goes along these rows, while the other stays as it is
+-- An honest side satisfies these rows in order, while the other is unchanged.
 abbrev pub FollowsRows : Sizes → Bool → Side → Side → List SideEvent → Side → Type 0
 FollowsRows sizes theirs other side [] new = new ≡ side
 FollowsRows sizes theirs other side (told ∷ tolds) new = (mid : Side) × Row sizes true theirs side other told mid × FollowsRows sizes theirs other mid tolds new
 
--- the side saw a value from which the end moves to this state
+-- The side saw a value from which the end moves to this State.
 abbrev pub SawFor : End → Option ℕ → ℕ → Type 0
 SawFor end seen state = (value : ℕ) × (seen ≡ Some value) × MovesTo end.handshake.phase value state
 
--- so many items are left of those that the poll found
+-- `count` items are left of those that the poll found.
 abbrev pub HasLeft : End → Side → ℕ → Type 0
 HasLeft end side count = side.looked ≡ length end.delivered + count
 
--- What the side holds of the open call: of a tick that moves what it saw; of an offer how many ids it has read since its reclaim; of a poll how many items
--- are left, and what it has read of the one in hand
+-- The side at a place of the open call. A tick that moves has the value that it saw. An offer has
+-- the number of ids that it has read since its reclaim. A poll has the number of items left, and
+-- the values read of the current one.
 abbrev pub CallIs : End → Place → Side → Type 0
 CallIs end (Clearing at more state) side = SawFor end side.seen state × (side.read ≡ [])
 CallIs end (WritingState state) side = ((state ≡ 0) ⊎ SawFor end side.seen state) × (side.read ≡ [])
@@ -65,7 +67,7 @@ CallIs end (WritingUsedIndex number more) side = HasLeft end side more × (side.
 CallIs end RingingPoll side = HasLeft end side 0 × (side.read ≡ [])
 CallIs end place side = side.read ≡ []
 
--- an end at a place is this side of the machine
+-- An end at a place is this side of the machine.
 pub record SideIs (end : End) (place : Place) (side : Side) : Type 0 where
   pub state : side.state ≡ state_of end.handshake.phase
   pub refused : side.refused ≡ end.handshake.mark
@@ -75,8 +77,9 @@ pub record SideIs (end : End) (place : Place) (side : Side) : Type 0 where
   pub freed : side.freed ≡ end.freed
   pub call : CallIs end place side
 
--- a fresh end is a fresh side; a call begins at the same side; each step of an honest end goes along the rows of the machine, against an other that is honest
--- or hostile; and so does its device reset
+-- The initial end is the initial side, and a call begins at the same side. Each step of an honest
+-- end satisfies rows of the machine, against an honest or hostile other, and so does its device
+-- reset.
 pub record StepsFollowRows : Type 0 where
   pub starts : SideIs fresh Closed initial_side
   pub begins : (config : EndConfig) (end : End) (call : Call) (side : Side) → SideIs end Closed side → SideIs end (first_place config end call) side

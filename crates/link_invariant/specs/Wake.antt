@@ -1,5 +1,7 @@
--- The rule of wakes: an event asks for a doorbell at a frame, and that doorbell is rung.
--- Source: VIRTIO 1.1 section 2.6.10, by which avail_event asks for a notification; profile for the order of steps.
+-- The notification rule: avail_event wants a doorbell for a frame, and that doorbell is rung.
+--
+-- Source: VIRTIO 1.1 section 2.6.10, by which avail_event wants a notification; profile for the
+-- order of steps.
 use Rattle.std.specs.Prelude.{ℕ, ◌≡◌, ◌-◌, ◌%◌, ◌<◌, ◌≤◌, ◌⊎◌, Bool, length}
 use Rattle.call_grammar.specs.Ends.{End}
 use Rattle.call_grammar.specs.Polls.{published_by}
@@ -9,23 +11,29 @@ use Rattle.link_invariant.specs.LinkConfig.{LinkConfig, IsLinkConfig, config_of,
 use Rattle.link_invariant.specs.Steps.{ReadsMemory, TakesStep}
 use Rattle.link_invariant.specs.Pair.{Pair}
 
--- the event of end p stands at frame k
+-- The avail_event of end p is frame k's number.
 abbrev pub EventIndexIs : LinkConfig → (ℕ → ℕ) → (p k : ℕ) → Type 0
 EventIndexIs link_config memory p k = fields link_config memory p AvailEvent ≡ k % 65536
 
--- end p asks for a doorbell at frame k: its event stands there, and the other hasn't accepted that frame, or is yet to read the event after it
+-- End p wants a doorbell for frame k: its avail_event is k, and the other hasn't accepted that
+-- frame, or reads avail_event next after accepting it.
 pub record Asks (link_config : LinkConfig) (memory : ℕ → ℕ) (ends : ℕ → End) (places : ℕ → Place) (p k : ℕ) : Type 0 where
   pub event : EventIndexIs link_config memory p k
   pub ahead : (length (ends (1 - p)).accepted ≤ k) ⊎ (places (1 - p) ≡ ReadingAvailEvent k)
 
--- the step at a place writes the own event: by its arming, or as the section is cleared
+-- The step at a place writes the own avail_event: by itself, or as the section is cleared.
 abbrev pub WritesEvent : Place → Type 0
 WritesEvent (WritingAvailEvent taken) = Unit {0}
 WritesEvent (Clearing at more state) = Unit {0}
 WritesEvent place = ⊥
 
--- In the pair an arming leaves the event at the next frame. A look that finds nothing while the event stands there asks at that frame. What is asked stays so
--- by each step of the asking end that doesn't write its event, and by each step of the other, but by the one that comes to ring the doorbell
+-- The notification rule in the pair:
+-- - the write of avail_event sets it to the next frame's number;
+-- - a read of the available index that finds no frame while avail_event is that number makes the
+--   end want a doorbell for that frame;
+-- - the end still wants it after each own step that doesn't write avail_event;
+-- - the end still wants it after each step of the other, except the step that leads to the
+--   doorbell.
 pub record AskedDoorbellIsRung : Type 0 where
   pub arms : (link_config : LinkConfig) (memory after : ℕ → ℕ) (ends after_ends : ℕ → End) (places after_places : ℕ → Place) (p taken value : ℕ) → IsLinkConfig link_config →
       p < 2 → Pair link_config memory ends places → TakesStep link_config memory after ends after_ends places after_places p value → places p ≡ WritingAvailEvent taken →

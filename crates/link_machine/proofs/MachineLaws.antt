@@ -26,15 +26,15 @@ abbrev pub SawHigh : Option ℕ → Type 0
 SawHigh None = ⊥
 SawHigh (Some v) = 2 ≤ v
 
--- in RUN, or in READY and on the way there
+-- The side is attached: in RUN, or in READY and about to set RUN.
 abbrev pub Attends : Side → Type 0
 Attends p = (p.state ≡ 3) ⊎ ((p.state ≡ 2) × SawHigh p.seen)
 
--- not in INIT nor on the way there
+-- The side opens no session: it is neither in INIT nor about to set it.
 abbrev pub OpensNone : Side → Type 0
 OpensNone q = (q.state ≢ 1) × (q.state ≡ 0 → ¬ SawLow q.seen)
 
--- on the way to a session in RUN
+-- The side is about to open a session or to enter RUN.
 abbrev pub Begins : Side → Type 0
 Begins p = (p.state ≡ 1) ⊎ ((p.state ≡ 2) ⊎ ((p.state ≡ 0) × SawLow p.seen))
 
@@ -54,7 +54,7 @@ pub record Half (p q : Side) (l m : Log) : Type 0 where
   pub past : AreBeginnings m q l.ended
   pub falls : CarriedFall (bound p l) l.ended
 
--- What a step does to a side and its log
+-- The effect of a step on a side and its log
 
 pub record KeepsSessions (l l' : Log) : Type 0 where
   pub opened : l'.opened ≡ l.opened
@@ -75,7 +75,7 @@ pub data Kind (p q : Side) (l m : Log) (new : Side) (l' : Log) : Type 0 where
   delivers : p.state ≡ 3 → (frame : List ℕ) → new.state ≡ 3 → new.seen ≡ p.seen → new.accepted ≡ p.accepted → new.delivered ≡ p.delivered ++ frame ∷ [] → slice_get q.accepted (length p.delivered) ≡ Some frame → l' ≡ l → Kind p q l m new l'
   counts : new.state ≡ p.state → new.seen ≡ p.seen → Keeps p new → l' ≡ l → Kind p q l m new l'
 
--- the moves of the phase table
+-- The moves of the phase table.
 pub table : (phase : Phase) (v n : ℕ) → MovesTo phase v n → (n ≡ 0) ⊎ (((phase ≡ Reset) × (v ≤ 1) × (n ≡ 1)) ⊎ (((phase ≡ Init) × (1 ≤ v) × (n ≡ 2)) ⊎ ((phase ≡ Ready) × (2 ≤ v) × (n ≡ 3))))
 table Reset zero n (inl e) = inr (inl (refl, omega arith, (cc)))
 table Reset (suc zero) n (inl e) = inr (inl (refl, omega arith, (cc)))
@@ -116,7 +116,7 @@ is_ready (suc zero) e = absurd (cc)
 is_ready (suc (suc zero)) e = refl
 is_ready (suc (suc (suc v))) e = absurd (cc)
 
--- a write of the state, by the state that it writes
+-- A write of the State, by the State that it writes.
 wrote_zero : (p q : Side) (l m : Log) → Kind p q l m (side_with p 0) (log_after l m p (Wrote 0))
 wrote_zero p q l m = falls_to refl refl record { accepted = refl; delivered = refl } record { opened = refl; carried = refl; earlier = λ k. refl } refl
 
@@ -155,7 +155,8 @@ kind_of sizes p q l m (Wrote n) new (inr h, is) = subst (λ (s : Side). Kind p q
 kind_of sizes p q l m (Marked mark) new row = mark_kind sizes p q l m mark new row.1
 kind_of sizes p q l m WasReset new is = subst (λ (s : Side). Kind p q l m s (log_after l m p WasReset)) (sym is) (falls_to refl refl record { accepted = refl; delivered = refl } record { opened = refl; carried = refl; earlier = λ k. refl } refl)
 
--- Sessions that are over stay beginnings, where the accepted lists that they carried grow or stay
+-- The deliveries of sessions that are over stay beginnings if the accepted lists that they carried
+-- only grow.
 
 beginnings_kept : (m m' : Log) (q q' : Side) (sessions : List Ended) → ((k : ℕ) → k ≤ m.opened → (k ≤ m'.opened) × ((more : List (List ℕ)) × (accepted_in m' q' k ≡ accepted_in m q k ++ more))) → AreBeginnings m q sessions → AreBeginnings m' q' sessions
 beginnings_kept m m' q q' [] grow h = tt
@@ -191,12 +192,12 @@ ended_falls p q l m h = dite (ℕ_discrete p.state 3)
     (omega arith, subst (λ b. CarriedFall b l.ended) (bound_run p l e) h.falls))
     (λ ne. subst (CarriedFall (l.carried + 1)) (sym (not_run p l ne)) (subst (λ b. CarriedFall b l.ended) (bound_else p l ne) h.falls))
 
--- where the state is below RUN and saw nothing high, the side attends to nothing
+-- A side below RUN that saw no State of 2 or more isn't attached.
 idle : (p : Side) → p.state ≢ 3 → (p.state ≡ 2 → ¬ SawHigh p.seen) → Attends p → ⊥
 idle p ne low (inl e) = ne e
 idle p ne low (inr h) = low h.0 h.1
 
--- a side that the other attends to doesn't begin
+-- A side to which the other is attached doesn't begin a session.
 steady : (p q : Side) (l m : Log) → Half q p m l → Attends q → p.state ≡ 0 → SawLow p.seen → ⊥
 steady p q l m o a e low = (o.cross a).1 e low
 
@@ -208,14 +209,14 @@ same_attends : (p new : Side) → new.state ≡ p.state → new.seen ≡ p.seen 
 same_attends p new s n (inl e) = inl (sym s ∙ e)
 same_attends p new s n (inr h) = inr (sym s ∙ h.0, subst SawHigh n h.1)
 
--- the next frame of a list that begins so
+-- The next frame of a list that begins with `done`.
 next_is : (frames done rest : List (List ℕ)) (frame : List ℕ) → frames ≡ done ++ rest → slice_get frames (length done) ≡ Some frame → (more : List (List ℕ)) × (frames ≡ (done ++ frame ∷ []) ++ more)
 next_is frames done [] frame is next = absurd (let lt = slice_get_within frames (length done) frame next in omega (arith, ap length is, length-append done []))
 next_is frames done (g ∷ rest) frame is next =
     let same : g ≡ frame = sym (get_or-append_seam done g rest []) ∙ (ap (λ (l : List (List ℕ)). get_or l (length done) []) (sym is) ∙ get_or_from_slice_get frames (length done) frame [] next) in
     (rest, is ∙ (ap (λ (x : List ℕ). done ++ x ∷ rest) same ∙ sym (append_assoc done (frame ∷ []) rest)))
 
--- The side that steps
+-- The side that makes the step
 
 mine_lem : (p q new : Side) (l m l' : Log) → Kind p q l m new l' → Half p q l m → Half q p m l → Half new q l' m
 mine_lem p q new l m l' (falls_to s n k ks ended) h o = let none : Attends new → ⊥ = idle new (λ e. omega arith) (λ e. absurd (omega arith)) in record {
@@ -453,7 +454,7 @@ theirs_lem p q new l m l' (counts s n k same) h o = subst (λ (x : Log). Half q 
   falls = o.falls;
 }
 
--- Along a run
+-- All steps of a run
 
 fresh_half : Half initial_side initial_side no_sessions no_sessions
 fresh_half = record {

@@ -1,4 +1,5 @@
--- The link machine: what the steps of the two link peers may do to their states, lists and counts. It has no rings, places or doorbells (profile).
+-- The link machine: the effects that the steps of the two link peers may have on their States,
+-- lists and counts. It has no rings, places or doorbells (profile).
 use Rattle.std.specs.Prelude.{ℕ, ◌≡◌, ◌≢◌, ◌%◌, ◌+◌, ◌-◌, ◌<◌, ◌≤◌, ◌==◌, ◌⊎◌, Bool, true, false, if◌then◌else◌, Option, Some, None, List, [], ◌∷◌, ◌++◌, length, slice_get}
 use Rattle.link_handshake.specs.PhaseTable.{phase_at}
 use Rattle.split_ring.specs.declared.ranges.FieldName.{FieldName}
@@ -12,9 +13,12 @@ use Rattle.call_grammar.specs.Steps.{Mark, Saw, Reclaim, Full, Accept, Look, Del
 use Rattle.call_grammar.specs.Words.{address_of, lengths_of}
 use Rattle.call_grammar.specs.Rows.{MovesTo}
 
--- one side of the link: its state word; the value that it saw since it wrote its state last; whether it refused; the values that it read since its last mark or
--- reset; and of its present session the frames accepted and delivered, how far it looked, how many frames it returned and freed, and how many it freed by its
--- last look at the used index
+-- One side of the link:
+-- - its State; the value that it saw since it last wrote its State; and whether it refused;
+-- - the values that it read since its last mark or reset;
+-- - of its present session, the frames accepted and delivered, the number of frames published as
+--   far as it looked, and the numbers of frames returned and freed;
+-- - the number of frames freed by its last read of the used index.
 pub record Side : Type 0 where
   pub state : ℕ
   pub seen : Option ℕ
@@ -30,19 +34,21 @@ pub record Side : Type 0 where
 abbrev pub initial_side : Side
 initial_side = record { state = 0; seen = None; refused = false; read = []; accepted = []; delivered = []; looked = 0; returned = 0; freed = 0; reclaimed = 0 }
 
--- what a step tells the machine: the value that a read gave, a write of the state word, a mark, or the reset of the device
+-- The effect of a step on a side: the value that a read met, a write of the State, a mark, or the
+-- reset of the device.
 pub data SideEvent : Type 0 where
   Gave : (value : ℕ) → SideEvent
   Wrote : (state : ℕ) → SideEvent
   Marked : (mark : Mark) → SideEvent
   WasReset : SideEvent
 
--- an honest side writes 0, or the state to which it moves on from what it saw since its last write, and after a refusal 0 alone; a hostile one any value
+-- An honest side writes 0, or the State of its move for the value that it saw since its last write;
+-- after a refusal it writes only 0. A hostile side writes any value.
 abbrev pub MayWriteState : Bool → Side → ℕ → Type 0
 MayWriteState true side state = (state ≡ 0) ⊎ ((side.refused ≡ false) × ((value : ℕ) × (side.seen ≡ Some value) × MovesTo (phase_at side.state) value state))
 MayWriteState false side state = Unit {0}
 
--- a write of 2 opens a session, whose lists and counts are empty
+-- A write of 2 opens a session, whose lists and counts are empty.
 abbrev pub side_with : Side → ℕ → Side
 side_with side state = record {
   state = state;
@@ -57,28 +63,31 @@ side_with side state = record {
   reclaimed = if state == 2 then 0 else side.reclaimed;
 }
 
--- An index is read once for each use: the one value that the side read since its last mark is the word of the index, and so far the index is from its own count
+-- An index is read once for each use. The only value that the side read since its last mark is the
+-- word of the index. `count` is the distance from the side's own count `own` to that index.
 abbrev pub ReadsIndex : Side → (own count : ℕ) → Type 0
 ReadsIndex side own count = (word : ℕ) × (side.read ≡ word ∷ []) × (count ≡ distance (own % 65536) (high_half word))
 
--- so many frames are reclaimed: all that an honest other returned, or at most those in flight
+-- `count` frames are reclaimed: all that an honest other returned, or at most the frames in flight.
 abbrev pub MayReclaim : Bool → Side → Side → ℕ → Type 0
 MayReclaim true side other count = side.freed + count ≡ other.returned
 MayReclaim false side other count = side.freed + count ≤ length side.accepted
 
--- a look finds all that an honest other accepted, or at most as many as the queue has
+-- A read of the available index finds all frames that an honest other accepted, or at most the
+-- queue size.
 abbrev pub MayLook : Sizes → Bool → Side → Side → ℕ → Type 0
 MayLook sizes true side other count = length side.delivered + count ≡ length other.accepted
 MayLook sizes false side other count = count ≤ size_of sizes
 
--- the next frame that an honest other accepted, or any Ethernet frame
+-- The next frame that an honest other accepted, or any Ethernet frame.
 abbrev pub MayDeliver : Bool → Side → Side → List ℕ → Type 0
 MayDeliver true side other frame = slice_get other.accepted (length side.delivered) ≡ Some frame
 MayDeliver false side other frame = (14 ≤ length frame) × (length frame ≤ 65553)
 
--- the value stands in what the side read last, and is outside the range of its field, counted from the side's own counts. Of an item the reads before it are
--- those
--- of the item, and its length is tested by the address that was read; the j-th id of an offer is that of the j-th frame freed by the offer
+-- The value is in the values that the side read last, and is outside the range of its field,
+-- relative to the side's own counts. For a field of an item, the values read before are the item's,
+-- and the length is tested with the address read. For an offer, the j-th id belongs to the j-th
+-- frame that the offer freed.
 abbrev pub IsBeyond : Sizes → Side → FieldName → ℕ → Type 0
 IsBeyond sizes side field_name.AvailIndex value =
     (word : ℕ) × (side.read ≡ word ∷ []) × (value ≡ high_half word) × (¬ IsAvailIndex sizes (length side.delivered % 65536) value)
@@ -97,13 +106,14 @@ IsBeyond sizes side field_name.UsedId value =
     (ids : List ℕ) × (side.read ≡ ids ++ value ∷ []) × (length ids < side.reclaimed) ×
     (¬ IsUsedId ((side.freed - side.reclaimed + length ids) % limit_of sizes) value)
 
--- the frame has room behind those that the side accepted
+-- The frame fits after the frames that the side has accepted.
 abbrev pub frame_fits : Sizes → Side → List ℕ → Bool
 frame_fits sizes side frame = has_room sizes (lengths_of (side.accepted ++ frame ∷ [])) side.freed (length side.accepted)
 
--- a frame that may be offered does not fit, and at most `limit` frames are in flight; with slots, exactly as many as the limit. The mark
--- carries no frame, so with a byte ring this says less than that the offered frame does not fit. `full_marks` of
--- call_grammar/specs/Offers says exactly that of each offer, by `frame_fits`
+-- A frame that may be offered doesn't fit, and the number of frames in flight is at most the limit.
+-- With slots this number is the limit. The mark has no frame, so with a byte ring this says less
+-- than that the offered frame doesn't fit. `full_marks` of call_grammar/specs/Offers says exactly
+-- that of each offer, by `frame_fits`.
 pub record IsFull (sizes : Sizes) (side : Side) : Type 0 where
   pub frame : List ℕ
   pub least : 14 ≤ length frame
@@ -111,8 +121,9 @@ pub record IsFull (sizes : Sizes) (side : Side) : Type 0 where
   pub none : frame_fits sizes side frame ≡ false
   pub in_flight : length side.accepted ≤ side.freed + limit_of sizes
 
--- the row of a mark: where it is allowed to a side against an other that is honest or not, and what it makes of the side, whose reads begin anew. The marks of
--- offers and polls come in RUN alone
+-- The row of a mark: the condition under which a side may have the mark against an honest or
+-- hostile other, and the side after it. The list of values read is empty after each mark. The marks
+-- of offers and polls need RUN.
 abbrev pub MarkRow : Sizes → Bool → Side → Side → Mark → Side → Type 0
 MarkRow sizes honest side other (Saw value) new = (side.read ≡ value ∷ []) × (value ≡ other.state) × (new ≡ record side { seen = Some value; read = [] })
 MarkRow sizes honest side other (Accept frame) new =
@@ -135,8 +146,9 @@ MarkRow sizes honest side other (Refuse refused) new =
     (honest ≡ false) × (side.state ≡ 3) × IsBeyond sizes side refused.field refused.value × (new ≡ record side { refused = true; read = [] })
 MarkRow sizes honest side other Over new = new ≡ record side { read = [] }
 
--- the row of a step of a side that is honest or not, against an other that is or not. A hostile side has no marks. A reset ends a refusal; the lists stay
--- until the next session
+-- The row of a step of a side, where `mine` and `theirs` say whether the side and the other are
+-- honest. A hostile side has no marks. A reset clears a refusal; the lists stay until the next
+-- session.
 abbrev pub Row : Sizes → (mine theirs : Bool) → Side → Side → SideEvent → Side → Type 0
 Row sizes mine theirs side other (Gave value) new = new ≡ record side { read = side.read ++ value ∷ [] }
 Row sizes mine theirs side other (Wrote state) new = MayWriteState mine side state × (new ≡ side_with side state)
@@ -145,13 +157,15 @@ Row sizes mine theirs side other WasReset new = new ≡ record side { state = 0;
 
 -- The sessions of a side
 
--- a session in RUN that is over: the number of the other's session that it carried, and the frames delivered in it
+-- A session in RUN that is over: the number of the other's session that it carried, and the frames
+-- delivered in it.
 pub record Ended : Type 0 where
   pub carried : ℕ
   pub delivered : List (List ℕ)
 
--- how many sessions a side opened; the number of the other's session that its last session in RUN carried, or 0; the frames accepted in each earlier session;
--- and the sessions in RUN that are over, newest first
+-- The sessions of a side: the number that it opened, and the number of the other's session that its
+-- last session in RUN carried, or 0. `earlier` has the frames accepted in each earlier session, and
+-- `ended` the sessions in RUN that are over, newest first.
 pub record Log : Type 0 where
   pub opened : ℕ
   pub carried : ℕ
@@ -161,15 +175,16 @@ pub record Log : Type 0 where
 abbrev pub no_sessions : Log
 no_sessions = record { opened = 0; carried = 0; earlier = λ number. []; ended = [] }
 
--- the frames accepted in the session of this number
+-- The frames accepted in the session with this number.
 abbrev pub accepted_in : Log → Side → ℕ → List (List ℕ)
 accepted_in log side number = if number == log.opened then side.accepted else log.earlier number
 
--- a session in RUN ends with the next write of the state word
+-- A session in RUN ends with the next write of the State or with a reset.
 abbrev pub ended_with : Log → Side → List Ended
 ended_with log side = if side.state == 3 then record { carried = log.carried; delivered = side.delivered } ∷ log.ended else log.ended
 
--- the log after a step of its side: a write of 2 opens a session, and one of 3 carries the session that the other opened last
+-- The log after a step of its side: a write of 2 opens a session, and a write of 3 carries the
+-- session that the other opened last.
 abbrev pub log_after : Log → Log → Side → SideEvent → Log
 log_after log others side (Wrote state) = record {
   opened = if state == 2 then log.opened + 1 else log.opened;
@@ -181,33 +196,37 @@ log_after log others side (Gave value) = log
 log_after log others side (Marked mark) = log
 log_after log others side WasReset = record log { ended = ended_with log side }
 
--- what the two sides and their sessions come to, by steps from the start
+-- The states of the two sides and their sessions that steps can reach from the start.
 pub data MachineRuns (sizes : Sizes) (honest : ℕ → Bool) : (ℕ → Side) → (ℕ → Log) → Type 0 where
   starts : (sides : ℕ → Side) (logs : ℕ → Log) → ((p : ℕ) → sides p ≡ initial_side) → ((p : ℕ) → logs p ≡ no_sessions) → MachineRuns sizes honest sides logs
   goes : (sides after : ℕ → Side) (logs new_logs : ℕ → Log) (p : ℕ) (told : SideEvent) → MachineRuns sizes honest sides logs → p < 2 →
       Row sizes (honest p) (honest (1 - p)) (sides p) (sides (1 - p)) told (after p) → after (1 - p) ≡ sides (1 - p) →
       new_logs p ≡ log_after (logs p) (logs (1 - p)) (sides p) told → new_logs (1 - p) ≡ logs (1 - p) → MachineRuns sizes honest after new_logs
 
--- each of these sessions delivered a beginning of what the other accepted in the session that it carried
+-- Each of these sessions delivered a beginning of what the other accepted in the session that it
+-- carried.
 abbrev pub AreBeginnings : Log → Side → List Ended → Type 0
 AreBeginnings others other [] = Unit {0}
 AreBeginnings others other (session ∷ sessions) = (session.carried ≤ others.opened) ×
     ((rest : List (List ℕ)) × (accepted_in others other session.carried ≡ session.delivered ++ rest)) × AreBeginnings others other sessions
 
--- the numbers that these sessions carried fall from below this one: no two carried the same
+-- The numbers that these sessions carried descend from below `above`: no two sessions carried the
+-- same.
 abbrev pub CarriedFall : ℕ → List Ended → Type 0
 CarriedFall above [] = Unit {0}
 CarriedFall above (session ∷ sessions) = (session.carried < above) × CarriedFall session.carried sessions
 
--- what a side has delivered: in RUN the beginning of what the other accepts in its present session, which the other has carried on since; in each session
--- that is over the beginning of what was accepted in the session that it carried; and no session was carried twice
+-- A side delivers in order. In RUN it delivered a beginning of what the other accepted in its
+-- present session, which is the one that the side carries. In each session that is over it
+-- delivered a beginning of what was accepted in the session that it carried. No session was carried
+-- twice.
 pub record DeliversInOrder (side other : Side) (log others : Log) : Type 0 where
   pub present : side.state ≡ 3 → (log.carried ≡ others.opened) × ((rest : List (List ℕ)) × (other.accepted ≡ side.delivered ++ rest)) ×
       CarriedFall log.carried log.ended
   pub past : AreBeginnings others other log.ended
   pub once : CarriedFall (log.carried + 1) log.ended
 
--- in a run of two honest sides each delivers in order, through all sessions
+-- In a run of two honest sides each delivers in order, through all sessions.
 abbrev pub MachineDelivers : Type 0
 MachineDelivers = (sizes : Sizes) (honest : ℕ → Bool) (sides : ℕ → Side) (logs : ℕ → Log) → honest 0 ≡ true → honest 1 ≡ true →
     MachineRuns sizes honest sides logs →

@@ -1,4 +1,4 @@
--- How the lawful history goes on after the lines that a course took.
+-- How the lawful history goes on after the lines that an expected run took.
 use Rattle.std.proofs.Common.{◌≡◌, ◌≢◌, ℕ, Bool, true, false, zero, suc, ◌<◌, ◌≤◌, ◌+◌, ◌-◌, List, [], ◌∷◌, ◌++◌, length, get_or, take, drop, replicate, refl, sym, ◌∙◌, ap, subst, arith, append_assoc, inl, inr}
 use Rattle.std.specs.Prelude.{◌⊎◌, ◌&&◌, ◌==◌, if◌then◌else◌, Some, None, reverse, slice_get}
 use Rattle.std.proofs.lemmas.List.{append-nil, length-append, reverse-append, take-append-drop, take_all, take_more}
@@ -28,7 +28,7 @@ use Rattle.link_model.specs.ExpectedRun.{world_in, recorded_of, IsPlayed, IsAlon
 use Rattle.link_model.proofs.Differing.{none_begins}
 use Rattle.link_model.proofs.Playing.{no_turns}
 
--- what a record tells of lines begins with what it tells of the first of them
+-- what a record has of lines begins with what it has of the first of them
 begins_by_test : (world : World) (a b : List Line) (test : Bool) →
     (more : List Line) × ((if test then with_sessions world [] (a ++ b) else a ++ b) ≡ (if test then with_sessions world [] a else a) ++ more)
 begins_by_test world a b true = (with_sessions world (reverse a ++ []) b, with_sessions-append world [] a b)
@@ -37,7 +37,8 @@ begins_by_test world a b false = (b, refl)
 told_begins : (world : World) (version : ℕ) (a b : List Line) → (more : List Line) × (recorded_in world version (a ++ b) ≡ recorded_in world version a ++ more)
 told_begins world version a b = begins_by_test world a b (version == 2)
 
--- what a record tells of the history goes on from the lines of a simulator that hasn't played all events
+-- what a record has of the history goes on from the lines of a simulator that hasn't played all
+-- events
 follows : (world : World) (output : Output) (events rest : List Event) (s : Simulator) → RunsTo world output events s → events ++ rest ≡ schedule world.acts →
     (more : List Line) × (recorded_in world output.version (history world) ≡ (output.drained ++ kept_lines s) ++ more)
 follows world output events rest s runs all =
@@ -74,7 +75,7 @@ head_of_more [] more p inside = absurd (omega arith)
 head_of_more (x ∷ xs) more zero inside = refl
 head_of_more (x ∷ xs) more (suc p) inside = head_of_more xs more p (omega arith)
 
--- how what is told goes on after the lines taken: its next line is the one that waits on the simulator
+-- the record goes on after the lines taken: its next line is the one that waits on the simulator
 abbrev GoesOnBy : List Line → ExpectedRun → Type 0
 GoesOnBy lines c = (after : List Line) × (recorded_of c ≡ lines ++ after) × (head_of after ≡ slice_get (kept_lines c.simulator) c.passed)
 
@@ -204,7 +205,7 @@ drop_frames (line ∷ lines) (suc n) frames = drop_frames lines n (second_true (
 pub frames_wait : (lines : List Line) (c : ExpectedRun) → GoesOn lines c → HaveFrames (drop c.passed (kept_lines c.simulator))
 frames_wait lines c goes = drop_frames (kept_lines c.simulator) c.passed goes.along.played.runs.after.log.frames
 
--- the lines taken are the first ones that are told
+-- the lines taken are the first ones of the record
 pub counted : (lines : List Line) (c : ExpectedRun) (next : ℕ) → GoesOn lines c → next ≡ length lines + 1 → take (next - 1) (recorded_of c) ≡ lines
 counted lines c next goes number =
     let after = expects lines c goes in

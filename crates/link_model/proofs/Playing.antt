@@ -1,4 +1,4 @@
--- What is played on a course, turn by turn and act by act.
+-- What an expected run plays, turn by turn and act by act.
 use Rattle.std.proofs.Common.{◌≡◌, ℕ, zero, suc, ◌<◌, ◌+◌, ◌-◌, List, [], ◌∷◌, ◌++◌, length, get_or, take, drop, replicate, refl, sym, ◌∙◌, ap, subst, arith, append_assoc}
 use Rattle.std.proofs.lemmas.Grind.{common_steps}
 use Rattle.std.proofs.lemmas.List.{append-nil, length-append}
@@ -71,7 +71,7 @@ one_act_less acts at a inside is =
     let here : drop at acts ≡ a ∷ drop (at + 1) acts = grind (arith, common_steps, drop-cons acts at a inside, is) in
     ap (λ (xs : List Act). length (schedule xs)) here ∙ length-append (events_of a) (schedule (drop (at + 1) acts))
 
--- a course at its start
+-- an expected run at its start
 pub at_first : (c : ExpectedRun) → RunsTo (world_in c) (no_output c.version) [] c.simulator → c.at ≡ 0 → c.left ≡ 0 → c.passed ≡ 0 → IsAlong [] c
 at_first c runs at left passed = record {
   output = no_output c.version;

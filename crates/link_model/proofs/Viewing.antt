@@ -12,7 +12,7 @@ use Rattle.link_model.specs.Taken.{Taking, IsCause}
 use Rattle.link_model.specs.ExpectedRun.{world_in, recorded_of, GoesOn}
 use Rattle.link_model.proofs.Expecting.{begins, counted}
 
--- what is seen of a course after which this line comes next
+-- the view of an expected run after which the line with this number comes next
 abbrev pub seen : ExpectedRun → ℕ → Option StepFault → Taking
 seen c next fault = record { world = world_in c; version = c.version; lines = take (next - 1) (recorded_of c); fault = fault }
 

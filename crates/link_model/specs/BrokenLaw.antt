@@ -1,4 +1,4 @@
--- Which law a line breaks that isn't the line of the lawful history at its place.
+-- The law that a line breaks if it isn't the line of the lawful history at its place.
 use Rattle.std.specs.Prelude.{ℕ, ◌==◌, ◌||◌, not, if◌then◌else◌, Bool, true, false, Option, Some, None}
 use Rattle.lawful_history.specs.declared.line.Line.{Line}
 use Rattle.lawful_history.specs.declared.line.Line.TheVariants as line
@@ -7,7 +7,7 @@ use Rattle.link_model.specs.declared.fault.Law.TheVariants.{Order, Device, Touch
 use Rattle.link_model.specs.declared.law.Kind.{Kind}
 use Rattle.link_model.specs.declared.law.Kind.TheVariants.{Scheduled, OfDevice, WasDenied, WasRead, Marked, Accessed}
 
--- what a line is, for this question
+-- the kind of a line
 abbrev pub kind_of : Line → Kind
 kind_of (line.Read peer word value) = WasRead word
 kind_of (line.Write peer word value) = Accessed
@@ -37,7 +37,7 @@ kind_of (line.Return peer) = Marked
 kind_of (line.Refuse peer refused) = Marked
 kind_of (line.Session peer opened other) = Marked
 
--- whose line it is
+-- the peer of a line
 abbrev pub peer_of : Line → ℕ
 peer_of (line.Read peer word value) = peer
 peer_of (line.Write peer word value) = peer
@@ -92,7 +92,8 @@ abbrev pub are_reads_of_one : Kind → Kind → Bool
 are_reads_of_one (WasRead word) other = is_read_of word other
 are_reads_of_one _ other = false
 
--- the law by what the line due and the line found are, and by whether they are of one peer: the first rule that applies (profile)
+-- the law of the first rule that applies to the kinds of the line due and of the line found, which
+-- are of one peer or not (profile)
 abbrev pub law_by : (due found : Kind) → (one_peer : Bool) → Law
 law_by due found one_peer =
     if is_scheduled due || is_scheduled found then Order
@@ -103,7 +104,8 @@ law_by due found one_peer =
     else if is_mark due || is_mark found then Link
     else Call
 
--- the law that is broken where the lawful history has the first line, if any, and the second one stands there, if any
+-- the law that is broken if the lawful history has the line `due` at a place, and the lines found
+-- have the line `found`; None where there is no line
 abbrev pub law_between : (due found : Option Line) → Law
 law_between None found = Order
 law_between (Some due) None = Order

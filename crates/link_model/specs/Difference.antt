@@ -1,4 +1,5 @@
--- Where a list of lines leaves what a record tells of the lawful history of a scenario. Lines are lawful in a version where a record of it tells them.
+-- The place where a list of lines differs from what a record of a version has of the lawful history
+-- of a scenario. Lines are lawful in a version if a record of that version has them.
 use Rattle.std.specs.Prelude.{ℕ, ◌≡◌, ◌≢◌, ◌+◌, ◌≤◌, Option, Some, None, List, [], ◌∷◌, ◌++◌, length}
 use Rattle.scenario_text.specs.Scenario.{World}
 use Rattle.lawful_history.specs.declared.line.Line.{Line}
@@ -11,8 +12,9 @@ abbrev pub head_of : List Line → Option Line
 head_of [] = None
 head_of (line ∷ lines) = Some line
 
--- the lawful history and the lines found are the same up to a place, and differ there, or one of them has ended there; the fault
--- has the number of that line, from 1, and the law that is broken between the two
+-- The lawful history and the lines found are equal up to a place. There they have different lines,
+-- or one of them is over. The fault is the number of that line, from 1, and the law that is broken
+-- between the two.
 pub record DiffersAt (lawful found : List Line) (fault : Unlawful) : Type 0 where
   pub before : List Line
   pub due : List Line
@@ -31,11 +33,12 @@ Begins world version lines = (lawful : List Line) → IsLawfulIn world version l
 abbrev pub BeginsNone : World → (version : ℕ) → List Line → Type 0
 BeginsNone world version lines = (lawful rest : List Line) → IsLawfulIn world version lawful → lawful ≢ lines ++ rest
 
--- the lines differ from each lawful history of the scenario there
+-- the lines differ from each lawful history of the scenario at the line of the fault
 abbrev pub Differs : World → (version : ℕ) → List Line → Unlawful → Type 0
 Differs world version lines fault = (lawful : List Line) → IsLawfulIn world version lawful → DiffersAt lawful lines fault
 
--- one of these lines is the first that isn't lawful, and no lawful history begins with them
+-- the line of the fault is the first of these lines that is unlawful, so no lawful history begins
+-- with them
 pub record Leaves (world : World) (version : ℕ) (lines : List Line) (fault : Unlawful) : Type 0 where
   pub none : BeginsNone world version lines
   pub differs : Differs world version lines fault

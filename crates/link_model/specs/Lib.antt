@@ -1,4 +1,5 @@
 pub mod BrokenLaw
 pub mod Difference
 pub mod Taken
+pub mod ScenarioParts
 pub mod ExpectedRun

@@ -1,6 +1,8 @@
-//! The lawful history on its course: a simulator that is played only as far as the lines that are taken.
+//! The expected run: the lawful history of a scenario, played only as far as the lines that are
+//! compared with it.
 ghost use Rattle.std.specs.Prelude.{◌≡◌, ◌≢◌, ◌+◌, ◌-◌, ◌^◌, ◌<◌, Some, IsTrue, List, [], ◌∷◌, ◌++◌, IfOk, OnOk, IfErr, MatchResult, true, false, length, drop, slice_get, slice_index_or};
 ghost use Rattle.std.specs.Option.{option_copied};
+ghost use Rattle.lawful_history.specs.Sides.{world_of};
 ghost use Rattle.lawful_history.specs.Lawful.{IsLawfulIn};
 ghost use Rattle.lawful_history.specs.Versions.{is_version};
 ghost use Rattle.lawful_history.specs.Frames.{HaveFrames};
@@ -10,6 +12,7 @@ ghost use Rattle.link_model.specs.Difference.{Differs};
 ghost use Rattle.link_model.specs.Taken.{IsCause};
 ghost use Rattle.link_model.specs.ExpectedRun.{world_in, IsPlayed, IsAlong, IsOver, GoesOn, remains};
 
+use crate::copying::{ScenarioParts, parts_of};
 use crate::fault::{Law, StepFault, Unlawful};
 use crate::law::broken_law;
 use ivs_base::NoMemory;
@@ -18,42 +21,39 @@ use scenario_text::{Act, Scenario};
 use simulator::Simulator;
 use std::alloc::Global;
 
-/// So many lines wait at once where lines are passed over, or a few more.
+/// The least number of lines that wait after a part is played, unless the schedule is over.
 const PART: usize = 256;
 
-/// A scenario, the simulator that plays it, and how far.
+/// A scenario, and the simulator that plays it as far as the lines that were taken.
 #[derive(Drop)]
-pub struct ExpectedRun<'a> {
+pub struct ExpectedRun {
     /// The scenario.
-    pub scenario: &'a Scenario,
+    pub scenario: ScenarioParts,
     /// The version of the record whose lines are taken.
     pub version: u32,
-    /// Its simulator, played so far.
+    /// The simulator.
     pub simulator: Simulator,
-    /// The number of the act that comes next, from 0.
+    /// The index of the next act.
     pub at: usize,
-    /// Whose turns are left.
+    /// The peer whose turns are left.
     pub peer: u32,
-    /// How many turns are left before that act.
+    /// The number of turns that are left before that act.
     pub left: u32,
-    /// How many of the lines that the simulator keeps were taken.
+    /// The number of the simulator's lines that were taken.
     pub passed: usize,
 }
 
-impl<'a> ExpectedRun<'a> {
-    /// A course of which no line was taken.
-    pub fn new(
-        alloc: Global,
-        scenario: &'a Scenario,
-        version: u32,
-    ) -> Result<ExpectedRun<'a>, NoMemory>
+impl ExpectedRun {
+    /// Returns an expected run of which no line was taken, for a record of this version. Returns
+    /// `NoMemory` if memory ran out.
+    pub fn new(alloc: Global, scenario: Scenario, version: u32) -> Result<ExpectedRun, NoMemory>
         requires { is_version version ≡ true }
-        ensures { IfOk result (λ expected_run. GoesOn [] expected_run × (expected_run.scenario.now ≡ scenario.now) × (expected_run.version ≡ version)) }
+        ensures { IfOk result (λ expected_run. GoesOn [] expected_run × (world_in expected_run ≡ world_of scenario) × (expected_run.version ≡ version)) }
     {
         let mut expected_run = ExpectedRun {
-            scenario,
+            simulator: Simulator::new(alloc, &scenario, version)?,
+            scenario: parts_of(scenario),
             version,
-            simulator: Simulator::new(alloc, scenario, version)?,
             at: 0,
             peer: 0,
             left: 0,
@@ -63,19 +63,19 @@ impl<'a> ExpectedRun<'a> {
         Ok(expected_run)
     }
 
-    /// Plays an act, or notes the turns that it asks for.
-    fn play_act(&mut self, act: &Act) -> Result<(), NoMemory>
+    /// Plays the next act. The turns of a `turn` act are only counted.
+    fn play_act(&mut self) -> Result<(), NoMemory>
         requires played { (output : Output) × IsPlayed output self.old }
         requires left { self.old.left ≡ 0 }
         requires inside { self.old.at < length (world_in self.old).acts }
-        requires at { act.now ≡ slice_index_or (world_in self.old).acts self.old.at act.now }
         requires room { self.old.at < 2 ^ 64 - 1 }
         ensures played { (output : Output) → IsPlayed output self.old → OnOk result (IsPlayed output self.new) }
         ensures fewer { OnOk result (remains self.new < remains self.old) }
         ensures passed { self.new.passed ≡ self.old.passed }
-        ensures scenario { self.new.scenario.now ≡ self.old.scenario.now }
+        ensures scenario { self.new.scenario ≡ self.old.scenario }
         ensures version { self.new.version ≡ self.old.version }
     {
+        let act = &self.scenario.acts.items()[self.at];
         match act {
             Act::Turn { peer, steps } => {
                 self.peer = *peer;
@@ -91,14 +91,14 @@ impl<'a> ExpectedRun<'a> {
         }
     }
 
-    /// Plays the next turn or act. Returns whether there was one.
+    /// Plays the next turn or act, and returns whether there was one.
     fn play_next(&mut self) -> Result<bool, NoMemory>
         requires { (output : Output) × IsPlayed output self.old }
         ensures played { (output : Output) → IsPlayed output self.old → OnOk result (IsPlayed output self.new) }
         ensures fewer { IfOk result (λ more. more ≡ true → remains self.new < remains self.old) }
         ensures over { IfOk result (λ more. more ≡ false → IsOver self.new) }
         ensures passed { self.new.passed ≡ self.old.passed }
-        ensures scenario { self.new.scenario.now ≡ self.old.scenario.now }
+        ensures scenario { self.new.scenario ≡ self.old.scenario }
         ensures version { self.new.version ≡ self.old.version }
     {
         if self.left > 0 {
@@ -106,32 +106,31 @@ impl<'a> ExpectedRun<'a> {
             self.left -= 1;
             return Ok(true);
         }
-        let acts = self.scenario.acts.items();
-        if self.at >= acts.len() {
+        if self.at >= self.scenario.acts.items().len() {
             return Ok(false);
         }
-        self.play_act(&acts[self.at])?;
+        self.play_act()?;
         Ok(true)
     }
 
-    /// Drains the lines of the simulator, which were all taken.
+    /// Removes the simulator's lines, all of which were taken.
     fn drain(&mut self)
         requires { self.old.passed ≡ length (kept_lines self.old.simulator) }
         ensures along { (lines : List Line) → IsAlong lines self.old → IsAlong lines self.new }
         ensures remains { remains self.new ≡ remains self.old }
         ensures passed { self.new.passed ≡ 0 }
-        ensures scenario { self.new.scenario.now ≡ self.old.scenario.now }
+        ensures scenario { self.new.scenario ≡ self.old.scenario }
         ensures version { self.new.version ≡ self.old.version }
     {
         self.simulator.drain();
         self.passed = 0;
     }
 
-    /// Plays on until a line waits, or the schedule is over.
+    /// Plays until a line waits or the schedule is over.
     fn settle(&mut self) -> Result<(), NoMemory>
         requires { (lines : List Line) × IsAlong lines self.old }
         ensures on { (lines : List Line) → IsAlong lines self.old → OnOk result (GoesOn lines self.new) }
-        ensures scenario { self.new.scenario.now ≡ self.old.scenario.now }
+        ensures scenario { self.new.scenario ≡ self.old.scenario }
         ensures version { self.new.version ≡ self.old.version }
     {
         while self.passed == self.simulator.lines().len() {
@@ -143,12 +142,13 @@ impl<'a> ExpectedRun<'a> {
         Ok(())
     }
 
-    /// Drains the lines of the simulator, which were all taken, and plays on until many lines wait, or the schedule is over.
+    /// Removes the simulator's lines, all of which were taken, and plays until `PART` lines wait or
+    /// the schedule is over.
     fn play_part(&mut self) -> Result<(), NoMemory>
         requires along { (lines : List Line) × IsAlong lines self.old }
         requires all { self.old.passed ≡ length (kept_lines self.old.simulator) }
         ensures on { (lines : List Line) → IsAlong lines self.old → OnOk result (GoesOn lines self.new) }
-        ensures scenario { self.new.scenario.now ≡ self.old.scenario.now }
+        ensures scenario { self.new.scenario ≡ self.old.scenario }
         ensures version { self.new.version ≡ self.old.version }
     {
         self.drain();
@@ -160,7 +160,8 @@ impl<'a> ExpectedRun<'a> {
         Ok(())
     }
 
-    /// The lines that wait, by which the lawful history goes on. Where none waits, it is over.
+    /// Returns the lines that wait: the lawful history goes on with them. If no line waits, the
+    /// lawful history is over.
     pub fn waiting(&self) -> &[Line]
         requires { (lines : List Line) × GoesOn lines self.now }
         ensures waiting { result.now ≡ drop self.now.passed (kept_lines self.now.simulator) }
@@ -169,25 +170,29 @@ impl<'a> ExpectedRun<'a> {
         &self.simulator.lines()[self.passed..]
     }
 
-    /// Takes all lines that wait, and plays on.
+    /// Takes all lines that wait, and plays the next part.
+    // claim on, scenario, version with ExpectedRun::new, ExpectedRun::waiting.waiting,
+    //    ExpectedRun::waiting.frames, ExpectedRun::take.on, ExpectedRun::take.cause,
+    //    ExpectedRun::take.scenario, ExpectedRun::take.version, ExpectedRun::close: An expected run
+    //    takes all lines that wait at once: those with which the lawful history continues.
     pub fn pass(&mut self) -> Result<(), NoMemory>
         requires { (lines : List Line) × GoesOn lines self.old }
         ensures on { (lines : List Line) → GoesOn lines self.old → OnOk result (GoesOn (lines ++ drop self.old.passed (kept_lines self.old.simulator)) self.new) }
-        ensures scenario { self.new.scenario.now ≡ self.old.scenario.now }
+        ensures scenario { self.new.scenario ≡ self.old.scenario }
         ensures version { self.new.version ≡ self.old.version }
     {
         self.passed = self.simulator.lines().len();
         self.play_part()
     }
 
-    /// The line by which the lawful history goes on, if it does.
+    /// Returns the next line of the lawful history, or `None` if it is over.
     fn due(&self) -> Option<&Line>
         ensures { option_copied result ≡ slice_get (kept_lines self.now.simulator) self.now.passed }
     {
         self.simulator.lines().get(self.passed)
     }
 
-    /// Is this the line by which the lawful history goes on?
+    /// Whether this line is the next one of the lawful history.
     fn is_due(&self, line: &Line) -> bool
         ensures due { IsTrue result → slice_get (kept_lines self.now.simulator) self.now.passed ≡ Some line.now }
         ensures other { result ≡ false → slice_get (kept_lines self.now.simulator) self.now.passed ≢ Some line.now }
@@ -197,12 +202,13 @@ impl<'a> ExpectedRun<'a> {
         self.passed < lines.len() && lines[self.passed].same(line)
     }
 
-    /// Takes a line, which has this number.
+    /// Takes the line with this number. Returns `Unlawful` exactly if the lawful history doesn't go
+    /// on with it, and `NoMemory` if memory ran out.
     pub fn take(&mut self, number: u64, line: &Line) -> Result<(), StepFault>
         requires { (lines : List Line) × GoesOn lines self.old }
         ensures on { (lines : List Line) → GoesOn lines self.old → OnOk result (GoesOn (lines ++ line.now ∷ []) self.new) }
         ensures cause { (lines : List Line) → GoesOn lines self.old → number ≡ length lines + 1 → IfErr result (IsCause (world_in self.old) self.old.version (lines ++ line.now ∷ [])) }
-        ensures scenario { self.new.scenario.now ≡ self.old.scenario.now }
+        ensures scenario { self.new.scenario ≡ self.old.scenario }
         ensures version { self.new.version ≡ self.old.version }
     {
         records_tell_one_history();
@@ -215,7 +221,8 @@ impl<'a> ExpectedRun<'a> {
         Ok(())
     }
 
-    /// Were all lines taken? Else the next line, which has this number, is missing.
+    /// Returns `Ok` exactly if all lines were taken. Otherwise the next line, which has this
+    /// number, is missing.
     pub fn close(&self, number: u64) -> Result<(), Unlawful>
         ensures { (lines : List Line) → GoesOn lines self.now → number ≡ length lines + 1 → MatchResult result (λ _. IsLawfulIn (world_in self.now) self.now.version lines) (Differs (world_in self.now) self.now.version lines) }
     {

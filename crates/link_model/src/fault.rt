@@ -1,4 +1,4 @@
-//! Why a history isn't lawful.
+//! The faults of a history that is checked line by line.
 ghost use Rattle.std.specs.Prelude.{◌≡◌};
 ghost use Rattle.link_model.specs.declared.fault.StepFault.TheVariants.{NoMemory as OutOfMemory};
 
@@ -8,37 +8,37 @@ use thiserror::Error;
 /// The law that a line breaks.
 #[derive(Clone, Copy, Debug, PartialEq, Eq)]
 pub enum Law {
-    /// The schedule has another peer's step there, or none.
+    /// The schedule has a step of another peer there, or no step.
     Order,
-    /// The device's registers, interrupts or configuration space say otherwise.
+    /// An interrupt, a register or the configuration space differs.
     Device,
-    /// A peer wrote where it may not, or was denied where it may.
+    /// A peer wrote where it must not, or was denied where it may write.
     Touch,
-    /// A read gave another value than the one that was written last.
+    /// A read returned another value than the last one written to the word.
     Memory,
-    /// The marks of the link say otherwise.
+    /// A mark of the link differs.
     Link,
-    /// The call takes another step there.
+    /// The call has another step there.
     Call,
 }
 
-/// A line that isn't lawful: its number, with lines from 1, and the law that it breaks.
+/// An unlawful line: its number and the law that it breaks.
 #[derive(Clone, Copy, Debug, PartialEq, Eq, Error)]
 #[error("line {line} breaks the law {law:?}")]
 pub struct Unlawful {
-    /// The number of the history line, from 1.
+    /// The number of the line. The first line of the history is line 1.
     pub line: u64,
     /// The law that it breaks.
     pub law: Law,
 }
 
-/// Why a line of a history wasn't taken.
+/// The reason why a line of a history wasn't taken.
 #[derive(Clone, Copy, Debug, PartialEq, Eq, Error)]
 pub enum StepFault {
     /// No lawful history of the scenario goes on with this line.
     #[error("{0}")]
     Unlawful(Unlawful),
-    /// There was no memory left.
+    /// Memory ran out.
     #[error("out of memory")]
     NoMemory,
 }

@@ -1,4 +1,4 @@
-//! The law that a line breaks where the lawful history has another one, or none.
+//! The law that a line breaks if the lawful history has another line there, or no line.
 ghost use Rattle.std.specs.Prelude.{◌≡◌, ◌==◌, Some};
 ghost use Rattle.std.specs.Option.{option_copied};
 ghost use Rattle.link_model.specs.BrokenLaw.{kind_of, peer_of, law_by, law_between};
@@ -7,10 +7,10 @@ ghost use Rattle.link_model.specs.BrokenLaw as broken;
 use crate::fault::Law;
 use lawful_history::Line;
 
-/// What a line is, for the question which law it breaks.
+/// The kind of a line, by which the law that it breaks is chosen.
 #[derive(Clone, Copy, Debug, PartialEq, Eq)]
 pub enum Kind {
-    /// A turn without a step, or a device reset: the schedule alone says where it stands.
+    /// A turn without a step, or a device reset. The schedule alone decides its place.
     Scheduled,
     /// An interrupt, or an access to a part of the device.
     OfDevice,
@@ -49,7 +49,7 @@ impl Kind {
         matches!(self, Kind::Marked)
     }
 
-    /// Are both reads of one word?
+    /// Whether both are reads of the same word.
     fn reads_with(self, found: Kind) -> bool
         ensures { result ≡ broken.are_reads_of_one self found }
     {
@@ -63,7 +63,7 @@ impl Kind {
     }
 }
 
-/// What this line is, and whose it is.
+/// Returns the kind of the line and its peer.
 fn kind_and_peer(line: &Line) -> (Kind, u32)
     ensures kind { result.0 ≡ kind_of line.now }
     ensures peer { result.1 ≡ peer_of line.now }
@@ -98,7 +98,8 @@ fn kind_and_peer(line: &Line) -> (Kind, u32)
     }
 }
 
-/// The law by what both lines are, and by whether they are of one peer: the first rule that applies.
+/// Returns the law of the first rule that applies to the kinds of the two lines. `one_peer` says
+/// whether both lines are of one peer.
 fn law_of(due: Kind, found: Kind, one_peer: bool) -> Law
     ensures { result ≡ law_by due found one_peer }
 {
@@ -119,7 +120,8 @@ fn law_of(due: Kind, found: Kind, one_peer: bool) -> Law
     }
 }
 
-/// The law that the line found breaks, where the lawful history has this line, or has ended.
+/// Returns the law that the line `found` breaks. The lawful history has the line `due` there, or is
+/// over if that is `None`.
 pub fn broken_law(due: Option<&Line>, found: &Line) -> Law
     ensures { result ≡ law_between (option_copied due.entry) (Some found.now) }
 {

@@ -1,21 +1,27 @@
-//! A history of a scenario, taken line by line and checked on the way. It stands on `lawful_history` for what a history and the law is, and
-//! on `simulator` for the simulator on which the lawful history is played beside the lines taken. The contract of `Run` promises that a
-//! step is taken exactly where the lines so far begin the lawful history, and else the first line that differs and the law that it
-//! breaks.
+//! Compares a history of a scenario with the lawful one, line by line. `lawful_history` defines
+//! both, and `simulator` plays the lawful history while lines are compared. The contract of `Run`
+//! promises that a step takes a line exactly if the lines so far begin the lawful history.
+//! Otherwise the step returns the number of the first line that differs and the law that it breaks.
 //!
 //! # Design
 //!
-//! - A run plays the simulator beside the lines that it takes, instead of a second set of calls, checks and rings. So what it is compared with
-//!   is what `simulate` tells, by the same contract. The program that shares no code with the simulator is `reference_history`.
-//! - A run is seen as its scenario, the record's version, the lines that it took and its fault (`Taking`). The lines aren't kept but
-//!   counted: they are that many of those that a record of the version tells of the lawful history. So no call but `close` asks anything of
-//!   its caller, and `close` only that no step ran out of memory.
-//! - A step plays on until the next line waits or the schedule is over, so `close` needs neither memory nor a change of the run to know
-//!   whether a line is missing.
-//! - A `Run` borrows its scenario: acts, with their frames, aren't copied.
-//! - It hands `Line`, `Lines` and the laws of `lawful_history` on, so that a reader of histories needs this crate alone.
+//! - A run plays the simulator, and has no calls, checks and rings of its own. Its lines are
+//!   compared with those that `simulate` returns, by the same contract. `reference_history` is the
+//!   program that shares no code with the simulator.
+//! - The view of a run is its scenario, the record's version, the lines that it took and its fault
+//!   (`Taking`). A run counts the lines and doesn't keep them: they are the first lines that a
+//!   record of the version has of the lawful history. Only `close` has a condition: no step of the
+//!   run returned `NoMemory`.
+//! - A step plays until the next line waits or the schedule is over. So `close` needs no memory,
+//!   and changes nothing, to decide whether a line is missing.
+//! - A `Run` owns its scenario, which `Run::new` copies once. So a `Run` has no lifetime and can be
+//!   a field of any struct. `ExpectedRun` is given its scenario and copies nothing.
+//! - The crate exports `Line`, `Lines` and the laws of `lawful_history`, so a reader of histories
+//!   needs this crate alone.
+// tested: Large records are replayed in bounded memory (`checks/loads`).
 #![tactic(auto)]
 
+mod copying;
 mod expected_run;
 mod fault;
 mod law;

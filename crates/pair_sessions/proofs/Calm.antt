@@ -38,7 +38,7 @@ use Rattle.pair_sessions.proofs.Numbering.{state_at}
 
 -- Sides
 
--- what a side p and its log keep beside what every run keeps, against the other side q
+-- The invariant of a side p and its log in addition to that of every run, against the other side q.
 record Calm (p q : Side) (l : Log) : Type 0 where
   most : l.opened ≤ 1
   stays : 1 ≤ l.opened → 2 ≤ p.state
@@ -95,7 +95,7 @@ mine_lem p q new l m l' (counts s n k same) up h c = subst (Calm new q) (sym sam
   low = λ e. c.low (sym s ∙ e);
 }
 
--- while the other is in RESET, the side that moves doesn't leave INIT
+-- While the other is in RESET, the side that makes the step doesn't leave INIT.
 low_lem : (p q new : Side) (l m l' : Log) → Kind p q l m new l' → q.state ≡ 0 → (p.state ≡ 0) ⊎ ((p.state ≡ 1) × ¬ SawSome p.seen) → (new.state ≡ 0) ⊎ ((new.state ≡ 1) × ¬ SawSome new.seen)
 low_lem p q new l m l' (falls_to s n k ks ended) z old = inl s
 low_lem p q new l m l' (inits was low s n k ks ended) z old = inr (s, λ some. subst SawSome n some)
@@ -115,9 +115,9 @@ low_lem p q new l m l' (counts s n k same) z (inr e) = inr (s ∙ e.0, λ some. 
 theirs_lem : (p q new : Side) (l m l' : Log) → Kind p q l m new l' → Calm q p m → Calm q new m
 theirs_lem p q new l m l' kind o = record { most = o.most; stays = o.stays; none = o.none; low = λ z. low_lem p q new l m l' kind z (o.low z) }
 
--- What is told
+-- Side events
 
--- no write of 0 and no reset
+-- The event is neither a write of 0 nor a reset.
 abbrev IsUp : SideEvent → Type 0
 IsUp (Gave value) = Unit {0}
 IsUp (Wrote zero) = ⊥
@@ -145,7 +145,7 @@ stays_up sizes p q (Wrote (suc n)) new row up e = absurd (let s = ap (λ (x : Si
 stays_up sizes p q (Marked mark) new row up e = sym (mark_state sizes p q mark new row.1) ∙ e
 stays_up sizes p q WasReset new row up e = absurd up
 
--- the sides and logs after what p tells
+-- The sides and logs after the events of p.
 record Along (sizes : Sizes) (sides : ℕ → Side) (p : ℕ) (new : Side) : Type 0 where
   sides' : ℕ → Side
   logs' : ℕ → Log
@@ -182,7 +182,7 @@ module _ (sizes : Sizes) (p : ℕ) (p2 : p < 2) where
 
 -- Places
 
--- the end is about to set 0, by a tick or a Stop
+-- The end is about to set 0, by a Tick or a Stop.
 abbrev IsDown : Place → Type 0
 IsDown (WritingState zero) = Unit {0}
 IsDown place = ⊥
@@ -229,7 +229,7 @@ words_up : (number more entry address bytes : ℕ) (read : List ℕ) (count : �
 words_up number more entry address bytes read zero down = down
 words_up number more entry address bytes read (suc words) down = down
 
--- only a tick that saw 0 in READY or RUN leads there
+-- Only a Tick that read 0 in READY or RUN leads to such a place.
 next_up : (link_config : LinkConfig) (p : ℕ) (memory : ℕ → ℕ) (end : End) (place : Place) (value : ℕ) → PlaceInvariant link_config memory p end place → ((handshake : HandshakeState) → place ≡ ReadingOtherState handshake → ¬ IsDown (tick_place (config_of link_config p) (move_of handshake value))) → ¬ IsDown (next_place (config_of link_config p) place value)
 next_up link_config p memory end Closed value h tick = λ d. d
 next_up link_config p memory end (ReadingOtherState handshake) value h tick = tick handshake refl
@@ -295,7 +295,7 @@ honest_lem link_config _ _ _ (begins memory ends after_ends places after_places 
 honest_lem link_config _ _ _ (steps memory after ends after_ends places after_places p value run p2 step) = honest.steps memory after ends after_ends places after_places p value (honest_lem link_config memory ends places run) p2 refl step
 honest_lem link_config _ _ _ (others memory after ends places run keep) = honest.others memory after ends places (honest_lem link_config memory ends places run) (λ q q2 _. keep q q2)
 
--- the ends are calm sides, and none is about to set 0
+-- The ends are calm sides, and none is about to set 0.
 record AreCalm (link_config : LinkConfig) (ends : ℕ → End) (places : ℕ → Place) : Type 0 where
   sides : ℕ → Side
   logs : ℕ → Log
@@ -349,7 +349,7 @@ calm_lem link_config _ _ _ is (steps memory after ends after_ends places after_p
         (λ ne. omega arith)
 calm_lem link_config _ _ _ is (others memory after ends places run keep) = calm_lem link_config memory ends places is run
 
--- What follows
+-- The consequences
 
 phase_reset : (phase : Phase) → state_of phase ≡ 0 → phase ≡ Reset
 phase_reset Reset e = refl
@@ -363,7 +363,7 @@ phase_init Init e = refl
 phase_init Ready e = absurd (omega arith)
 phase_init Run e = absurd (omega arith)
 
--- in INIT a tick that moves saw some
+-- In INIT a Tick that moves read a State of at least 1.
 saw_some : (value state : ℕ) → MovesTo Init value state → 1 ≤ value
 saw_some zero state (inl e) = absurd (cc)
 saw_some zero state (inr e) = absurd (cc)

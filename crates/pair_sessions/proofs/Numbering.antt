@@ -1,4 +1,5 @@
--- How an access of a call, a reset, and a store of the session word keep the session word to the number of sessions.
+-- The session word is the number of sessions: through an access of a call, a reset, and a store of
+-- the session word.
 use Rattle.std.proofs.Common.{◌≡◌, ℕ, zero, suc, ◌+◌, ◌≤◌, ◌⊎◌, inl, inr, ⊎_elim, Bool, true, false, refl, sym, ap, ◌∙◌, subst, arith, eq-eqb, ne_eqb}
 use mathlib.Core.Logic.{dite}
 use native.Mathlib.Decide.{ℕ_discrete}
@@ -16,12 +17,12 @@ use Rattle.link_invariant.specs.LinkConfig.{LinkConfig}
 use Rattle.link_invariant.specs.EndInvariant.{MaySet, PlaceInvariant}
 use Rattle.pair_sessions.specs.Numbers.{Numbers, numbers_after, numbers_reset, with_stored, IsNumbered, WordIs}
 
--- the state that an access writes
+-- The State that an access writes.
 abbrev pub state_in : Access → ℕ
 state_in (access.State state) = state
 state_in _ = 0
 
--- a State step is that of an open tick or a Stop, or the one after a refusal
+-- A State step belongs to an open Tick or Stop, or follows a refusal.
 pub state_at : (config : EndConfig) (place : Place) (state : ℕ) → access_at config place ≡ access.State state → (place ≡ WritingState state) ⊎ ((place ≡ Refusing) × (state ≡ 0))
 state_at config Closed state e = absurd (cc)
 state_at config (ReadingOtherState handshake) state e = absurd (cc)
@@ -53,7 +54,7 @@ state_at config (WritingUsedLength number more) state e = absurd (cc)
 state_at config (WritingUsedIndex number more) state e = absurd (cc)
 state_at config RingingPoll state e = absurd (cc)
 
--- an end in RESET or INIT writes 2 at most
+-- An end in RESET or INIT writes at most 2.
 low_at : (link_config : LinkConfig) (p : ℕ) (memory : ℕ → ℕ) (phase : Phase) (state : ℕ) → MaySet link_config memory p phase state → state_of phase ≤ 1 → state ≤ 2
 low_at link_config p memory phase zero may low = omega arith
 low_at link_config p memory phase (suc zero) may low = omega arith
@@ -76,7 +77,7 @@ number false = 0
 pub clash : false ≡ true → ⊥
 clash e = let h : number false ≡ number true = ap number e in omega arith
 
--- what an access that writes no state leaves
+-- An access that writes no State leaves the numbers.
 word_else : (end end' : End) (n : Numbers) (word : ℕ) → end'.handshake.phase ≡ end.handshake.phase → WordIs end n word → WordIs end' n word
 word_else end end' n word same (inl h) = inl h
 word_else end end' n word same (inr h) = inr (h.0, h.1, subst (λ x. state_of x ≤ 1) (sym same) h.2)
@@ -96,7 +97,7 @@ word_by config place end n word value (access.Write r v) is low numbered w = wor
 word_by config place end n word value (access.Ring t v) is low numbered w = word_else end (end_after end (step_at config place value)) n word (phases.kept end (step_at config place value) (λ state e. let h = sym is ∙ e in absurd (cc))) w
 word_by config place end n word value access.Nothing is low numbered w = word_else end (end_after end (step_at config place value)) n word (phases.kept end (step_at config place value) (λ state e. let h = sym is ∙ e in absurd (cc))) w
 
--- a step of an end at a place
+-- A step of an end at a place.
 pub word_step : (config : EndConfig) (place : Place) (end : End) (n : Numbers) (word value : ℕ) → ((state : ℕ) → access_at config place ≡ access.State state → state_of end.handshake.phase ≤ 1 → state ≤ 2) → IsNumbered n (access_at config place) → WordIs end n word →
     WordIs (end_after end (step_at config place value)) (numbers_after n end (access_at config place)) word
 word_step config place end n word value low numbered w = word_by config place end n word value (access_at config place) refl low numbered w

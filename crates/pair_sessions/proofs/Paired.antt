@@ -1,4 +1,5 @@
--- Runs of two honest ends with their session words are runs of the link machine, whose logs are those of the numbers, and the numbers are paired.
+-- Runs of two honest ends with their session words are runs of the link machine. Its logs are those
+-- of the numbers, and the numbers are paired.
 use Rattle.std.proofs.Common.{◌≡◌, ◌≢◌, ℕ, ◌+◌, ◌-◌, ◌<◌, ◌≤◌, ◌⊎◌, inl, inr, ⊎_elim, true, false, List, [], ◌∷◌, ◌++◌, map, refl, sym, ap, ◌∙◌, subst, arith, eq-eqb, ne_eqb}
 use mathlib.Core.Logic.{dite}
 use native.Mathlib.Decide.{ℕ_discrete}
@@ -27,7 +28,7 @@ use Rattle.link_invariant.proofs.RunsKept.{whole_lem, Stepped, row_step, rows_on
 use Rattle.pair_sessions.specs.Numbers.{Numbers, no_numbers, number_of, own_side, numbers_after, numbers_reset, with_stored, with_loaded, IsNumbered, WordIs, OnlyNumbers, NumberedRuns, starts, begins, steps, resets, others, stores, loads, IsPaired, SessionsArePaired}
 use Rattle.pair_sessions.proofs.Numbering.{state_in, state_at, clash, low_writes, word_step, word_reset, word_stored, word_like}
 
--- Marks leave the log, and a State step is told
+-- Marks leave the log, and a State step is an event
 
 marks_step : (sizes : Sizes) (p : ℕ) (p2 : p < 2) (marks : List Mark) (sides : ℕ → Side) (logs : ℕ → Log) (new : Side) → MachineRuns sizes (λ p. true) sides logs → FollowsRows sizes true (sides (1 - p)) (sides p) (map Marked marks) new → Stepped sizes sides logs p new (logs p)
 marks_step sizes p p2 [] sides logs new r along = record { sides' = sides; logs' = logs; run = r; side_is = sym along; log_is = refl; sides_stay = λ q ne. refl; logs_stay = λ q ne. refl }
@@ -53,7 +54,7 @@ told_then sizes p p2 told marks sides logs new r along = let a = row_step sizes 
   logs_stay = λ q ne. b.logs_stay q ne ∙ a.logs_stay q ne;
 }
 
--- the log after an access
+-- The log after an access.
 abbrev log_by : Log → Log → Side → Access → Log
 log_by l m side (access.State state) = log_after l m side (Wrote state)
 log_by l m side (access.Read word) = l
@@ -69,7 +70,7 @@ told_step sizes p p2 (access.Ring target vector) value marks sides logs new r al
 told_step sizes p p2 access.Nothing value marks sides logs new r along = marks_step sizes p p2 marks sides logs new r along
 told_step sizes p p2 (access.State state) value marks sides logs new r along = told_then sizes p p2 (Wrote state) marks sides logs new r along
 
--- against an other in RESET or INIT no side comes to attend
+-- Against an other in RESET or INIT no side becomes attached.
 stays_away : (p q new : Side) (l m l' : Log) → Kind p q l m new l' → q.state ≤ 1 → ¬ Attends p → ¬ Attends new
 stays_away p q new l m l' (falls_to s n k ks ended) low away (inl e) = omega arith
 stays_away p q new l m l' (falls_to s n k ks ended) low away (inr e) = let f = e.0 in omega arith
@@ -89,9 +90,9 @@ away_along : (sizes : Sizes) (other : Side) (l m : Log) (tolds : List SideEvent)
 away_along sizes other l m [] side new along low away = subst (λ x. ¬ Attends x) (sym along) away
 away_along sizes other l m (told ∷ tolds) side new along low away = away_along sizes other l m tolds along.0 new along.2 low (stays_away side other along.0 l m _ (kind_of sizes side other l m told along.0 along.1) low away)
 
--- Sides at a state step
+-- Sides at a State step
 
--- the state that a side writes next is 0, or one to which it moves on
+-- The State that a side writes next is 0, or the State of a move.
 abbrev StateGoes : ℕ → Side → Type 0
 StateGoes state side = (state ≡ 0) ⊎ (((state ≡ 1) × (side.state ≡ 0) × SawLow side.seen) ⊎ (((state ≡ 2) × (side.state ≡ 1)) ⊎ ((state ≡ 3) × (side.state ≡ 2) × SawHigh side.seen)))
 
@@ -137,11 +138,11 @@ seen_three end place side e is = goes_three side 3 refl (seen_at end place side 
 
 -- The logs of the lists
 
--- what was loaded is the number that the other opened
+-- The number loaded is the number that the other opened.
 abbrev LoadIs : Place → Numbers → ℕ → Type 0
 LoadIs place n opened = (n.loaded ≡ None) ⊎ ((n.loaded ≡ Some opened) × (place ≡ WritingState 3))
 
--- the sides and logs of a run, with what ties them to the ends, their numbers and session words
+-- The sides and logs of a run, with their relation to the ends, their numbers and session words.
 record Tied (link_config : LinkConfig) (words : ℕ → ℕ) (ends : ℕ → End) (places : ℕ → Place) (numbers : ℕ → Numbers) : Type 0 where
   sides : ℕ → Side
   logs : ℕ → Log
@@ -152,7 +153,7 @@ record Tied (link_config : LinkConfig) (words : ℕ → ℕ) (ends : ℕ → End
   cross : (p : ℕ) → p < 2 → (numbers p).stored ≡ true → ¬ Attends (sides (1 - p))
   load : (p : ℕ) → p < 2 → LoadIs (places p) (numbers p) (numbers (1 - p)).log.opened
 
--- logs that are told the same
+-- Logs with the same events.
 wrote_like : (l l' m m' : Log) (s s' : Side) (state : ℕ) → l' ≡ l → (state ≡ 3 → m'.opened ≡ m.opened) → s'.state ≡ s.state → s'.accepted ≡ s.accepted → s'.delivered ≡ s.delivered → log_after l' m' s' (Wrote state) ≡ log_after l m s (Wrote state)
 wrote_like l l' m m' s s' state e opened st ac de =
     let c : (if state == 3 then m'.opened else l'.carried) ≡ (if state == 3 then m.opened else l.carried) = dite (ℕ_discrete state 3)
@@ -176,7 +177,7 @@ reset_like l l' m m' s s' e st de = λ k. record {
 some_number : (o : Option ℕ) (n : ℕ) → o ≡ Some n → number_of o ≡ n
 some_number o n e = ap number_of e
 
--- the number loaded, where one was
+-- The number loaded, if one was loaded.
 loaded_is : (place : Place) (n : Numbers) (opened : ℕ) → LoadIs place n opened → n.loaded ≢ None → number_of n.loaded ≡ opened
 loaded_is place n opened (inl e) some = absurd (some e)
 loaded_is place n opened (inr h) some = some_number n.loaded opened h.0
@@ -188,7 +189,7 @@ own_after end place n l m side opened (access.Write word value) is e load o numb
 own_after end place n l m side opened (access.Ring target vector) is e load o numbered = e
 own_after end place n l m side opened access.Nothing is e load o numbered = e
 
--- what an access leaves of what was loaded and stored
+-- The number loaded and the store after an access.
 load_after : (place place' : Place) (end : End) (n : Numbers) (opened : ℕ) (a : Access) → (place ≡ WritingState 3 → a ≡ access.State 3) → LoadIs place n opened → LoadIs place' (numbers_after n end a) opened
 load_after place place' end n opened (access.State state) at load = inl refl
 load_after place place' end n opened (access.Read word) at (inl e) = inl e
@@ -209,7 +210,7 @@ stored_before end n (access.Write word value) e = e
 stored_before end n (access.Ring target vector) e = e
 stored_before end n access.Nothing e = e
 
--- only a state write of 2 opens a session
+-- Only a write of State 2 opens a session.
 opened_after : (end : End) (n : Numbers) (a : Access) → (a ≡ access.State 2 → ⊥) → (numbers_after n end a).log.opened ≡ n.log.opened
 opened_after end n (access.State state) not = no (state == 2) (n.log.opened + 1) n.log.opened (ne_eqb state 2 (λ e. not (ap access.State e)))
 opened_after end n (access.Read word) not = refl
@@ -227,7 +228,7 @@ is_two access.Nothing = inr (λ e. absurd (cc))
 load_like : (place place' : Place) (n n' : Numbers) (o o' : ℕ) → place' ≡ place → n' ≡ n → o' ≡ o → LoadIs place n o → LoadIs place' n' o'
 load_like place place' n n' o o' e f g h = subst (λ x. LoadIs x n' o') (sym e) (subst (λ x. LoadIs place x o') (sym f) (subst (LoadIs place n) (sym g) h))
 
--- p comes to an end, a place and numbers, by a step of its side, or by none
+-- End p gets an end, a place and numbers, by a step of its side, or by none.
 tied_moved : (link_config : LinkConfig) (words now : ℕ → ℕ) (ends after_ends : ℕ → End) (places after_places : ℕ → Place) (numbers next : ℕ → Numbers) (p : ℕ) (end : End) (place : Place) (n : Numbers) (new : Side) (log : Log) → p < 2 → (t : Tied link_config words ends places numbers) → Stepped link_config.sizes t.sides t.logs p new log →
     SideIs end place new → n.log ≡ log → WordIs end n (now p) → ((q : ℕ) → q ≢ p → now q ≡ words q) → (n.stored ≡ true → ¬ Attends (t.sides (1 - p))) → ((numbers (1 - p)).stored ≡ true → ¬ Attends new) → LoadIs place n (numbers (1 - p)).log.opened → LoadIs (places (1 - p)) (numbers (1 - p)) n.log.opened →
     OnlyEndChanges ends after_ends places after_places p end place → OnlyNumbers numbers next p n → Tied link_config now after_ends after_places next
@@ -252,14 +253,14 @@ tied_moved link_config words now ends after_ends places after_places numbers nex
       (λ ne. let o : q ≡ 1 - p = omega arith in let b : 1 - q ≡ p = omega arith in load_like (places (1 - p)) (after_places q) (numbers (1 - p)) (next q) n.log.opened (next (1 - q)).log.opened (only.places_stay q ne ∙ ap places o) (nums.neighbour_word q ne ∙ ap numbers o) (ap (λ (m : Numbers). m.log.opened) (ap next b ∙ nums.here)) theirs);
 }
 
--- no step of a side
+-- No step of a side.
 stood_still : (sizes : Sizes) (sides : ℕ → Side) (logs : ℕ → Log) (p : ℕ) → MachineRuns sizes (λ p. true) sides logs → Stepped sizes sides logs p (sides p) (logs p)
 stood_still sizes sides logs p r = record { sides' = sides; logs' = logs; run = r; side_is = refl; log_is = refl; sides_stay = λ q ne. refl; logs_stay = λ q ne. refl }
 
 same_end : (ends : ℕ → End) (places : ℕ → Place) (p : ℕ) → OnlyEndChanges ends ends places places p (ends p) (places p)
 same_end ends places p = record { end_is = refl; place_is = refl; ends_stay = λ q ne. refl; places_stay = λ q ne. refl }
 
--- while the other is at its State step with 3, an end isn't in INIT
+-- While the other is at its State step with 3, an end isn't in INIT.
 module _ (link_config : LinkConfig) (words : ℕ → ℕ) (ends : ℕ → End) (places : ℕ → Place) (numbers : ℕ → Numbers) (t : Tied link_config words ends places numbers) where
   half_at : (p : ℕ) → p < 2 → Half (t.sides p) (t.sides (1 - p)) (t.logs p) (t.logs (1 - p))
   half_at p p2 = half_of link_config.sizes (λ p. true) t.sides t.logs refl refl t.run p p2
@@ -279,22 +280,22 @@ module _ (link_config : LinkConfig) (words : ℕ → ℕ) (ends : ℕ → End) (
   load_back : (p : ℕ) → p < 2 → LoadIs (places (1 - p)) (numbers (1 - p)) (numbers p).log.opened
   load_back p p2 = subst (λ k. LoadIs (places (1 - p)) (numbers (1 - p)) (numbers k).log.opened) (back p p2) (t.load (1 - p) (omega arith))
 
-  -- what the other loaded stays the number opened
+  -- The number that the other loaded is still the number opened.
   theirs_after : (p : ℕ) → p < 2 → (a : Access) → (a ≡ access.State 2 → places p ≡ WritingState 2) → LoadIs (places (1 - p)) (numbers (1 - p)) (numbers_after (numbers p) (ends p) a).log.opened
   theirs_after p p2 a at = ⊎_elim
       (λ two. ⊎_elim (λ h. inl h) (λ h. absurd (opens_none p p2 (attends_at (1 - p) (omega arith) h.1) (init_at p p2 (at two)))) (load_back p p2))
       (λ not. subst (LoadIs (places (1 - p)) (numbers (1 - p))) (sym (opened_after (ends p) (numbers p) a not)) (load_back p p2))
       (is_two a)
 
-  -- the other's state word is 1 at most, where it stored its session word
+  -- The State of an end that stored its session word is at most 1.
   low_other : (p : ℕ) → p < 2 → (numbers p).stored ≡ true → (t.sides p).state ≤ 1
   low_other p p2 st = ⊎_elim (λ h. absurd (clash (sym h.0 ∙ st))) (λ h. subst (λ k. k ≤ 1) (sym (t.are p p2).state) h.2) (t.word p p2)
 
-  -- where the other doesn't attend, or is told, the word is the number of sessions
+  -- If the other is attached, the session word is the number of sessions.
   word_at : (p : ℕ) → p < 2 → Attends (t.sides (1 - p)) → words p ≡ (numbers p).log.opened
   word_at p p2 attends = ⊎_elim (λ h. h.1) (λ h. absurd (t.cross p p2 h.0 attends)) (t.word p p2)
 
--- without the numbers they are runs of honest ends
+-- Without the numbers they are runs of honest ends.
 pub honest_lem : (link_config : LinkConfig) (memory words : ℕ → ℕ) (ends : ℕ → End) (places : ℕ → Place) (numbers : ℕ → Numbers) → NumberedRuns link_config memory words ends places numbers → HonestRuns link_config memory ends places
 honest_lem link_config _ _ _ _ _ (starts memory words ends places numbers none zeros new closed fresh_numbers) = honest.starts memory ends places none new closed
 honest_lem link_config _ _ _ _ _ (begins memory words ends after_ends places after_places numbers p call run p2 begun) = honest.begins memory ends after_ends places after_places p call (honest_lem link_config memory words ends places numbers run) p2 refl begun
@@ -353,7 +354,7 @@ tied link_config _ _ _ _ _ is (loads memory words ends places numbers next p run
     (t.word p p2) (λ q ne. refl) (t.cross p p2)
     (λ st. subst (λ k. ¬ Attends (t.sides k)) (back link_config words ends places numbers t p p2) (t.cross (1 - p) o2 st)) (inr (ap Some seen, at)) (load_back link_config words ends places numbers t p p2) (same_end ends places p) nums
 
--- What the numbers say of the two ends
+-- The consequences of the numbers for the two ends
 
 beginnings_like : (m : Log) (q q' : Side) (sessions : List Ended) → q'.accepted ≡ q.accepted → AreBeginnings m q sessions → AreBeginnings m q' sessions
 beginnings_like m q q' [] e h = tt

@@ -1,6 +1,6 @@
--- Sessions by their numbers. Each end has a session word: before its State step with 2 it stores there the number of the session that it opens, and right
--- before its State step
--- with 3 it loads the other's, which is the number of the session that it carries.
+-- Sessions and their numbers. Each end has a session word. Before its State step with 2 an end
+-- stores there the number of the session that it opens. Directly before its State step with 3 it
+-- loads the other's session word, the number of the session that it carries.
 use Rattle.std.specs.Prelude.{ℕ, ◌≡◌, ◌≢◌, ◌+◌, ◌-◌, ◌<◌, ◌≤◌, ◌⊎◌, ◌==◌, if◌then◌else◌, Bool, true, false, Option, Some, None}
 use Rattle.split_ring.specs.declared.steps.Access.{Access}
 use Rattle.split_ring.specs.declared.steps.Access.TheVariants as access
@@ -15,7 +15,8 @@ use Rattle.link_invariant.specs.Steps.{IsUntouched, BeginsCall, TakesStep, IsRes
 use Rattle.link_invariant.specs.Sides.{SideIs}
 use Rattle.link_invariant.specs.Runs.{HonestRuns}
 
--- an end's sessions, whether it stored its session word since it opened one, and what it loaded for its next State step
+-- The sessions of an end, whether it stored its session word since it opened one, and the number
+-- loaded for its next State step.
 pub record Numbers : Type 0 where
   pub log : Log
   pub stored : Bool
@@ -28,15 +29,15 @@ abbrev pub number_of : Option ℕ → ℕ
 number_of None = 0
 number_of (Some number) = number
 
--- an end as a side of the machine, by what its sessions depend on
+-- An end as a side of the machine, in the fields on which its sessions depend.
 abbrev pub own_side : End → Side
 own_side end = record initial_side { state = state_of end.handshake.phase; accepted = end.accepted; delivered = end.delivered }
 
--- its sessions after what it tells, where the session of the other is the one that was loaded
+-- The log after a side event, where the session of the other is the one that was loaded.
 abbrev pub log_after_event : Numbers → End → SideEvent → Log
 log_after_event n end told = log_after n.log (record no_sessions { opened = number_of n.loaded }) (own_side end) told
 
--- its numbers after an access of a call, a reset, a store and a load
+-- The numbers of an end after an access of a call, a reset, a store and a load.
 abbrev pub numbers_after : Numbers → End → Access → Numbers
 numbers_after n end (access.State state) = record { log = log_after_event n end (Wrote state); stored = if state == 2 then false else n.stored; loaded = None }
 numbers_after n end _ = n
@@ -50,18 +51,20 @@ with_stored n = record { log = n.log; stored = true; loaded = n.loaded }
 abbrev pub with_loaded : Numbers → ℕ → Numbers
 with_loaded n number = record { log = n.log; stored = n.stored; loaded = Some number }
 
--- a State step with 2 comes after a store of the session word, and one with 3 after a load of the other's
+-- A State step with 2 follows a store of the session word, and one with 3 follows a load of the
+-- other's.
 abbrev pub IsNumbered : Numbers → Access → Type 0
 IsNumbered n (access.State state) = (state ≡ 2 → n.stored ≡ true) × (state ≡ 3 → n.loaded ≢ None)
 IsNumbered n _ = Unit {0}
 
--- end p comes to these numbers, and the other's stay
+-- End p gets these numbers, and the other's stay.
 pub record OnlyNumbers (numbers next : ℕ → Numbers) (p : ℕ) (n : Numbers) : Type 0 where
   pub here : next p ≡ n
   pub neighbour_word : (q : ℕ) → q ≢ p → next q ≡ numbers q
 
--- where two honest ends come that number their sessions: they begin calls, take their steps and are reset as ever; and besides an end in INIT stores the next
--- number in its session word, and one that is about to set RUN loads the other's
+-- The states that two honest ends with numbered sessions can reach. They begin calls, make their
+-- steps and are reset as in other runs. In addition, an end in INIT stores the next number in its
+-- session word, and one that is about to set RUN loads the other's.
 pub data NumberedRuns (link_config : LinkConfig) : (memory words : ℕ → ℕ) → (ℕ → End) → (ℕ → Place) → (ℕ → Numbers) → Type 0 where
   starts : (memory words : ℕ → ℕ) (ends : ℕ → End) (places : ℕ → Place) (numbers : ℕ → Numbers) → ((w : ℕ) → memory w ≡ 0) → ((p : ℕ) → words p ≡ 0) →
       ((p : ℕ) → ends p ≡ fresh) → ((p : ℕ) → places p ≡ Closed) → ((p : ℕ) → numbers p ≡ no_numbers) → NumberedRuns link_config memory words ends places numbers
@@ -86,21 +89,24 @@ pub data NumberedRuns (link_config : LinkConfig) : (memory words : ℕ → ℕ) 
       NumberedRuns link_config memory words ends places numbers → p < 2 → places p ≡ WritingState 3 →
       OnlyNumbers numbers next p (with_loaded (numbers p) (words (1 - p))) → NumberedRuns link_config memory words ends places next
 
--- the session word is the number of sessions opened; or one more, which was stored, and then the end is in RESET or INIT
+-- The session word is the number of sessions opened. After a store it is one more, and the end is
+-- in RESET or INIT.
 abbrev pub WordIs : End → Numbers → ℕ → Type 0
 WordIs end n word = ((n.stored ≡ false) × (word ≡ n.log.opened)) ⊎ ((n.stored ≡ true) × (word ≡ n.log.opened + 1) × (state_of end.handshake.phase ≤ 1))
 
--- an end that is in RUN, or about to set it
+-- The end is in RUN, or about to set it.
 abbrev pub IsCarrying : End → Place → Type 0
 IsCarrying end place = (state_of end.handshake.phase ≡ 3) ⊎ (place ≡ WritingState 3)
 
--- an end that is in INIT or READY, or about to set INIT
+-- The end is in INIT or READY, or about to set INIT.
 abbrev pub IsOnItsWay : End → Place → Type 0
 IsOnItsWay end place = (state_of end.handshake.phase ≡ 1) ⊎ ((state_of end.handshake.phase ≡ 2) ⊎ ((state_of end.handshake.phase ≡ 0) × (place ≡ WritingState 1)))
 
--- the numbers n of one end, at its place, against the numbers m of the other: it delivers in order by its own log; what it carried was opened, and is older
--- than what it carries next; what it loaded is the session that the other opened last; and its session word is the number of its own while the other carries
--- it
+-- The numbers `n` of one end, at its place, against the numbers `m` of the other:
+-- - the end delivers in order by its own log;
+-- - the session that it carried was opened, and is older than the one that it carries next;
+-- - the number that it loaded is the session that the other opened last;
+-- - its session word is its own session's number while the other carries that session.
 pub record IsPaired (end other : End) (place others_place : Place) (n m : Numbers) (word : ℕ) : Type 0 where
   pub deliver : DeliversInOrder (own_side end) (own_side other) n.log m.log
   pub one : 2 ≤ state_of end.handshake.phase → 1 ≤ n.log.opened
@@ -111,8 +117,8 @@ pub record IsPaired (end other : End) (place others_place : Place) (n m : Number
   pub word_is : WordIs end n word
   pub carried : IsCarrying other others_place → word ≡ n.log.opened
 
--- the runs are runs of honest ends, and of the link machine, whose logs are those that the ends keep by the numbers which they load; and the sessions are
--- paired
+-- The runs are runs of honest ends, and of the link machine. The machine's logs are the logs of the
+-- ends, by the numbers that they load, and the sessions are paired.
 abbrev pub SessionsArePaired : Type 0
 SessionsArePaired = (link_config : LinkConfig) (memory words : ℕ → ℕ) (ends : ℕ → End) (places : ℕ → Place) (numbers : ℕ → Numbers) → IsLinkConfig link_config →
     NumberedRuns link_config memory words ends places numbers → HonestRuns link_config memory ends places ×

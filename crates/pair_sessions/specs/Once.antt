@@ -1,4 +1,4 @@
--- Runs of two honest ends of which neither stops or is reset: each opens one session at most, and goes on in it.
+-- Runs in which neither honest end is stopped or reset. Each end opens at most one session.
 use Rattle.std.specs.Prelude.{ℕ, ◌≡◌, ◌≢◌, ◌-◌, ◌<◌, ◌≤◌, ◌⊎◌, true, List, [], ◌++◌}
 use Rattle.link_handshake.specs.declared.Phase.TheVariants.{Reset, Init}
 use Rattle.link_handshake.specs.PhaseTable.{state_of}
@@ -10,7 +10,7 @@ use Rattle.link_invariant.specs.LinkConfig.{LinkConfig, IsLinkConfig}
 use Rattle.link_invariant.specs.Steps.{IsUntouched, BeginsCall, TakesStep}
 use Rattle.link_invariant.specs.Sides.{SideIs}
 
--- where two honest ends come without Stop and without a reset
+-- The states that two honest ends can reach without Stop and without a reset.
 pub data CalmRuns (link_config : LinkConfig) : (ℕ → ℕ) → (ℕ → End) → (ℕ → Place) → Type 0 where
   starts : (memory : ℕ → ℕ) (ends : ℕ → End) (places : ℕ → Place) →
       ((w : ℕ) → memory w ≡ 0) → ((p : ℕ) → ends p ≡ fresh) → ((p : ℕ) → places p ≡ Closed) → CalmRuns link_config memory ends places
@@ -21,13 +21,16 @@ pub data CalmRuns (link_config : LinkConfig) : (ℕ → ℕ) → (ℕ → End) �
   others : (memory after : ℕ → ℕ) (ends : ℕ → End) (places : ℕ → Place) → CalmRuns link_config memory ends places →
       ((q : ℕ) → q < 2 → IsUntouched link_config memory after q) → CalmRuns link_config after ends places
 
--- an end that isn't on its way from INIT to READY
+-- The end isn't about to leave INIT for READY.
 pub record IsStill (place : Place) : Type 0 where
   pub clears : (at more state : ℕ) → place ≢ Clearing at more state
   pub sets : place ≢ WritingState 2
 
--- an end that has opened at most one session, and is in READY or RUN ever after; before it, its lists are empty; no open tick takes it back; and while it is
--- in RESET the other is in RESET too, or in INIT and not on its way
+-- An end that has opened at most one session:
+-- - after it, the end stays in READY or RUN;
+-- - before it, its lists are empty;
+-- - no open tick takes it back;
+-- - while it is in RESET, the other is in RESET too, or in INIT and not about to leave it.
 pub record IsOnce (end other : End) (place others_place : Place) (log : Log) : Type 0 where
   pub most : log.opened ≤ 1
   pub stays : 1 ≤ log.opened → 2 ≤ state_of end.handshake.phase
@@ -36,7 +39,8 @@ pub record IsOnce (end other : End) (place others_place : Place) (log : Log) : T
   pub up : place ≢ WritingState 0
   pub low : end.handshake.phase ≡ Reset → (other.handshake.phase ≡ Reset) ⊎ ((other.handshake.phase ≡ Init) × IsStill others_place)
 
--- the ends are the sides of a run of the machine; by its logs each opens one session at most; and all that one delivered begins what the other accepted
+-- The ends are the sides of a run of the machine. By its logs each opens at most one session, and
+-- all frames that one delivered are a beginning of the frames that the other accepted.
 abbrev pub CalmRunsDeliver : Type 0
 CalmRunsDeliver = (link_config : LinkConfig) (memory : ℕ → ℕ) (ends : ℕ → End) (places : ℕ → Place) → IsLinkConfig link_config → CalmRuns link_config memory ends places →
     (sides : ℕ → Side) × (logs : ℕ → Log) × MachineRuns link_config.sizes (λ p. true) sides logs ×

@@ -1,24 +1,33 @@
-//! The sessions of two honest ends: runs in which each opens one at most, and runs in which the ends number them by a session word each.
-//! It stands on `link_invariant` for the runs and on `link_machine` for the logs of sessions. It holds no code: each law is the contract of
-//! a function with an empty body.
+//! The sessions of two honest ends: runs in which each end opens at most one session, and runs in
+//! which the ends number their sessions by a session word each. The crate uses `link_invariant` for
+//! the runs and `link_machine` for the logs of sessions. It has no code: each law is the contract
+//! of a function with an empty body.
 //!
 //! # Design
 //!
-//! - Numbered sessions keep the link machine's own log (`log_told`): a State step with 3 carries the number that was loaded, and the law
-//!   says that it is the number that the other opened.
-//! - A store of the session word outlives a reset and a State step with 0 or 1: only the State step with 2 uses it up. A load is for the
-//!   next State step alone.
+//! - Numbered sessions have the link machine's own log (`log_after_event`). A State step with 3
+//!   carries the number that was loaded, and the law says that it is the number that the other
+//!   opened.
+//! - The store of the session word stays valid through a reset and a State step with 0 or 1: only
+//!   the State step with 2 uses it. A load is for the next State step alone.
 #![tactic(auto)]
 
 ghost use Rattle.pair_sessions.specs.Numbers.{SessionsArePaired};
 ghost use Rattle.pair_sessions.specs.Once.{CalmRunsDeliver};
 
-/// In runs without stops and resets each end opens one session at most, and all that one delivered begins what the other accepted.
+/// Law: in runs without stops and resets each end opens at most one session, and all frames that
+/// one delivered are a beginning of the frames that the other accepted.
+// claim: Without stops and resets each end opens one session at most, and what it delivers is a
+//    prefix of what the other accepted.
 pub fn calm_runs_deliver()
     ensures { CalmRunsDeliver }
 {}
 
-/// In runs with numbered sessions, each session delivers a beginning of what was accepted in the session whose number it loaded.
+/// Law: in runs with numbered sessions, each session delivers a beginning of the frames accepted in
+/// the session whose number it loaded.
+// claim: With numbered sessions, the numbers that the ends load are those of the link machine's
+//    logs. Each session delivers a prefix of the session that it carries, and none is carried
+//    twice. The session word is the number of the session that its end opened, or opens next.
 pub fn sessions_are_paired()
     ensures { SessionsArePaired }
 {}

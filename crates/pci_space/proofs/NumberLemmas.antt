@@ -34,7 +34,7 @@ number_from-within f g size at zero inside same = refl
 number_from-within f g size at (suc n) inside same =
     ap₂ (λ (b r : ℕ). b + 256 * r) (same at (omega arith)) (number_from-within f g size (suc at) n (omega arith) same)
 
--- A number in so many bytes fits them.
+-- A number in `width` bytes fits them.
 pub number_from-fits : (xs : List ℕ) (at n : ℕ) → ((k : ℕ) → slice_index xs k < 256) → number_from (slice_index xs) at n < 256 ^ n
 number_from-fits xs at n small =
     subst (λ v. v < 256 ^ n) (little_number-drop at n xs)

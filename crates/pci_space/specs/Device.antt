@@ -1,4 +1,5 @@
--- The configuration space of the device (the device's specification; PCI 3.0 for the header and MSI-X).
+-- The configuration space of the device (the device's specification; PCI 3.0 for the header and
+-- MSI-X).
 use Rattle.std.specs.Prelude.{ℕ, ◌*◌, ◌/◌, ◌%◌, List, [], ◌∷◌, Option, Some, None, false}
 use Rattle.section_map.specs.Geometry.{Shape}
 use Rattle.pci_space.specs.declared.field.Field.{Field}
@@ -12,8 +13,8 @@ use Rattle.pci_space.specs.Wiring.{if_msix, last_vector}
 abbrev pub row : ℕ → ℕ → ℕ → ℕ → Field
 row place width reset mask = record { place = place; width = width; reset = reset; mask = mask }
 
--- The rows of a device. Sizes are in bytes. The places of the two capabilities, the base address, the sizes after the Base
--- Address Registers and Command bits 2 and 3 side by side are profile.
+-- The rows of a device. Sizes are in bytes. Profile: the places of the two capabilities, the base
+-- address, the sizes of the windows, and that both Command bits 2 and 3 exist.
 abbrev pub device_rows : Shape → ℕ → Wiring → List Field
 device_rows shape protocol wiring =
     row 0x00 2 0x110A 0  -- Vendor ID
@@ -38,17 +39,17 @@ device_rows shape protocol wiring =
     ∷ row 0x58 8 0x1_0000_0000 0  -- Base Address
     ∷ row 0x60 1 (if_msix wiring 0x11 0) 0  -- the MSI-X capability
     ∷ row 0x61 1 0 0  -- the next capability: none
-    ∷ row 0x62 2 (last_vector wiring) (if_msix wiring 0xC000 0)  -- Message Control: bit 14 function mask, bit 15 enable
+    ∷ row 0x62 2 (last_vector wiring) (if_msix wiring 0xC000 0)  -- control: mask, enable
     ∷ row 0x64 4 (if_msix wiring 0x0000_0001 0) 0  -- the table of vectors, at offset 0 of BAR 1
     ∷ row 0x68 4 (if_msix wiring 0x0000_0801 0) 0  -- the pending bits, at offset 800h of BAR 1
     ∷ []
 
--- What a walk finds of a device's MSI-X.
+-- The MSI-X capability that a walk finds in a device.
 abbrev pub msix_of : Wiring → Option MsixFound
 msix_of (Msix vectors) = Some (record { vectors = vectors; table = 0x0000_0001; pending = 0x0000_0801 })
 msix_of Intx = None
 
--- What a walk finds of a device at reset.
+-- The device that a walk finds in a configuration space at reset.
 abbrev pub found_of : Shape → ℕ → Wiring → Found
 found_of shape protocol wiring = record {
   protocol = protocol;

@@ -1,16 +1,16 @@
--- Tables of fields, and spaces that are filled by one.
+-- Field tables, and spaces with a field table.
 use Rattle.std.specs.Prelude.{ℕ, ◌≡◌, ◌+◌, ◌-◌, ◌%◌, ◌^◌, Bool, ◌&&◌, ◌||◌, not, ◌==◌, nat_lt, nat_le, if◌then◌else◌, List, [], ◌∷◌, ◌++◌, slice_index, bit_and, bit_or, Option, Some, None}
 use Rattle.pci_space.specs.declared.field.Field.{Field}
 use Rattle.pci_space.specs.declared.field.FieldFault.{FieldFault}
 use Rattle.pci_space.specs.declared.field.FieldFault.TheVariants.{BadWidth, TooWide, Outside, Overlap}
 use Rattle.pci_space.specs.Numbers.{number_byte}
 
--- A table: its rows in order, and the number of bytes of the space that it was made for.
+-- A table: its rows in order, and the size of its space in bytes.
 pub record Rows : Type 0 where
   pub rows : List Field
   pub size : ℕ
 
--- A space: the rows of its table, and the bytes that it reads as, from the first.
+-- A space: the rows of its table, and the bytes that it reads, from byte 0 on.
 pub record Contents : Type 0 where
   pub rows : List Field
   pub bytes : List ℕ
@@ -19,12 +19,12 @@ pub record Contents : Type 0 where
 abbrev pub covers : Field → ℕ → Bool
 covers f k = nat_le f.place k && nat_lt k (f.place + f.width)
 
--- Byte k of the space at reset: that of the field there, 0 where there is none.
+-- Byte k of the space at reset: that of its field, 0 if there is no field.
 abbrev pub reset_byte : List Field → ℕ → ℕ
 reset_byte [] k = 0
 reset_byte (f ∷ fs) k = if covers f k then number_byte f.reset (k - f.place) else reset_byte fs k
 
--- The bits of byte k that a write changes: those of the field's mask, none where there is no field.
+-- The bits of byte k that a write changes: those of the field's mask, none if there is no field.
 abbrev pub mask_byte : List Field → ℕ → ℕ
 mask_byte [] k = 0
 mask_byte (f ∷ fs) k = if covers f k then number_byte f.mask (k - f.place) else mask_byte fs k
@@ -37,12 +37,14 @@ merged old new mask = bit_or (bit_and old (255 - mask)) (bit_and new mask)
 abbrev pub reaches : ℕ → ℕ → ℕ → Bool
 reaches offset width k = nat_le offset k && nat_lt k (offset + width)
 
--- Byte k of the space after a write, where it was `old` before: its masked bits are the value's, if the write reaches it.
+-- Byte k of the space after a write, with `old` before it: its masked bits are those of the value
+-- if the access has byte k.
 abbrev pub merged_byte : List Field → ℕ → ℕ → ℕ → ℕ → ℕ → ℕ
 merged_byte rows offset width value k old =
     if reaches offset width k then merged old (number_byte value (k - offset)) (mask_byte rows k) else old
 
--- An access is allowed: its width is 1, 2 or 4, its offset is a multiple of that, and it ends inside the space.
+-- An access is allowed: its width is 1, 2 or 4, its offset is a multiple of the width, and it ends
+-- within the space.
 abbrev pub is_access : ℕ → ℕ → ℕ → Bool
 is_access size offset width = (width == 1 || width == 2 || width == 4) && (offset % width == 0 && nat_le (offset + width) size)
 
@@ -54,7 +56,7 @@ shares f g = nat_lt f.place (g.place + g.width) && nat_lt g.place (f.place + f.w
 abbrev pub is_width : ℕ → Bool
 is_width width = width == 1 || width == 2 || width == 4 || width == 8
 
--- A number fits so many bytes.
+-- A number fits `width` bytes.
 abbrev pub fits_width : ℕ → ℕ → Bool
 fits_width n width = nat_lt n (256 ^ width)
 
@@ -63,7 +65,8 @@ abbrev pub overlap : Field → ℕ → ℕ → List Field → Option FieldFault
 overlap f n m [] = None
 overlap f n m (g ∷ gs) = if shares g f then Some (Overlap n m) else overlap f n (m + 1) gs
 
--- What is wrong with row n after the earlier rows: its width, then its numbers, then its end, then a row that it overlaps.
+-- The fault of row n after the earlier rows, if there is one: its width, then its numbers, then its
+-- end, then a row that it overlaps.
 abbrev pub row_fault : ℕ → List Field → ℕ → Field → Option FieldFault
 row_fault size earlier n f =
     if not (is_width f.width) then Some (BadWidth n)
@@ -81,11 +84,12 @@ abbrev pub first_fault : ℕ → List Field → ℕ → List Field → Option Fi
 first_fault size earlier n [] = None
 first_fault size earlier n (f ∷ fs) = or_else (row_fault size earlier n f) (first_fault size (earlier ++ f ∷ []) (n + 1) fs)
 
--- The fault of a table of these rows for a space of so many bytes: that of the first row that has one (profile).
+-- The fault of a table of these rows for a space of a size: that of the first row with a fault
+-- (profile).
 abbrev pub table_fault : List Field → ℕ → Option FieldFault
 table_fault rows size = first_fault size [] 0 rows
 
--- The bits that no write changes are those of the reset values, and 0 where there is no field.
+-- The bits that no write changes are those of the reset values, and 0 if there is no field.
 abbrev pub KeepsUnmasked : List Field → List ℕ → Type 0
 KeepsUnmasked rows bytes = (k : ℕ) →
     bit_and (slice_index bytes k) (255 - mask_byte rows k) ≡ bit_and (reset_byte rows k) (255 - mask_byte rows k)

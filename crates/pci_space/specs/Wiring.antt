@@ -1,9 +1,9 @@
--- How a world's devices raise interrupts.
+-- How the devices of a world raise interrupts.
 use Rattle.std.specs.Prelude.{ℕ, ◌-◌, ◌≤◌}
 use Rattle.pci_space.specs.declared.wiring.Wiring.{Wiring}
 use Rattle.pci_space.specs.declared.wiring.Wiring.TheVariants.{Msix, Intx}
 
--- A wiring has 1 to 64 MSI-X vectors, or the one INTx line (profile).
+-- A wiring has 1 to 64 MSI-X vectors, or INTx (profile).
 abbrev pub IsWiring : Wiring → Type 0
 IsWiring (Msix vectors) = (1 ≤ vectors) × (vectors ≤ 64)
 IsWiring Intx = Unit {0}
@@ -13,7 +13,7 @@ abbrev pub if_msix : Wiring → ℕ → ℕ → ℕ
 if_msix (Msix vectors) with_msix with_intx = with_msix
 if_msix Intx with_msix with_intx = with_intx
 
--- The number of the last MSI-X vector, as Message Control has it (PCI 3.0, 6.8.2.3); 0 with INTx.
+-- The number of the last MSI-X vector, as in Message Control (PCI 3.0, 6.8.2.3); 0 with INTx.
 abbrev pub last_vector : Wiring → ℕ
 last_vector (Msix vectors) = vectors - 1
 last_vector Intx = 0

@@ -1,4 +1,4 @@
-//! The walk over configuration bytes that somebody else wrote.
+//! The walk over configuration bytes that cannot be trusted.
 ghost use Rattle.std.specs.Prelude.{◌≡◌, ℕ, ◌<◌, ◌≤◌, List, [], None};
 ghost use Rattle.pci_space.specs.Walk.{pointer_at, vendor_at, msix_at, listed_with, Comes, IsWalk, nothing_listed};
 
@@ -10,11 +10,12 @@ const VENDOR_ID: u8 = 0x09;
 /// The ID of the MSI-X capability (PCI 3.0).
 const MSIX_ID: u8 = 0x11;
 
-/// Finds the device in configuration bytes that can't be trusted.
+/// Finds the device in configuration bytes that cannot be trusted.
 ///
-/// The first vendor capability and the first MSI-X capability of the list count, and others are passed over. Each
-/// fault is the first in the order of the list, and a walk ends on every input, since a pointer that was met before
-/// is a fault.
+/// Only the first vendor capability and the first MSI-X capability of the list count. Returns the
+/// first fault in the order of the list. A walk ends on every input: a pointer that occurs twice is
+/// a fault.
+// claim: A walk over 256 foreign bytes ends, with the answer of its rules.
 pub fn walk(bytes: &[u8; 256]) -> Result<Found, CapabilityFault>
     ensures { IsWalk bytes.now result }
 {
@@ -26,7 +27,7 @@ pub fn walk(bytes: &[u8; 256]) -> Result<Found, CapabilityFault>
     if bytes[0x0B] != 0xFF {
         return Err(CapabilityFault::BadClass(bytes[0x0B]));
     }
-    // Status bit 4 says that there is a list.
+    // Status bit 4 is set if there is a list.
     if bytes[0x06] / 16 % 2 == 0 {
         return Err(CapabilityFault::NoVendor);
     }
@@ -69,7 +70,7 @@ fn follow_list(bytes: &[u8; 256]) -> Result<Listed, CapabilityFault>
     Ok(so_far)
 }
 
-/// The pointer at a place, with its low two bits cleared, as PCI asks.
+/// Returns the pointer at an offset, with its low two bits cleared (PCI 3.0, 6.7).
 fn pointer(bytes: &[u8; 256], at: usize) -> usize
     requires { at < 256 }
     ensures is { result ≡ pointer_at bytes.now at }
@@ -79,7 +80,7 @@ fn pointer(bytes: &[u8; 256], at: usize) -> usize
     byte - byte % 4
 }
 
-/// What the list has said with the capability at p.
+/// Returns the findings in the list after the capability at `p`.
 fn with_capability(bytes: &[u8; 256], p: usize, so_far: Listed) -> Result<Listed, CapabilityFault>
     requires { p ≤ 252 }
     ensures { result ≡ listed_with bytes.now p so_far }
@@ -101,7 +102,7 @@ fn with_capability(bytes: &[u8; 256], p: usize, so_far: Listed) -> Result<Listed
     Ok(so_far)
 }
 
-/// The vendor capability at p.
+/// Reads the vendor capability at `p`.
 fn read_vendor(bytes: &[u8; 256], p: usize) -> Result<Vendor, CapabilityFault>
     requires { p ≤ 252 }
     ensures { result ≡ vendor_at bytes.now p }
@@ -127,7 +128,7 @@ fn read_vendor(bytes: &[u8; 256], p: usize) -> Result<Vendor, CapabilityFault>
     })
 }
 
-/// The MSI-X capability at p.
+/// Reads the MSI-X capability at `p`.
 fn read_msix(bytes: &[u8; 256], p: usize) -> Result<MsixFound, CapabilityFault>
     requires { p ≤ 252 }
     ensures { result ≡ msix_at bytes.now p }
@@ -142,7 +143,8 @@ fn read_msix(bytes: &[u8; 256], p: usize) -> Result<MsixFound, CapabilityFault>
     })
 }
 
-/// A walk over the same bytes has one answer. This function is that law.
+/// Two walks over the same bytes have one result. This function is that law.
+// claim: A walk has one answer.
 pub fn one_walk()
     ensures { (bytes : List ℕ) (first second : _) → IsWalk bytes first → IsWalk bytes second → first ≡ second }
 {}

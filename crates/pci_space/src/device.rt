@@ -25,7 +25,9 @@ macro_rules! rows {
     };
 }
 
-/// The configuration space of a device at reset. It is the same for every peer of a world.
+/// Returns the configuration space of a device at reset, the same for every peer of a world.
+// claim rows, bytes: The device's space is the table of 25 rows, for every geometry, protocol and
+//    wiring.
 pub fn device_space(geometry: &Geometry, protocol: u16, wiring: Wiring) -> ConfigSpace
     requires { IsWiring wiring }
     ensures rows { result.rows ≡ device_rows geometry.now protocol wiring }
@@ -35,7 +37,7 @@ pub fn device_space(geometry: &Geometry, protocol: u16, wiring: Wiring) -> Confi
     Space::new(table)
 }
 
-/// The fields of a device.
+/// Returns the fields of a device.
 fn rows_of(geometry: &Geometry, protocol: u16, wiring: Wiring) -> [Field; 25]
     requires { IsWiring wiring }
     ensures rows { result ≡ device_rows geometry.now protocol wiring }
@@ -70,7 +72,7 @@ fn rows_of(geometry: &Geometry, protocol: u16, wiring: Wiring) -> [Field; 25]
     }
 }
 
-/// The table of rows that have no fault in 256 bytes.
+/// Returns the field table of rows without a fault in 256 bytes.
 fn table_of<const N: usize>(rows: [Field; N]) -> FieldTable<N>
     requires small { N < 2 ^ 32 }
     requires sound { table_fault rows 256 ≡ None }
@@ -82,7 +84,10 @@ fn table_of<const N: usize>(rows: [Field; N]) -> FieldTable<N>
     }
 }
 
-/// A walk over the bytes of a device's space, at reset, finds what the space was made of. This function is that law.
+/// A walk over a device's configuration space at reset finds the geometry, the protocol and the
+/// wiring of the device. This function is that law.
+// claim: A walk over the bytes of a device's space finds the sizes, protocol and wiring that the
+//    space was made of.
 pub fn walk_finds_the_device()
     ensures { (shape : Shape) (protocol : ℕ) (wiring : Wiring) (bytes : List ℕ) (answer : _) →
         IsShape shape → protocol < 2 ^ 16 → IsWiring wiring →

@@ -7,35 +7,35 @@ use thiserror::Error;
 /// A field of a space.
 #[derive(Clone, Copy, Debug, PartialEq, Eq)]
 pub struct Field {
-    /// Its first byte.
+    /// The offset of its first byte.
     pub place: u16,
     /// Its number of bytes: 1, 2, 4 or 8.
     pub width: u16,
-    /// What it holds at reset.
+    /// The value at reset.
     pub reset: u64,
     /// The bits that a write changes.
     pub mask: u64,
 }
 
-/// Why rows make no table. Rows are numbered from 0, and each fault has the number of its row.
+/// Why rows make no field table. Rows are numbered from 0. Each fault has the number of its row.
 #[derive(Clone, Copy, Debug, PartialEq, Eq, Error)]
 pub enum FieldFault {
-    /// The width isn't 1, 2, 4 or 8.
+    /// The width is not 1, 2, 4 or 8.
     #[error("row {0} has a width other than 1, 2, 4 and 8")]
     BadWidth(u32),
-    /// The reset value or the mask doesn't fit the width.
+    /// The reset value or the mask does not fit the width.
     #[error("row {0} has a reset value or a mask that doesn't fit its width")]
     TooWide(u32),
-    /// The field ends past the space.
+    /// The field ends after the space.
     #[error("row {0} ends past the space")]
     Outside(u32),
-    /// The field shares a byte with an earlier row, the first of which is the second number.
+    /// The field shares a byte with an earlier row. The second number is the first such row.
     #[error("row {0} overlaps row {1}")]
     Overlap(u32, u32),
 }
 
 impl Field {
-    /// Does the field have byte k of the space?
+    /// Whether the field has byte `k` of the space.
     pub(crate) fn has_byte(&self, k: usize) -> bool
         requires { k < 65536 }
         ensures { result ≡ covers self.now k }
@@ -44,7 +44,7 @@ impl Field {
         place <= k && k < place + usize::from(self.width)
     }
 
-    /// Has the field one of the `count` bytes from `at` on?
+    /// Whether the field has one of the `count` bytes from `at` on.
     pub(crate) fn has_one_of(&self, at: usize, count: usize) -> bool
         requires { at + count < 65536 }
         ensures { result ≡ false → (k : ℕ) → at ≤ k → k < at + count → covers self.now k ≡ false }
@@ -53,7 +53,7 @@ impl Field {
         at < place + usize::from(self.width) && place < at + count
     }
 
-    /// Does it share a byte with another?
+    /// Whether the two fields share a byte.
     pub(crate) fn shares_with(&self, other: &Field) -> bool
         ensures { result ≡ shares self.now other.now }
     {
@@ -62,7 +62,7 @@ impl Field {
         u32::from(self.place) < other_end && u32::from(other.place) < end
     }
 
-    /// Has it a width that a field may have?
+    /// Whether a field may have the width.
     pub(crate) fn has_good_width(&self) -> bool
         ensures { result ≡ is_width self.now.width }
     {
@@ -70,7 +70,7 @@ impl Field {
     }
 }
 
-/// Does a number fit so many bytes?
+/// Whether a number fits `width` bytes.
 pub(crate) fn fits(number: u64, width: u16) -> bool
     requires { IsTrue (is_width width) }
     ensures { result ≡ fits_width number width }

@@ -1,24 +1,24 @@
-//! What a walk over configuration bytes finds, and its faults.
+//! The results of a walk over configuration bytes, and its faults.
 use thiserror::Error;
 
-/// What a walk found of MSI-X. The two words are kept as they were read: the low three bits of each name a
-/// Base Address Register, the rest is an offset after it.
+/// The MSI-X capability that a walk found. The low three bits of the two words are the number of a
+/// Base Address Register. The other bits are the offset in its window.
 #[derive(Clone, Copy, Debug, PartialEq, Eq)]
 pub struct MsixFound {
     /// The number of vectors, 1 to 2,048.
     pub vectors: u32,
-    /// Where the table of vectors is.
+    /// Base Address Register and offset of the MSI-X table.
     pub table: u32,
-    /// Where the Pending Bit Array is.
+    /// Base Address Register and offset of the Pending Bit Array.
     pub pending: u32,
 }
 
-/// What a walk found.
+/// The device that a walk found.
 #[derive(Clone, Copy, Debug, PartialEq, Eq)]
 pub struct Found {
     /// The protocol: the Interface in the low byte, the Sub-Class in the high one.
     pub protocol: u16,
-    /// Whether Privileged Control asks for one-shot mode.
+    /// Whether Privileged Control enables one-shot mode.
     pub one_shot: bool,
     /// Bytes of the State Table.
     pub table: u32,
@@ -26,16 +26,16 @@ pub struct Found {
     pub common: u64,
     /// Bytes of an output section.
     pub out: u64,
-    /// The Base Address, where the vendor capability is long enough to have one.
+    /// The Base Address, if the vendor capability is long enough to have one.
     pub base: Option<u64>,
-    /// The first MSI-X capability, where there is one.
+    /// The first MSI-X capability, if there is one.
     pub msix: Option<MsixFound>,
 }
 
-/// Why a walk found no device.
+/// Why a walk finds no device.
 #[derive(Clone, Copy, Debug, PartialEq, Eq, Error)]
 pub enum CapabilityFault {
-    /// Vendor and device ID are others than this device's.
+    /// Vendor and Device ID are those of another device.
     #[error("device {vendor:04x}:{device:04x} is another")]
     NotThisDevice {
         /// The Vendor ID as read.
@@ -43,16 +43,16 @@ pub enum CapabilityFault {
         /// The Device ID as read.
         device: u16,
     },
-    /// The Base Class is another than FFh.
+    /// The Base Class is not FFh.
     #[error("base class {0:02x} isn't ff")]
     BadClass(u8),
-    /// A pointer is below 40h, or the capability at it passes the space. It has the pointer.
+    /// The pointer is below 40h, or the capability at the pointer ends after the space.
     #[error("the capability at {0:02x} leaves the space")]
     OutOfSpace(u16),
-    /// The list comes back to a pointer that was met before.
+    /// The list has the pointer twice.
     #[error("the list comes back to {0:02x}")]
     Loop(u16),
-    /// The vendor capability has a length other than 18h and 20h.
+    /// The length of the vendor capability is neither 18h nor 20h.
     #[error("a vendor capability of {0} bytes")]
     BadVendorLength(u8),
     /// The device has no list, or its list ends without a vendor capability.
@@ -60,10 +60,10 @@ pub enum CapabilityFault {
     NoVendor,
 }
 
-/// What the vendor capability says.
+/// The fields of the vendor capability.
 #[derive(Clone, Copy, Debug, PartialEq, Eq)]
 pub(crate) struct Vendor {
-    /// The device has a one-shot mode.
+    /// Whether Privileged Control enables one-shot mode.
     pub one_shot: bool,
     /// Bytes of the State Table.
     pub table: u32,
@@ -71,11 +71,11 @@ pub(crate) struct Vendor {
     pub common: u64,
     /// Bytes of each output section.
     pub out: u64,
-    /// The region's base address, where the capability has one.
+    /// The region's base address, if the capability has one.
     pub base: Option<u64>,
 }
 
-/// What the list has said so far.
+/// The findings in the list so far.
 #[derive(Clone, Copy, Debug, PartialEq, Eq)]
 pub(crate) struct Listed {
     /// Its first vendor capability.

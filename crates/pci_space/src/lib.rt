@@ -1,16 +1,21 @@
-//! The configuration space of the device, by a table of its fields, and the walk that finds the device in
-//! configuration bytes that can't be trusted. It stands on `section_map` for the sizes of the region. Its
-//! contracts promise that a read gives the bytes of the fields and 0 where there is none, that a write
-//! changes exactly the bits that the table opens, and that a walk ends with the one answer that its bytes have.
+//! The configuration space of the device, as a field table, and the walk that finds the device in
+//! configuration bytes that cannot be trusted. It stands on `section_map` for the sizes of the
+//! region. Its contracts promise that a read returns the bytes of the fields, and 0 if there is no
+//! field; that a write changes exactly the masked bits; and that a walk ends with the one result of
+//! its bytes.
 //!
 //! # Design
 //!
-//! - A space is seen as the rows of its table and the bytes that it reads as. Past its end it reads as 0 in the definitions, so that no law
-//!   about its bytes needs the bound of the space; a read past the end is refused.
-//! - "The bytes of the fields" is said by two clauses: what a reset makes of each byte (`reset_byte`), and that the bits that no write
-//!   changes are those of the reset values for ever (`KeepsUnmasked`), hence 0 where there is no field.
-//! - A walk is a relation with five rules and no fuel: the list ends, a pointer is too low, was met before, its capability is faulty, or
-//!   the list goes on (`specs/Walk`). That two walks over the same bytes have one answer is a law (`one_walk`).
+//! - The view of a space is the rows of its table and the bytes that it reads. In the definitions
+//!   it reads 0 after its end, so that no law about its bytes needs the size of the space. The code
+//!   refuses a read that ends after the space.
+//! - Two clauses define the bytes of the fields: the value of each byte at reset (`reset_byte`),
+//!   and that bits outside the masks always have their reset values (`KeepsUnmasked`).
+//! - A walk is a relation with five rules: the list ends, a pointer is too low, a pointer occurs
+//!   twice, a capability is faulty, or the list continues (`specs/Walk`). A law says that two walks
+//!   over the same bytes have one result (`one_walk`).
+// tested: `lspci` reads the device's bytes as this device with its two capabilities
+//    (`checks/lspci`).
 #![tactic(auto)]
 
 mod capabilities;

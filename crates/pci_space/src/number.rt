@@ -4,7 +4,7 @@ ghost use Rattle.pci_space.specs.Numbers.{number_byte, number_from};
 
 use byteorder::{ByteOrder, LittleEndian};
 
-/// Byte i of a number, the lowest first.
+/// Returns byte `i` of a number, the lowest byte first.
 pub(crate) fn byte_of(number: u64, i: usize) -> u8
     ensures { result ≡ number_byte number i }
 {
@@ -16,7 +16,7 @@ pub(crate) fn byte_of(number: u64, i: usize) -> u8
     bytes[i]
 }
 
-/// The number in `count` bytes from place `at` on, the lowest byte first.
+/// Returns the number in `count` bytes from offset `at` on, the lowest byte first.
 pub(crate) fn number_in(bytes: &[u8], at: usize, count: usize) -> u64
     requires some { 1 ≤ count }
     requires most { count ≤ 8 }

@@ -1,4 +1,4 @@
-//! A space of bytes that a table of fields fills: its reads and its writes.
+//! The bytes of a field table: reads and writes.
 ghost use Rattle.std.specs.Prelude.{◌≡◌, ℕ, ◌+◌, ◌<◌, ◌≤◌, ◌↔◌, length, slice_index, IfOk, IfErr, OnOk, IsOk, IsTrue};
 ghost use Rattle.pci_space.specs.Numbers.{number_from};
 ghost use Rattle.pci_space.specs.Fields.{reset_byte, mask_byte, merged, is_access, merged_byte, KeepsUnmasked};
@@ -9,20 +9,20 @@ use crate::table::FieldTable;
 use std::marker::Model;
 use thiserror::Error;
 
-/// An access that a space refuses: its width isn't 1, 2 or 4, its offset isn't a multiple of the width, or it
-/// ends past the space.
+/// An access that a space refuses: the width is not 1, 2 or 4, the offset is not a multiple of the
+/// width, or the access ends after the space.
 #[derive(Clone, Copy, Debug, PartialEq, Eq, Error)]
 #[error("no access of {width} bytes at offset {offset}")]
 pub struct BadAccess {
-    /// The first byte.
+    /// The offset of the first byte.
     pub offset: u16,
     /// The number of bytes.
     pub width: u16,
 }
 
-/// A space of B bytes, filled by a table of N fields.
+/// A space of B bytes with a table of N fields.
 ///
-/// A contract sees it as the rows of the table and the bytes that it reads as.
+/// Its view is the rows of the table and the bytes that it reads.
 #[derive(Clone, Copy, Debug)]
 pub struct Space<const N: usize, const B: usize> {
     table: FieldTable<N>,
@@ -46,7 +46,7 @@ impl<const N: usize, const B: usize> Model for Space<N, B> {
 }
 
 impl<const N: usize, const B: usize> Space<N, B> {
-    /// A space at reset. The table was made for B bytes.
+    /// Returns a space at reset. Requires that the table was made for B bytes.
     pub fn new(table: FieldTable<N>) -> Space<N, B>
         requires { table.size ≡ B }
         ensures rows { result.rows ≡ table.entry.rows }
@@ -64,9 +64,14 @@ impl<const N: usize, const B: usize> Space<N, B> {
         self.bytes = bytes_at_reset(self.table.rows());
     }
 
-    /// The number in the `width` bytes from `offset` on, the lowest byte first.
+    /// Returns the number in the `width` bytes from `offset` on, the lowest byte first.
     ///
-    /// Where no field is, the bytes are 0.
+    /// Bytes without a field are 0.
+    // claim value, kept with Space::new.rows, Space::new.bytes, Space::reset.rows,
+    //    Space::reset.bytes: A read returns the bytes of the fields, lowest first, and 0 outside of
+    //    all fields. A new space, and one that is reset, has the reset bytes of its rows.
+    // claim allowed, refused with Space::write.allowed, Space::write.refused: `BadAccess` is
+    //    returned exactly for a width, alignment or end that is not allowed, and nothing changes.
     pub fn read(&self, offset: u16, width: u16) -> Result<u32, BadAccess>
         ensures allowed { IsOk result ↔ IsTrue (is_access B offset width) }
         ensures value { IfOk result (λ v. v ≡ number_from (slice_index self.now.bytes) offset width) }
@@ -81,9 +86,11 @@ impl<const N: usize, const B: usize> Space<N, B> {
         Ok(number as u32)
     }
 
-    /// Changes the masked bits of the `width` bytes from `offset` on to those of the value, the lowest byte first.
+    /// Sets the masked bits of the `width` bytes from `offset` on to those of the value, the lowest
+    /// byte first.
     ///
-    /// Nothing else changes, and after BadAccess nothing at all.
+    /// Nothing else changes. Nothing changes if the result is `BadAccess`.
+    // claim written, rows: A write changes exactly the masked bits of the bytes that it writes.
     pub fn write(&mut self, offset: u16, width: u16, value: u32) -> Result<(), BadAccess>
         ensures allowed { IsOk result ↔ IsTrue (is_access B offset width) }
         ensures written { OnOk result ((k : ℕ) → slice_index self.new.bytes k ≡ merged_byte self.old.rows offset width value k (slice_index self.old.bytes k)) }
@@ -104,7 +111,7 @@ impl<const N: usize, const B: usize> Space<N, B> {
     }
 }
 
-/// Is this an access of a space of so many bytes?
+/// Whether a space of `size` bytes has the access.
 fn is_allowed(size: usize, offset: u16, width: u16) -> bool
     ensures { result ≡ is_access size offset width }
 {
@@ -126,7 +133,7 @@ fn write_bytes(bytes: &mut [u8], rows: &[Field], at: usize, count: usize, value:
     }
 }
 
-/// The rows from the first on that has one of `count` bytes.
+/// Returns the rows from the first row on that has one of the `count` bytes from `at` on.
 fn rows_near(rows: &[Field], at: usize, count: usize) -> &[Field]
     requires { at + count < 65536 }
     ensures { (k : ℕ) → at ≤ k → k < at + count → mask_byte result.now k ≡ mask_byte rows.now k }
@@ -141,14 +148,14 @@ fn rows_near(rows: &[Field], at: usize, count: usize) -> &[Field]
     near
 }
 
-/// The masked bits of `new`, and the others of `old`.
+/// Returns the masked bits of `new` and the other bits of `old`.
 fn merge(old: u8, new: u8, mask: u8) -> u8
     ensures { result ≡ merged old new mask }
 {
     (old & !mask) | (new & mask)
 }
 
-/// The bits of byte k that a write changes.
+/// Returns the bits of byte `k` that a write changes.
 fn mask_at(rows: &[Field], k: usize) -> u8
     requires { k < 65536 }
     ensures { result ≡ mask_byte rows.now k }
@@ -161,7 +168,7 @@ fn mask_at(rows: &[Field], k: usize) -> u8
     0
 }
 
-/// Byte k at reset.
+/// Returns byte `k` at reset.
 fn reset_at(rows: &[Field], k: usize) -> u8
     requires { k < 65536 }
     ensures { result ≡ reset_byte rows.now k }
@@ -174,7 +181,7 @@ fn reset_at(rows: &[Field], k: usize) -> u8
     0
 }
 
-/// All bytes at reset.
+/// Returns all bytes at reset.
 fn bytes_at_reset<const B: usize>(rows: &[Field]) -> [u8; B]
     requires { B < 65536 }
     ensures long { length result ≡ B }

@@ -1,13 +1,13 @@
-//! A table of fields in which no fault was found.
+//! A field table without a fault.
 ghost use Rattle.std.specs.Prelude.{◌≡◌, ◌^◌, ◌<◌, Some, None, length, IfOk, IfErr};
 ghost use Rattle.pci_space.specs.Fields.{row_fault, table_fault, overlap};
 
 use crate::field::{Field, FieldFault, fits};
 use std::marker::Model;
 
-/// A table of N fields, for a space of a certain number of bytes, in which no fault was found.
+/// A table of N fields without a fault, for a space of a fixed size.
 ///
-/// A contract sees it as its rows and that number.
+/// Its view is the rows and the size of the space in bytes.
 #[derive(Clone, Copy, Debug)]
 pub struct FieldTable<const N: usize> {
     rows: [Field; N],
@@ -28,10 +28,12 @@ impl<const N: usize> Model for FieldTable<N> {
 }
 
 impl<const N: usize> FieldTable<N> {
-    /// A table of these rows for a space of so many bytes.
+    /// Returns the table of rows for a space of `bytes` bytes, or the first fault.
     ///
-    /// Rows are tested in order, and for each row its width, then its reset value and mask, then its end, then the
-    /// rows before it. The answer is the first fault.
+    /// The order of tests: the rows in order, and for each row its width, then its reset value and
+    /// mask, then its end, then the rows before it.
+    // claim sound, made, fault: A table is made exactly of rows without a fault; otherwise the
+    //    first fault is returned.
     pub fn of(rows: [Field; N], bytes: u16) -> Result<FieldTable<N>, FieldFault>
         requires { N < 2 ^ 32 }
         ensures sound { IfOk result (λ _. table_fault rows.entry bytes ≡ None) }
@@ -46,7 +48,7 @@ impl<const N: usize> FieldTable<N> {
         Ok(FieldTable { rows, bytes })
     }
 
-    /// The rows of the table.
+    /// Returns the rows of the table.
     pub(crate) fn rows(&self) -> &[Field]
         ensures rows { result.now ≡ self.now.rows }
         ensures sound { table_fault self.now.rows self.now.size ≡ None }
@@ -55,7 +57,7 @@ impl<const N: usize> FieldTable<N> {
     }
 }
 
-/// What is wrong with row n, after the earlier rows?
+/// Returns the fault of row `n` after the earlier rows, if there is one.
 fn fault_of_row(bytes: u16, earlier: &[Field], n: u32, row: &Field) -> Option<FieldFault>
     requires { n ≡ length earlier.now }
     ensures { result ≡ row_fault bytes earlier.now n row.now }
@@ -72,7 +74,7 @@ fn fault_of_row(bytes: u16, earlier: &[Field], n: u32, row: &Field) -> Option<Fi
     first_overlap(n, earlier, row)
 }
 
-/// Which earlier row shares a byte with row n?
+/// Returns the first earlier row that shares a byte with row `n`.
 fn first_overlap(n: u32, earlier: &[Field], row: &Field) -> Option<FieldFault>
     requires { n ≡ length earlier.now }
     ensures { result ≡ overlap row.now n 0 earlier.now }

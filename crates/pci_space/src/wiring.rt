@@ -1,20 +1,20 @@
-//! How interrupts are raised, and what of the fields depends on it.
+//! How interrupts are raised, and the fields that depend on it.
 ghost use Rattle.std.specs.Prelude.{◌≡◌};
 ghost use Rattle.pci_space.specs.Wiring.{IsWiring, if_msix, last_vector};
 
 /// How a world's devices raise interrupts.
 ///
-/// Wherever a wiring is taken it has 1 to 64 vectors (profile).
+/// Each function that has a wiring as an argument requires 1 to 64 vectors (profile).
 #[derive(Clone, Copy, Debug, PartialEq, Eq)]
 pub enum Wiring {
     /// By MSI-X messages, with this many vectors.
     Msix(u32),
-    /// By the one line of INTx.
+    /// By INTx.
     Intx,
 }
 
 impl Wiring {
-    /// The first number with MSI-X, the second with INTx.
+    /// Returns the first number with MSI-X, the second with INTx.
     pub(crate) fn choose(self, with_msix: u64, with_intx: u64) -> u64
         ensures { result ≡ if_msix self with_msix with_intx }
     {
@@ -24,7 +24,7 @@ impl Wiring {
         }
     }
 
-    /// The number of the last vector, as Message Control has it.
+    /// Returns the number of the last vector, as in Message Control; 0 with INTx.
     pub(crate) fn last_vector(self) -> u64
         requires { IsWiring self }
         ensures { result ≡ last_vector self }

@@ -1,4 +1,5 @@
--- Along the memory operations of peers: what each one changes in an honest end, and what holds of its list.
+-- Along the memory operations of peers: what each one changes in an honest end, and what holds of
+-- its list.
 use Rattle.std.proofs.Common.{◌≡◌, ℕ, ◌-◌, true, List, [], ◌∷◌, ◌++◌, refl, sym, ap, ◌∙◌, subst}
 use mathlib.Core.Logic.{dite}
 use native.Mathlib.Decide.{ℕ_discrete}
@@ -80,7 +81,7 @@ stated_phase end a = refl
 abbrev pub place_before : RunSetup → ℕ → List (MemoryOp CallAccess) → CallAccess → Place
 place_before key p list t = (begun_if (config_of (link_config_of key) p) (derived_state key p list) t.begins).place
 
--- the access t of an honest peer p, behind its list
+-- the access t of an honest peer p, after its list
 pub record Turn (key : RunSetup) (p : ℕ) (memory after : ℕ → ℕ) (list : List (MemoryOp CallAccess)) (t : CallAccess) : Type 0 where
   pub alone : EndInvariant (link_config_of key) memory p (derived_state key p list).end (place_before key p list t)
   pub next : IsNext key p (derived_state key p list) t.begins t.access
@@ -128,7 +129,7 @@ IsQuiet (numbered number) = Unit {0}
 IsQuiet (carried number) = Unit {0}
 IsQuiet d = ⊥
 
--- behind the list of an honest peer p it changes neither its end nor its place
+-- after the list of an honest peer p, d changes neither the peer's end nor its place
 pub record Quiet (key : RunSetup) (p : ℕ) (list : List (MemoryOp CallAccess)) (d : MemoryOp CallAccess) : Type 0 where
   pub kind : IsQuiet d
   pub access : access_of d ≡ access.Nothing
@@ -141,7 +142,7 @@ quiet_of key p list restarted hp is = absurd is
 quiet_of key p list (numbered number) hp is = let then = standing_snoc key p list (numbered number) ∙ stand_honest key p (derived_state key p list) (numbered number) hp in record { kind = tt; access = refl; end = ap (λ (x : DerivedState). x.end) then; place = ap (λ (x : DerivedState). x.place) then }
 quiet_of key p list (carried number) hp is = let then = standing_snoc key p list (carried number) ∙ stand_honest key p (derived_state key p list) (carried number) hp in record { kind = tt; access = refl; end = ap (λ (x : DerivedState). x.end) then; place = ap (λ (x : DerivedState). x.place) then }
 
--- A reset of an honest peer p, behind its list
+-- A reset of an honest peer p, after its list
 
 pub record Restart (key : RunSetup) (p : ℕ) (memory after : ℕ → ℕ) (list : List (MemoryOp CallAccess)) : Type 0 where
   pub stored : Stored memory after p 0

@@ -1,4 +1,4 @@
--- The code's peer on the course of the runner.
+-- The code's peer on the trajectory of the runner.
 use Rattle.std.proofs.Common.{◌≡◌, ℕ, zero, suc, ◌+◌, ◌<◌, ◌≤◌, Bool, true, false, List, [], ◌∷◌, ◌++◌, length, refl, sym, ap, ◌∙◌, subst, arith, drop-cons}
 use Rattle.std.specs.Prelude.{◌^◌, Option, Some, None, Result, IsErr, not, drop, slice_index}
 use Rattle.std.proofs.lemmas.Bool.{lt-ltb}
@@ -82,7 +82,7 @@ pub planned_cut : (plan cut : Plan) (r : Runner) → IsPlanOf plan (round_on r.a
 planned_cut plan cut r planned is = subst (λ (p : Plan). IsPlanOf p (restarted_on r).auto) (sym is)
     (subst (IsPlanOf (record plan { round = Anew })) (round_cut r.auto (chosen r)) (plan_cut plan (record r { auto = round_on r.auto (chosen r) }) planned))
 
--- a turn at a session word tells nothing
+-- a turn at a session word records no line
 pub met_silent : (me number : ℕ) (word : SessionWord) → lines_in me (turn_met word number) ≡ []
 met_silent me number Own = refl
 met_silent me number Others = refl
@@ -95,7 +95,8 @@ seated id key me routes plan spans r pass p on = (on.of, on.there.from, (let one
 pub few_opened : (spans : List ℕ) (r : Runner) → IsCounted spans r → has_turn_left r.spans ≡ true → all_turns spans < 2 ^ 32 → r.numbers.log.opened + 1 < 2 ^ 32
 few_opened spans r is left few = let count = is.count in let most = is.opened in let one = all_spent r.spans left in omega arith
 
--- so many turns of a span are taken, by which the runner came there from r
+-- The runner `next` has taken `taken` turns of a span of `span` turns, and `left` turns of the span
+-- are left. The runner has taken `turns` turns in all, with `lines` as their lines.
 pub record IsInSpan (id : TableId) (key : RunSetup) (me : ℕ) (routes : List Route) (plan : Plan) (spans : List ℕ) (span taken : ℕ) (rest : List ℕ) (next : Runner) (pass : PassView) (p : AutoPeer) (turns : ℕ) (lines : List Line) : Type 0 where
   pub on : IsOnTrajectory id key me routes plan spans next pass p
   pub left : ℕ
@@ -115,14 +116,15 @@ few_turns spans r is left = let count = is.count in let one = all_spent r.spans 
 pub one_more : (spans : List ℕ) (r next : Runner) → IsCounted spans r → IsCounted spans next → has_turn_left r.spans ≡ true → next.spans ≡ spent r.spans → length next.turns ≡ length r.turns + 1
 one_more spans r next is then' left goes = let count = is.count in let counts = then'.count in let one = all_spent r.spans left in let same = ap all_turns goes in omega arith
 
--- between two spans, of which so many were taken: the first is to come, or the last one is spent unless the peer is finished
+-- Between two spans, after this number of spans. After 0 spans, the first span is to come.
+-- Otherwise the last span is spent, unless the peer is finished.
 abbrev pub IsDue : List ℕ → ℕ → Runner → Type 0
 IsDue spans zero r = r.spans ≡ spans
 IsDue spans (suc k) r = has_finished r ≡ false → r.spans ≡ 0 ∷ drop (suc k) spans
 
 -- the start
 pub course_first : (id : TableId) (key : RunSetup) (me : ℕ) (routes : List Route) (spans : List ℕ) (pass : PassView) (p : AutoPeer) → IsOf id key pass → pass.from ≡ me → pass.lists ≡ [] ∷ [] → MayBeAuto key me p.auto p.end →
-    (p.looks ≡ 0) × (p.ringing ≡ false) × (p.opened ≡ 0) × (p.met ≡ None) → IsOnTrajectory id key me routes p.auto spans (initial_runner p.auto.frames p.auto.expected spans) pass p
+    (p.looks ≡ Some 0) × (p.ringing ≡ false) × (p.opened ≡ 0) × (p.met ≡ None) → IsOnTrajectory id key me routes p.auto spans (initial_runner p.auto.frames p.auto.expected spans) pass p
 course_first id key me routes spans pass p of from lists may fresh = record {
   comes = starts;
   of = of;
@@ -182,7 +184,7 @@ module _ (id : TableId) (key : RunSetup) (me : ℕ) (routes : List Route) (plan 
   counts : (r : Runner) (pass : PassView) (p : AutoPeer) → IsOnTrajectory id key me routes plan spans r pass p → IsCounted spans r
   counts r pass p on = counted_of key me routes plan spans r on.comes
 
-  -- at a span: the first, or one behind a reset
+  -- at a span: the first, or one after a reset
   pub enters_first : (k : ℕ) (pass : PassView) (p : AutoPeer) (turns : ℕ) (lines : List Line) → k ≡ 0 → k < length spans → IsAt id key me routes plan spans (IsDue spans k) pass p turns lines →
       IsAt id key me routes plan spans (λ r. r.spans ≡ slice_index spans k ∷ drop (suc k) spans) pass p turns lines
   enters_first k pass p turns lines none there at = record { r = at.r; on = at.on; holds = due_first spans k at.r at.holds none there; turns_are = at.turns_are; told = at.told }

@@ -68,7 +68,7 @@ words_none number more entry address bytes read (suc words) = refl
 pub none_some : (pending : PendingOffer) → None ≡ Some pending → ⊥
 none_some pending e = cc
 
--- it goes on with the job of the place before
+-- a pending offer of the next place is the pending offer of the place before
 abbrev GoesOn : Place → Place → Type 0
 GoesOn place next = (pending : PendingOffer) → offered_at (settled_place next) ≡ Some pending → offered_at place ≡ Some pending
 

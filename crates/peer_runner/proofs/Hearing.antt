@@ -1,4 +1,4 @@
--- Interrupts that running peers tell, and the doorbells that brought them.
+-- Interrupts that running peers record, and the doorbells that brought them.
 use Rattle.std.proofs.Common.{◌≡◌, ◌≢◌, ℕ, zero, suc, ◌+◌, ◌<◌, ◌≤◌, Bool, true, false, List, [], ◌∷◌, ◌++◌, refl, sym, ap, ◌∙◌, subst, arith, eq-eqb, ne_eqb}
 use Rattle.std.specs.Prelude.{Option, Some, None, map, ◌==◌, ◌&&◌, ◌||◌, nat_lt, if◌then◌else◌}
 use Rattle.std.specs.Int.{bit_at}
@@ -96,7 +96,7 @@ reset_silent p = (refl, λ v. refl)
 step_silent : (p : ℕ) (first : Bool) (a : Access) (value : ℕ) (marks : List Mark) → IsSilent (lines_of p first a value marks)
 step_silent p first a value marks = silent_if (is_quiet first a marks) (access_lines p a value ++ map (mark_line p) marks) (silent_both (access_lines p a value) (map (mark_line p) marks) (access_silent p a value) (marks_silent p marks))
 
--- A look tells the bits that it found
+-- A look records the bits that it found
 
 bit_heard : (p n found v : ℕ) → how_many (is_interrupt_by v) (interrupt_line p n found) ≡ (if n == v then bit_at found n else 0)
 bit_heard p n found v = let low : bit_at found n < 2 = bit_at-lt found n in dite (ℕ_discrete (bit_at found n) 0)
@@ -176,7 +176,7 @@ blind_clear v access.Nothing found = refl
 seen_look : (v found : ℕ) → weigh {A = MemoryOp ObservedAccess} (finds v) (looked found ∷ []) ≡ bit_at found v
 seen_look v found = weigh_one (finds v) (looked found) ∙ finds_looked (MemoryOp ObservedAccess) v found
 
--- what a turn tells is at most what it found
+-- the lines of a turn record at most the interrupts that the turn found
 record Hears (lines : List Line) (acts : List (Action (MemoryOp ObservedAccess))) : Type 0 where
   each : (v : ℕ) → how_many (is_interrupt_by v) lines ≤ weigh (finds v) acts
   all : how_many is_interrupt lines ≤ tally 64 (λ v. weigh (finds v) acts)
@@ -323,7 +323,8 @@ module _ (routes : List Route) (p target v : ℕ) (intx : Bool) (line_is : (rout
   unfolding weigh rings
   deed_rings d = refl
 
-  -- a turn's rings, and those that are to come, are at most its doorbells and those that were to come
+  -- a turn's rings, and those that are to come, are at most its doorbells and those that were to
+  -- come
   turn_bells : (config : EndConfig) (storm : ℕ → Step) (turn : Turn) (run after : Running) → TakesTurn config storm routes run turn after →
       weigh (rings target v) (acted_in routes turn) + to_come config storm after ≤ how_many (is_bell intx target v) (lines_in p turn) + to_come config storm run
   turn_bells config storm (Looks found) run after took = let none : weigh {A = MemoryOp ObservedAccess} (rings target v) (looked found ∷ []) ≡ 0 = weigh_one (rings target v) (looked found) ∙ rings_looked (MemoryOp ObservedAccess) target v found in
@@ -337,7 +338,7 @@ module _ (routes : List Route) (p target v : ℕ) (intx : Bool) (line_is : (rout
       same : access_by config storm run.peer.driver run.peer ≡ step.access
       same = sym (takes_by config storm run.peer.driver run.peer took.1.0 step took.1.1.takes)
 
-      held : (b : Bool) → to_come config storm (if b then record run { looks = 0; ringing = true; spans = spent run.spans } else steps_on run step.access took.1.0) ≤ ringing_by step.access
+      held : (b : Bool) → to_come config storm (if b then record run { looks = Some 0; ringing = true; spans = spent run.spans } else steps_on run step.access took.1.0) ≤ ringing_by step.access
       held true = let e : ringing_by (access_by config storm run.peer.driver run.peer) ≡ ringing_by step.access = ap ringing_by same in omega arith
       held false = omega arith
   turn_bells config storm (Rings step) run after took = let same : to_come config storm after ≡ 0 = ap (to_come config storm) took.1.2 in let rung = step_rings step.access step.value in
@@ -380,7 +381,8 @@ unfolding weigh
 weigh_seen f g same [] = refl
 weigh_seen f g same (t ∷ list) = λ i. same t i + weigh_seen f g same list i
 
--- what a peer that took these turns tells
+-- The lines of a peer that took these turns record at most the interrupts that `list` found, and at
+-- least the doorbells that `list` rang.
 pub record Tells (routes : List Route) (p : ℕ) (list : List (Action (MemoryOp CallAccess))) (lines : List Line) : Type 0 where
   pub each : (v : ℕ) → how_many (is_interrupt_by v) lines ≤ weigh (finds v) list
   pub all : how_many is_interrupt lines ≤ tally 64 (λ v. weigh (finds v) list)

@@ -59,7 +59,8 @@ module _ (link_config : LinkConfig) (honest : ℕ → Bool) (words : ℕ → ℕ
   settle : (memory : ℕ → ℕ) (s : DerivedState) → R memory s → R memory (settled s)
   settle memory s k = settle_at memory s.end s.place s.numbers s.wake k
 
-  -- an honest end begins its call, takes the step of its place, and rings at once where it comes to a doorbell
+  -- an honest end begins its call, takes the step of its place, and rings at once where it comes to
+  -- a doorbell
   pub on_goes : (memory after : ℕ → ℕ) (s : DerivedState) (t : CallAccess) → Begins link_config s t.begins → is_open (begun_if (config_of link_config p) s t.begins).place ≡ true →
       ReadsMemory memory (access_at (config_of link_config p) (begun_if (config_of link_config p) s t.begins).place) t.value → MemoryAfter p memory (access_at (config_of link_config p) (begun_if (config_of link_config p) s t.begins).place) after →
       IsNumbered s.numbers (access_at (config_of link_config p) (begun_if (config_of link_config p) s t.begins).place) → R memory s → R after (after_access (config_of link_config p) s t)

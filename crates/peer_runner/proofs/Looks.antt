@@ -1,6 +1,6 @@
 -- Looks between the turns of an automatic peer.
 use Rattle.std.proofs.Common.{◌≡◌, ℕ, zero, suc, ◌+◌, ◌/◌, ◌^◌, ◌<◌, ◌≤◌, Bool, true, false, List, [], ◌∷◌, ◌++◌, refl, sym, ap, ◌∙◌, subst, arith, append_assoc, append-nil}
-use Rattle.std.specs.Prelude.{◌-◌, ◌*◌, ◌==◌, ◌&&◌, nat_lt, if◌then◌else◌}
+use Rattle.std.specs.Prelude.{◌-◌, ◌*◌, ◌==◌, ◌&&◌, Option, Some, None, if◌then◌else◌}
 use Rattle.std.proofs.Math.Nat.{lt-div-mul-add}
 use Rattle.std.proofs.lemmas.Nat.{pow_pos}
 use Rattle.std.proofs.lemmas.Nat.Bits.{bit_at_above}
@@ -15,12 +15,16 @@ use Rattle.peer_runner.specs.Actions.{Action}
 use Rattle.peer_runner.specs.RunSetups.{config_in}
 use Rattle.lawful_history.specs.declared.line.Line.{Line}
 use Rattle.lawful_history.specs.declared.line.Line.TheVariants as line
-use Rattle.peer_runner.specs.Turns.{interrupt_line, interrupt_lines, sleeps}
+use Rattle.peer_runner.specs.Turns.{interrupt_line, interrupt_lines, sleeps, is_below}
 use Rattle.peer_runner.specs.Runners.{Runner, MayRingBy, due_of, looks_now, RunnerRefines}
 use Rattle.peer_runner.proofs.Keys.{clash}
 
-pub looks_at : (own mine : Route) (due dues looks before : ℕ) (result : Bool) → result ≡ looks_now own due looks → own ≡ mine → due ≡ dues → before ≡ looks → looks_now mine dues before ≡ result
+pub looks_at : (own mine : Route) (due dues : ℕ) (looks before : Option ℕ) (result : Bool) → result ≡ looks_now own due looks → own ≡ mine → due ≡ dues → before ≡ looks → looks_now mine dues before ≡ result
 looks_at own mine due dues looks before result is same now was = sym (is ∙ (λ i. looks_now (same i) (now i) (sym was i)))
+
+none_below : (looks : Option ℕ) → is_below looks 0 ≡ false
+none_below None = refl
+none_below (Some taken) = le-ltb taken 0 (omega arith)
 
 -- no look is due where a call is open
 pub looks_shut : (config : EndConfig) (own : Route) (r : Runner) → looks_now own (due_of config r) r.looks ≡ true → is_open r.place ≡ false
@@ -32,7 +36,7 @@ looks_shut config own r is = by (is_open r.place) refl
 
     by : (b : Bool) → is_open r.place ≡ b → is_open r.place ≡ false
     by true e = let none : due_of config r ≡ 0 = ap (λ (b : Bool). if b then 0 else if sleeps config r.end r.auto then 64 else 1) e in
-        absurd (clash (sym (never own.enabled (nat_lt r.looks 0) (le-ltb r.looks 0 (omega arith))) ∙ (ap (λ n. looks_now own n r.looks) (sym none) ∙ is)))
+        absurd (clash (sym (never own.enabled (is_below r.looks 0) (none_below r.looks)) ∙ (ap (λ n. looks_now own n r.looks) (sym none) ∙ is)))
     by false e = e
 
 rings_open : (routes : List Route) (config : EndConfig) (place : Place) (list : List (Action (MemoryOp CallAccess))) → MayRingBy routes (access_at config place) list → is_open place ≡ true
@@ -48,7 +52,7 @@ still_shut key me routes r end s shut = by r.ringing refl
     by true e = absurd (clash (sym shut ∙ rings_open routes (config_in key me) r.place r.actions (s.rings e)))
     by false e = e
 
--- the bits that a look found are told one after another
+-- a look records the bits that it found one after another
 pub heard_none : (me found : ℕ) → interrupt_lines 0 me found ≡ []
 unfolding interrupt_lines
 heard_none me found = refl
@@ -58,7 +62,7 @@ unfolding interrupt_lines
 heard_more n me found first was now is more = let next : n + 1 ≡ suc n = omega arith in
     more ∙ (ap (λ ls. ls ++ interrupt_line me n found) is ∙ (append_assoc first (interrupt_lines n me found) (interrupt_line me n found) ∙ sym (ap (λ k. first ++ interrupt_lines k me found) next)))
 
--- where no bit from n on is set, all bits are told with those below n
+-- if no bit from n on is set, the lines of all bits are the lines of the bits below n
 heard_below : (n k me found : ℕ) → found < 2 ^ n → interrupt_lines (n + k) me found ≡ interrupt_lines n me found
 unfolding interrupt_lines
 heard_below n zero me found small = let same : n + 0 ≡ n = omega arith in ap (λ (m : ℕ). interrupt_lines m me found) same

@@ -43,7 +43,8 @@ freed_shut : (link_config : LinkConfig) (memory : ℕ → ℕ) (p : ℕ) (end : 
 freed_shut link_config memory p end (ReadingUsedId pending freed more) h out = absurd (out h.0)
 freed_shut link_config memory p end place h out = refl
 
--- what is sent is spelled in every phase: as of an end in RUN with these counts, whose state word is 3
+-- what is sent is spelled in every phase: as of an end in RUN with these counts, whose state word
+-- is 3
 sent_spells : (link_config : LinkConfig) (memory : ℕ → ℕ) (p k freed returned : ℕ) (accepted : List (List ℕ)) → IsLinkConfig link_config → p < 2 → OwnSection link_config (fields link_config memory p) accepted freed returned → freed ≤ length accepted → length accepted ≤ freed + limit_of link_config.sizes →
     freed ≤ k → k < length accepted → SectionSpells link_config memory p k (frame_at accepted k)
 sent_spells link_config memory p k freed returned accepted is p2 sent few room low high = let after = put memory p 3 in let start = section_of link_config p in

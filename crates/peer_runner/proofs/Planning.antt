@@ -316,7 +316,7 @@ turn_snoc : (acts : List Act) (a : Act) (p : ℕ) → has_turn (acts ++ a ∷ []
 unfolding has_turn
 turn_snoc acts a p = list_any-append (is_turn_of p) acts (a ∷ []) ∙ ap (λ b. has_turn acts p || b) (or_false (is_turn_of p a))
 
--- a turn line behind all resets
+-- a turn line after all resets
 turned_last : (acts : List Act) (a : Act) (p : ℕ) → is_turn_of p a ≡ true → is_reset_of p a ≡ false → is_reset_last (acts ++ a ∷ []) p ≡ false
 unfolding is_reset_last has_turn
 turned_last [] a p turns resets = ap (λ (b : Bool). (b && true) || false) resets

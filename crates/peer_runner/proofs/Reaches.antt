@@ -1,4 +1,5 @@
--- Where the two ends come, each honest or not, while peers run: the honest ones begin calls, take their steps, number their sessions and are reset.
+-- Where the two ends come, each honest or not, while peers run: the honest ones begin calls, take
+-- their steps, number their sessions and are reset.
 use Rattle.std.specs.Prelude.{ℕ, ◌≡◌, ◌≢◌, ◌+◌, ◌-◌, ◌<◌, Bool, true}
 use Rattle.call_grammar.specs.Calls.{Call, Stop}
 use Rattle.call_grammar.specs.Places.{Closed, WritingState, access_at, is_open}
@@ -12,8 +13,10 @@ pub record OnlyComes (st next : ℕ → DerivedState) (p : ℕ) (s : DerivedStat
   pub here : next p ≡ s
   pub neighbour_word : (q : ℕ) → q ≢ p → next q ≡ st q
 
--- from their start on, an honest end begins a call where none is open, takes the step at its place, is reset, stores its session word before it sets READY, or
--- loads the other's before it sets RUN; and words may change that are no honest end's
+-- A run of the ends from their start on. An honest end begins a call if no call is open, takes the
+-- step at its place, or is reset. An honest end stores its session word before it sets READY, and
+-- loads the other end's session word before it sets RUN. Words that belong to no honest end may
+-- change.
 pub data Reached (link_config : LinkConfig) (honest : ℕ → Bool) : (memory words : ℕ → ℕ) → (ℕ → DerivedState) → Type 0 where
   starts : (memory words : ℕ → ℕ) (st : ℕ → DerivedState) → ((w : ℕ) → memory w ≡ 0) → ((p : ℕ) → words p ≡ 0) → ((p : ℕ) → st p ≡ initial_derived_state) →
       Reached link_config honest memory words st

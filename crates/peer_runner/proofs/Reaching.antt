@@ -46,7 +46,7 @@ comes st next p s only = record {
 pub numbers_come : (st next : ℕ → DerivedState) (p : ℕ) (s : DerivedState) → OnlyComes st next p s → OnlyNumbers (numbers_of st) (numbers_of next) p s.numbers
 numbers_come st next p s only = record { here = ap (λ (x : DerivedState). x.numbers) only.here; neighbour_word = λ q ne. ap (λ (x : DerivedState). x.numbers) (only.neighbour_word q ne) }
 
--- what a stance that changes keeps is the same of both
+-- if the derived state that changes keeps its `f`, the derived state of each peer keeps its `f`
 pub kept_by : {A : Type 0} → (f : DerivedState → A) (st next : ℕ → DerivedState) (p : ℕ) (s : DerivedState) → OnlyComes st next p s → f s ≡ f (st p) → (q : ℕ) → f (st q) ≡ f (next q)
 kept_by f st next p s only is q = dite (ℕ_discrete q p)
     (λ e. sym (ap (λ k. f (next k)) e ∙ (ap f only.here ∙ (is ∙ ap (λ k. f (st k)) (sym e)))))
@@ -108,7 +108,7 @@ none_refuses whole agree key memory words acc is a b k p p2 =
     let st : ℕ → DerivedState = λ q. derived_state key q (acc q) in let link_config = link_config_of key in let honest = honest_of key in
     agree.never_refuse link_config memory (ends_of st) (places_of st) p p2 ((whole link_config honest memory (ends_of st) (places_of st) is (reached_runs link_config honest memory words st k)).pair a b)
 
--- what a seat learns that holds all lists
+-- what a pass that holds all lists learns
 pub are_told : RunsKeepInvariant → SessionsArePaired → HonestEndsAgree → (key : RunSetup) (memory words : ℕ → ℕ) (acc : ℕ → List (MemoryOp CallAccess)) → IsLinkConfig (link_config_of key) → honest_of key 0 ≡ true → honest_of key 1 ≡ true →
     Reached (link_config_of key) (honest_of key) memory words (λ p. derived_state key p (acc p)) → ((p : ℕ) → p < 2 → NeverMarked key p (acc p)) → SessionsAreLearned key acc
 are_told whole paired agree key memory words acc is a b k never =

@@ -189,7 +189,7 @@ both_honest key a b (suc (suc p)) lt = absurd (omega arith)
 says_of : (world : World) (key : RunSetup) (lists : List (List (Action (MemoryOp CallAccess)))) (traces : List OwnTrace) → 2 ≤ length lists → RanAll world key 0 lists traces → (p : ℕ) → p < 2 → honest_of key p ≡ true → Says key p (list_of lists p) (lines_by (map part_of traces) p)
 says_of world key lists traces two ran p p2 honest = let e : 0 + p ≡ p = omega arith in subst (λ q. Says key q (get_or lists p []) (lines_by (map part_of traces) q)) e (says_at world key 0 p lists traces (omega arith) (ap (honest_of key) e ∙ honest) ran)
 
--- what the lines tell of two sides is what their lists leave
+-- what the lines record of two sides is what their lists leave
 delivers_by : (one other : RecordReader) (s o : DerivedState) → ReaderMatches s one → ReaderMatches o other → DeliversInOrder (own_side s.end) (own_side o.end) s.numbers.log o.numbers.log → DeliversInOrder (side_in one) (side_in other) one.log other.log
 delivers_by one other s o mine theirs d = subst (λ (x : Side). DeliversInOrder x (side_in other) one.log other.log) (sym mine.side) (subst (λ (x : Side). DeliversInOrder (own_side s.end) x one.log other.log) (sym theirs.side)
     (subst (λ (l : Log). DeliversInOrder (own_side s.end) (own_side o.end) l other.log) (sym mine.log) (subst (λ (l : Log). DeliversInOrder (own_side s.end) (own_side o.end) s.numbers.log l) (sym theirs.log) d)))

@@ -1,6 +1,6 @@
--- A peer that never bears the mark of a refusal tells none.
+-- A peer that never bears the mark of a refusal records no refusal.
 use Rattle.std.proofs.Common.{◌≡◌, ℕ, zero, suc, ◌<◌, ◌==◌, ◌||◌, ◌⊎◌, inl, inr, ⊎_elim, Bool, true, false, List, [], ◌∷◌, ◌++◌, map, refl, sym, ap, ◌∙◌, subst, append-nil, append_assoc}
-use Rattle.std.specs.Prelude.{if◌then◌else◌}
+use Rattle.std.specs.Prelude.{Some, if◌then◌else◌}
 use Rattle.std.specs.Int.{bit_at}
 use Rattle.std.specs.List.{list_any}
 use Rattle.std.proofs.lemmas.List.Folds.{list_any-append}
@@ -91,7 +91,7 @@ step_clear config storm quiet (Storms x) peer after step turn is = ap (λ (s : S
 step_clear config storm quiet Waits peer after step turn is = (marks_clear (with_access (opened config peer).end step.access) step.marks (ap (λ (q : Peer). q.end.handshake.mark) (sym turn.2) ∙ is)).1
 step_clear config storm quiet (Chooses auto) peer after step turn is = (marks_clear (with_access (opened config peer).end step.access) step.marks (ap (λ (q : Peer). q.end.handshake.mark) (sym turn.2) ∙ is)).1
 
--- a turn that leaves no mark tells no refusal
+-- a turn that leaves no mark records no refusal
 turn_clear : (config : EndConfig) (storm : ℕ → Step) → ((x : ℕ) → (storm x).marks ≡ []) → (routes : List Route) (p : ℕ) (turn : Turn) (run after : Running) → TakesTurn config storm routes run turn after → IsClear after.peer → list_any refuses (lines_in p turn) ≡ false
 turn_clear config storm quiet routes p (Looks found) run after took is = heard_refuses 64 p found
 turn_clear config storm quiet routes p (Makes first step) run after took is = step_refuses p first step (step_clear config storm quiet run.peer.driver run.peer took.1.0 step took.1.1.takes (subst (λ (r : Running). IsClear r.peer) took.1.4 is))
@@ -102,7 +102,7 @@ turn_clear config storm quiet routes p (Clears step found) run after took is = b
 
     by : (b : Bool) → is_set found ≡ b → list_any refuses (access_lines p step.access step.value ++ map (mark_line p) (if is_set found then [] else step.marks)) ≡ false
     by true set = ap (λ b. list_any refuses (told b)) set ∙ marked_refuses p step.access step.value [] refl
-    by false set = let was : after ≡ steps_on run step.access took.1.0 = took.1.2 ∙ ap (λ (b : Bool). if b then record run { looks = 0; ringing = true; spans = spent run.spans } else steps_on run step.access took.1.0) set in
+    by false set = let was : after ≡ steps_on run step.access took.1.0 = took.1.2 ∙ ap (λ (b : Bool). if b then record run { looks = Some 0; ringing = true; spans = spent run.spans } else steps_on run step.access took.1.0) set in
         ap (λ b. list_any refuses (told b)) set ∙ marked_refuses p step.access step.value step.marks (step_clear config storm quiet run.peer.driver run.peer took.1.0 step took.1.1.takes (subst (λ (r : Running). IsClear r.peer) was is))
 turn_clear config storm quiet routes p (Rings step) run after took is = refused_lines p step.marks ∙ step_clear config storm quiet run.peer.driver run.peer took.1.0 step took.1.1.takes (subst (λ (r : Running). IsClear r.peer) took.1.2 is)
 turn_clear config storm quiet routes p (Stores number) run after took is = refl
@@ -112,7 +112,7 @@ turn_clear config storm quiet routes p (Enters step opened other) run after took
     ∙ (λ i. (access_refuses p step.access step.value i || (refused_lines p step.marks ∙ step_clear config storm quiet run.peer.driver run.peer next.0 step next.1.step_is.takes (subst (λ (r : Running). IsClear r.peer) next.2 is)) i))
 turn_clear config storm quiet routes p Restarts run after took is = refl
 
--- before any turn no refusal is told
+-- the lines before any turn record no refusal
 pub none_refused : (key : RunSetup) (p : ℕ) (list : List (MemoryOp CallAccess)) → NeverMarked key p list → list_any refuses (lines_of_turns p []) ≡ false
 unfolding lines_of_turns
 none_refused key p list never = refl
@@ -128,7 +128,7 @@ refused_more key config storm quiet routes p turns turn run after list next deed
     ap (list_any refuses) (flat_map-append (lines_in p) turns (turn ∷ [])) ∙ (list_any-append refuses (lines_of_turns p turns) (lines_in p turn ++ [])
     ∙ (λ i. (before i || (ap (list_any refuses) (append-nil (lines_in p turn)) ∙ here) i)))
 
--- What is told of every list that was made
+-- The marks along every list that was made
 
 -- a front of a list with one memory operation more is a front of the list, or all of it
 front_snoc : (list front back : List (MemoryOp CallAccess)) (d : MemoryOp CallAccess) → list ++ d ∷ [] ≡ front ++ back → ((rest : List (MemoryOp CallAccess)) × (list ≡ front ++ rest)) ⊎ (front ≡ list ++ d ∷ [])

@@ -1,6 +1,7 @@
--- The course of an automatic peer: what its turns so far are, what they did to the words, and what is told of them.
+-- The trajectory of an automatic peer: its turns so far, what the turns did to the words, and the
+-- lines that record the turns.
 use Rattle.std.proofs.Common.{◌≡◌, ℕ, zero, suc, ◌+◌, ◌≤◌, inl, inr, ◌⊎◌, Bool, true, false, List, [], ◌∷◌, ◌++◌, length, refl, sym, ap, ◌∙◌, subst, arith, append-nil, eq-eqb, length-append}
-use Rattle.std.specs.Prelude.{Option, Some, None, ◌-◌, ◌&&◌, ◌==◌, not, nat_lt, if◌then◌else◌, map, min, Result, Ok, Err, IsErr, IfOk}
+use Rattle.std.specs.Prelude.{Option, Some, None, ◌-◌, ◌&&◌, ◌==◌, not, if◌then◌else◌, map, min, Result, Ok, Err, IsErr, IfOk}
 use Rattle.std.specs.List.{list_all, list_any, flat_map}
 use Rattle.std.proofs.lemmas.Bool.{eqb-true}
 use Rattle.std.proofs.lemmas.List.{map-append}
@@ -47,7 +48,7 @@ use Rattle.peer_runner.specs.declared.doorbell_paths.DoorbellPath.TheVariants.{S
 use Rattle.peer_runner.specs.declared.doorbell_paths.Done.{Done}
 use Rattle.peer_runner.specs.declared.doorbell_paths.Done.TheVariants.{Stepped, Cleared, Rung}
 use Rattle.peer_runner.specs.DoorbellPaths.{route_to, doorbell_path_to, is_guarded, doorbell_path_in, rung_by}
-use Rattle.peer_runner.specs.Turns.{Turn, Looks, Makes, Clears, Enters, Restarts, Running, comes_to, all_turns, has_turn_left, spent, IsSpanSpent, later, TakesStep, StepsTo, ComesToSet, sleeps, looks_due, looks_next, sets, opens, steps_on, is_set, cleared_to, skipped, restarts_to, TakesTurn, TakesTurns, is_end, has_ended, is_finished, acted_by, cleared_by, acted_in, actions_in, interrupt_line, interrupt_lines, is_quiet, marks_of, lines_in, lines_of_turns}
+use Rattle.peer_runner.specs.Turns.{Turn, Looks, Makes, Clears, Enters, Restarts, Running, comes_to, all_turns, has_turn_left, spent, IsSpanSpent, later, TakesStep, StepsTo, ComesToSet, sleeps, is_below, looks_due, looks_next, sets, opens, steps_on, is_set, cleared_to, skipped, restarts_to, TakesTurn, TakesTurns, is_end, has_ended, is_finished, acted_by, cleared_by, acted_in, actions_in, interrupt_line, interrupt_lines, is_quiet, marks_of, lines_in, lines_of_turns}
 use Rattle.peer_runner.specs.Runners.{Runner, start_auto, initial_runner, peer_of, running_of, chosen, round_on, call_chosen, finishes, has_finished, place_for, place_in, Matches, is_end_choice, taken_of, value_done, done_of, stepped_turn, turn_of, IsDone, awaits_ring, due_of, looks_now, due_word, memory_op_met, turn_met, numbers_met, met_on, restarted_on, is_first, turn_on, held_on, stepped_on, turned, HasMet, MayRingBy, RunnerRefines, IsThere}
 use Rattle.peer_runner.specs.Trajectories.{IsNoLook, GoesOn, by_look, by_word, by_step, by_reset, Trajectory, starts, follows}
 use Rattle.peer_runner.specs.Drives.{storm_in, automatic, MayBeAuto, Did}
@@ -159,7 +160,7 @@ made_own me first step has = go (is_quiet first step.access step.marks)
     go true = refl
     go false = all_append (is_own me) (access_lines me step.access step.value) (map (mark_line me) step.marks) (access_own me step.access step.value) (marks_own me step.marks has)
 
--- a State step with 3 tells its session too
+-- a State step with 3 records its session too
 entered_own : (me : ℕ) (first : Bool) (opened other : ℕ) (step : Step) (b : Bool) → HaveFrames (map (mark_line me) step.marks) → AreOwn me (lines_in me (if b then Enters step opened other else Makes first step))
 entered_own me first opened other step true has = all_append (is_own me) (access_lines me step.access step.value) (line.Session me opened other ∷ map (mark_line me) step.marks) (access_own me step.access step.value)
     (mine_and me (list_all (is_own me) (map (mark_line me) step.marks)) (marks_own me step.marks has))
@@ -270,7 +271,7 @@ due_place follow config r = due_tree config r.end (remaining config r.place) r.a
     ∙ due_flip (is_open r.place) (if sleeps config r.end r.auto then 64 else 1))
 
 pub looks_same : PlacesFollowTrees → (config : EndConfig) (own : Route) (r : Runner) → looks_next config own (running_of config r) ≡ looks_now own (due_of config r) r.looks
-looks_same follow config own r = ap (λ (n : ℕ). own.enabled && nat_lt r.looks n) (due_place follow config r)
+looks_same follow config own r = ap (λ (n : ℕ). own.enabled && is_below r.looks n) (due_place follow config r)
 
 -- a step opens a session where the numbers say so
 opened_on : (n : Numbers) (end : End) (a : Access) → (numbers_after n end a).log.opened ≡ n.log.opened + opens a
@@ -290,7 +291,7 @@ step_of_turn config r done = step_at config (place_in config r) (value_done done
 steps_same : (routes : List Route) (config : EndConfig) (r : Runner) (done : Done) → running_of config (stepped_on routes config r done) ≡ steps_on (running_of config r) (access_at config (place_in config r)) (peer_of config (stepped_on routes config r done))
 steps_same routes config r done = λ i. record {
   peer = peer_of config (stepped_on routes config r done);
-  looks = 0;
+  looks = Some 0;
   ringing = false;
   opened = opened_on r.numbers r.end (access_at config (place_in config r)) i;
   met = None;
@@ -302,7 +303,7 @@ cleared_same : (routes : List Route) (config : EndConfig) (r : Runner) (found : 
 cleared_same routes config r found = by (is_set found)
   where
     by : (b : Bool) → running_of config (if b then held_on routes config r (Cleared found) else stepped_on routes config r (Cleared found)) ≡
-        (if b then record (running_of config r) { looks = 0; ringing = true; spans = spent r.spans } else steps_on (running_of config r) (access_at config (place_in config r)) (peer_of config (stepped_on routes config r (Cleared found))))
+        (if b then record (running_of config r) { looks = Some 0; ringing = true; spans = spent r.spans } else steps_on (running_of config r) (access_at config (place_in config r)) (peer_of config (stepped_on routes config r (Cleared found))))
     by true = refl
     by false = steps_same routes config r (Cleared found)
 
@@ -330,7 +331,8 @@ steps_to follow routes config storm r done ringing guarded now goes rings guards
   takes = step_takes follow routes config storm r done goes;
 }
 
--- a step that is no doorbell at a peer in one-shot mode: the State step with 3, which bears its numbers, or another
+-- a step that is no doorbell at a peer in one-shot mode: the State step with 3, which bears its
+-- numbers, or another
 step_takes_turn : PlacesFollowTrees → (routes : List Route) (config : EndConfig) (storm : ℕ → Step) (r : Runner) (value : ℕ) → IsNoLook config routes r → has_finished r ≡ false → r.ringing ≡ false →
     is_guarded (doorbell_path_in routes (access_at config (place_in config r))) ≡ false → IsEntering config r value ⊎ IsMaking config r value → TakesTurn config storm routes (running_of config r) (turn_on config r (Stepped value)) (running_of config (stepped_on routes config r (Stepped value)))
 step_takes_turn follow routes config storm r value now goes rings guards (inl e) = let step = step_of_turn config r (Stepped value) in let next = peer_of config (stepped_on routes config r (Stepped value)) in
@@ -419,7 +421,7 @@ skips_none false auto = refl
 restarts_same : (config : EndConfig) (r : Runner) → running_of config (restarted_on r) ≡ restarts_to (running_of config r)
 restarts_same config r = λ i. record {
   peer = was_reset (record (peer_of config r) { driver = skips_none r.ringing r.auto i });
-  looks = 0;
+  looks = Some 0;
   ringing = false;
   opened = r.numbers.log.opened;
   met = None;
@@ -515,7 +517,8 @@ record TurnsTo (key : RunSetup) (me : ℕ) (routes : List Route) (r next : Runne
   tells : Told next (reader_after_lines (reader_of_lines (lines_of_turns me r.turns)) (lines_in me turn))
   takes : TakesTurn (config_in key me) (storm_in key me) routes (running_of (config_in key me) r) turn (running_of (config_in key me) next)
 
--- the turns of the runner are turns of its peer, its actions are theirs, and its lines are its own and tell of it
+-- The turns of the runner are turns of its peer, and the actions of the runner are those of the
+-- turns. The lines are the peer's own, and record the state of the runner.
 pub record Far (key : RunSetup) (me : ℕ) (routes : List Route) (plan : Plan) (spans : List ℕ) (r : Runner) : Type 0 where
   pub takes : TakesTurns (config_in key me) (storm_in key me) routes (comes_to (automatic plan) spans) r.turns (running_of (config_in key me) r)
   pub made : shown r.actions ≡ actions_in routes r.turns
@@ -672,7 +675,7 @@ plan_first plan is = record {
 pub lent : (h : PassView) (me : ℕ) (l : List (Action (MemoryOp CallAccess))) → h.from ≡ me → h.lists ≡ l ∷ [] → h ≡ held h.table_id me (l ∷ [])
 lent h me l from lists = λ k. record { table_id = h.table_id; from = from k; lists = lists k }
 
--- where its memory operations never left it with the mark of a refusal, it told none
+-- if no memory operation left the peer with the mark of a refusal, its lines record no refusal
 pub refused_of : PlacesFollowTrees → (key : RunSetup) (me : ℕ) (routes : List Route) (plan : Plan) (spans : List ℕ) (r : Runner) (end : Engine) → Trajectory key me routes plan spans r → RunnerRefines key me routes r end →
     NeverMarked key me (accesses_in r.actions) → list_any refuses (lines_of_turns me r.turns) ≡ false
 refused_of follow key me routes plan spans r end starts refines = none_refused key me _

@@ -1,4 +1,4 @@
--- Each action of a seat keeps the rule.
+-- Each action of the holder of a range of peers keeps the rule.
 use Rattle.std.proofs.Common.{◌≡◌, ◌≢◌, ℕ, zero, suc, ◌+◌, ◌-◌, ◌^◌, ◌<◌, ◌⊎◌, ⊎_elim, List, [], ◌∷◌, ◌++◌, length, get_or, set, true, refl, sym, ap, ◌∙◌, subst, arith}
 use mathlib.Core.Option.{none, some, some-injective, some-ne-none}
 use lib.ListN.{get_elem?}
@@ -31,7 +31,7 @@ at_within [] k a e = absurd (some-ne-none a (sym e))
 at_within (x ∷ xs) zero a e = omega arith
 at_within (x ∷ xs) (suc k) a e = omega (arith, at_within xs k a e)
 
--- the peer `from` of the seat id made the access a
+-- the peer `from`, in the range of the holder `id`, made the action a
 module _ (n : ℕ) (seat : ℕ → ℕ) (acc : ℕ → List (Action (MemoryOp CallAccess))) (id from : ℕ) (l : List (Action (MemoryOp CallAccess))) (ls : List (List (Action (MemoryOp CallAccess)))) (a : Action (MemoryOp CallAccess)) where
   own : Fits n seat acc id (view from (l ∷ ls)) → Fits n seat (put acc from (l ++ a ∷ [])) id (view from ((l ++ a ∷ []) ∷ ls))
   own f = record {
@@ -65,7 +65,8 @@ module _ (n : ℕ) (seat : ℕ → ℕ) (acc : ℕ → List (Action (MemoryOp Ca
 pub put_back : (ws : List ℕ) (i n : ℕ) → n ≡ get_or ws i 0 → set ws i n ≡ ws
 put_back ws i n e = ap (set ws i) e ∙ set-get_or ws i 0
 
--- Whatever the words are, the peer `from` does what d says of the word that it finds, and the word becomes f of it, where that keeps what the table keeps
+-- Whatever the words are, the peer `from` does what d says of the word that it finds, and the word
+-- becomes f of it, where that keeps what the table keeps
 step_allowed : (key : RunSetup) (d : ℕ → Action (MemoryOp CallAccess)) (f : ℕ → ℕ) (told : ℕ → Me ℕ View → Type 0) (slots id i from : ℕ) (lists : List (List (Action (MemoryOp CallAccess)))) (c : List (ℕ × ℕ)) → 0 < length lists →
     ((words : List ℕ) (acc next : ℕ → List (Action (MemoryOp CallAccess))) (n : ℕ) → n ≡ get_or words i 0 → IsFit key → from < key.geometry.peers → acc from ≡ front lists → Appends acc next from (d n) → next from ≡ front lists ++ d n ∷ [] → Memory key words acc →
     Memory key (set words i (f n)) next × told n (more (view from lists) (d n), c)) → Allows (TableInvariant key) slots id (view from lists, c) i f told
@@ -127,7 +128,7 @@ pub reset_allowed : (key : RunSetup) (slots id i from : ℕ) (lists : List (List
 reset_allowed key slots id i from lists c room is = step_allowed key (λ _. accessed restarted) (λ _. 0) (λ _ t. t ≡ (more (view from lists) (accessed restarted), c)) slots id i from lists c room
     (λ words acc next found at fit p mine g then m. (subst (λ j. Memory key (set words j 0) next) (sym is) (memory_reset key words acc next from fit p g m), refl))
 
--- the same, and then what follows from what is told
+-- an allowed action stays allowed if a consequence replaces the condition on its result
 retold : (key : RunSetup) (slots id i : ℕ) (f : ℕ → ℕ) (me : Me ℕ View) (told then : ℕ → Me ℕ View → Type 0) → ((n : ℕ) (t : Me ℕ View) → told n t → then n t) → Allows (TableInvariant key) slots id me i f told → Allows (TableInvariant key) slots id me i f then
 retold key slots id i f me told then more allowed s k homes at fits = let x = allowed s k homes at fits in (x.0, x.1, x.2, x.3, more _ _ x.4)
 

@@ -20,7 +20,7 @@ zeros (suc n) (suc w) = zeros n w
 low_bit : (n : ℕ) → n < 2 → bit_at n 0 ≡ n
 low_bit n lt = bit_at_lowest n ∙ omega arith
 
--- the words behind the region at the start
+-- the words after the region, at the start
 length_pairs : (enabled n : ℕ) → length (interrupts_at_start enabled n) ≡ 2 * n
 unfolding interrupts_at_start
 length_pairs enabled zero = refl

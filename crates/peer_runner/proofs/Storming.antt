@@ -1,6 +1,6 @@
 -- A run of a storm.
 use Rattle.std.proofs.Common.{◌≡◌, ℕ, zero, suc, ◌+◌, ◌<◌, ◌≤◌, Bool, true, false, List, [], ◌∷◌, ◌++◌, length, refl, sym, ap, ◌∙◌, subst, arith, length-append, drop-cons}
-use Rattle.std.specs.Prelude.{None, ◌-◌, ◌&&◌, nat_lt, if◌then◌else◌, map, drop, slice_index, Result, IsErr}
+use Rattle.std.specs.Prelude.{Some, None, ◌-◌, ◌&&◌, if◌then◌else◌, map, drop, slice_index, Result, IsErr}
 use Rattle.std.proofs.lemmas.Bool.{lt-ltb}
 use Rattle.std.proofs.lemmas.List.{drop_all}
 use Rattle.ivs_base.specs.declared.NoMemory.{NoMemory}
@@ -29,7 +29,7 @@ use Rattle.peer_runner.specs.Actions.{Action, accessed}
 use Rattle.peer_runner.specs.DoorbellPaths.{route_to, is_guarded, doorbell_path_in}
 use Rattle.peer_runner.specs.Passes.{IsOf, shown, added, held}
 use Rattle.peer_runner.specs.Rules.{front}
-use Rattle.peer_runner.specs.Turns.{Turn, Restarts, Running, comes_to, all_turns, has_turn_left, spent, later, IsSpanSpent, looks_next, opens, steps_on, is_set, cleared_to, restarts_to, TakesTurn, TakesTurns, actions_in, lines_of, lines_in, lines_of_turns}
+use Rattle.peer_runner.specs.Turns.{Turn, Restarts, Running, comes_to, all_turns, has_turn_left, spent, later, IsSpanSpent, is_below, looks_next, opens, steps_on, is_set, cleared_to, restarts_to, TakesTurn, TakesTurns, actions_in, lines_of, lines_in, lines_of_turns}
 use Rattle.peer_runner.specs.Runners.{value_done, done_of, turn_of, drawn_lines, IsDone, awaits_ring, MayRingBy, made}
 use Rattle.peer_runner.specs.OwnRecord.{IsTraceOf}
 use Rattle.peer_runner.specs.Drives.{storm_in, storm_on, storming, Did, Drove}
@@ -37,7 +37,7 @@ use Rattle.peer_runner.proofs.Keys.{clash}
 use Rattle.peer_runner.proofs.Turning.{made_held, done_one}
 use Rattle.peer_runner.proofs.Runs.{takes_none, takes_snoc, actions_none, actions_on, shown_on, told_none, told_snoc, all_append, turn_own, restart_own, all_spent, all_later, err_free}
 
--- a step that was drawn tells its access and nothing else, and its ring nothing
+-- a step that was drawn records its access and nothing else, and its ring adds no line
 plain_lines : (p : ℕ) (a : Access) → lines_of p true a 0 [] ≡ access_lines p a 0
 plain_lines p (access.Read word) = refl
 plain_lines p (access.Write word written) = refl
@@ -75,11 +75,11 @@ storm_after_turn storm ahead new done gone is = is ∙ by (awaits_ring done)
 -- A storm between two turns
 
 abbrev pub blowing : (x : ℕ) (ringing : Bool) (opened : ℕ) (spans : List ℕ) → Running
-blowing x ringing opened spans = record { peer = storming x; looks = 0; ringing = ringing; opened = opened; met = None; spans = spans }
+blowing x ringing opened spans = record { peer = storming x; looks = Some 0; ringing = ringing; opened = opened; met = None; spans = spans }
 
 -- no look comes before a step of it
 quiet_first : (config : EndConfig) (own : Route) (x : ℕ) (ringing : Bool) (opened : ℕ) (spans : List ℕ) → looks_next config own (blowing x ringing opened spans) ≡ false
-quiet_first config own x ringing opened spans = elim own.enabled as (λ b. (b && nat_lt 0 0) ≡ false) [ true ↦ refl | false ↦ refl ]
+quiet_first config own x ringing opened spans = elim own.enabled as (λ b. (b && is_below (Some 0) 0) ≡ false) [ true ↦ refl | false ↦ refl ]
 
 -- how many sessions its State steps opened
 opened_done : (opened : ℕ) (a : Access) → Done → ℕ
@@ -88,7 +88,7 @@ opened_done opened a done = if awaits_ring done then opened else opened + opens 
 cleared_blows : (x found opened : ℕ) (ringing : Bool) (spans : List ℕ) (a : Access) →
     blowing (storm_on x (Cleared found)) (is_set found) (if is_set found then opened else opened + opens a) (spent spans) ≡ cleared_to found (blowing x ringing opened spans) a (storming (storm_after x))
 cleared_blows x found opened ringing spans a = elim (is_set found) as (λ b. blowing (if b then x else storm_after x) b (if b then opened else opened + opens a) (spent spans) ≡
-    (if b then record (blowing x ringing opened spans) { looks = 0; ringing = true; spans = spent spans } else steps_on (blowing x ringing opened spans) a (storming (storm_after x)))) [ true ↦ refl | false ↦ refl ]
+    (if b then record (blowing x ringing opened spans) { looks = Some 0; ringing = true; spans = spent spans } else steps_on (blowing x ringing opened spans) a (storming (storm_after x)))) [ true ↦ refl | false ↦ refl ]
 
 storm_takes : (key : RunSetup) (routes : List Route) (p x : ℕ) (ringing : Bool) (opened : ℕ) (spans : List ℕ) (done : Done) → has_turn_left spans ≡ true → IsDone ringing (is_guarded (doorbell_path_in routes (storm_in key p x).access)) done →
     TakesTurn (config_in key p) (storm_in key p) routes (blowing x ringing opened spans) (turn_of true 0 None (storm_in key p x) done) (blowing (storm_on x done) (awaits_ring done) (opened_done opened (storm_in key p x).access done) (spent spans))
@@ -181,7 +181,8 @@ pub record StormAt (id : TableId) (key : RunSetup) (routes : List Route) (first 
   pub turns_are : turns ≡ length taken
   pub told : lines ≡ lines_of_turns first.peer taken
 
--- between two spans, of which so many were taken; and in one of them, of which so many turns were taken
+-- `LeftAt` holds between two spans, after this number of spans. `LeftIn` holds in span `k`, after
+-- `taken` turns of the span.
 abbrev pub LeftAt : List ℕ → ℕ → List ℕ → Type 0
 LeftAt spans zero left = left ≡ spans
 LeftAt spans (suc k) left = left ≡ 0 ∷ drop (suc k) spans

@@ -1,4 +1,5 @@
--- What the lines of a running peer tell of its end, its sessions and its doorbells is what its turns leave.
+-- What the lines of a running peer record of its end, its sessions and its doorbells is what its
+-- turns leave.
 use Rattle.std.proofs.Common.{◌≡◌, ◌≢◌, ℕ, zero, suc, ◌-◌, ◌⊎◌, inl, inr, ⊎_elim, Bool, true, false, List, [], ◌∷◌, ◌++◌, length, refl, sym, ap, ◌∙◌, subst}
 use Rattle.std.specs.Prelude.{Option, Some, None, ◌==◌, not, nat_le, if◌then◌else◌, map}
 use Rattle.std.specs.Int.{bit_at}
@@ -47,7 +48,7 @@ unfolding reader_after_lines
 tells_both t [] ys = refl
 tells_both t (x ∷ xs) ys = tells_both (reader_after_line t x) xs ys
 
--- What they tell of an end and of its sessions
+-- What the lines record of an end and of its sessions
 record Keeps (t : RecordReader) (end : End) (own : Log) : Type 0 where
   state : t.state ≡ state_of end.handshake.phase
   accepted : t.accepted ≡ end.accepted
@@ -59,13 +60,13 @@ side_kept k = λ i. record initial_side { state = k.state i; accepted = k.accept
 
 -- The lines of marks
 
--- the frames of the marks are told, and else all stays
+-- the lines record the frames of the marks, and change nothing else
 record Counts (t u : RecordReader) (marks : List Mark) : Type 0 where
   kept : (end : End) (log : Log) → Keeps t end log → Keeps u (with_marks end marks) log
   asked : u.asked ≡ t.asked
   missed : u.missed ≡ t.missed
 
--- a quiet call tells no frame
+-- a quiet call records no frame
 nothing_counts : (t : RecordReader) (marks : List Mark) → finds_nothing marks ≡ true → Counts t t marks
 nothing_counts t (Saw value ∷ Over ∷ []) is = record { kept = λ end log k. k; asked = refl; missed = refl }
 nothing_counts t (Look zero ∷ mark.Done ∷ []) is = record { kept = λ end log k. record { state = k.state; accepted = k.accepted; delivered = k.delivered; log = k.log }; asked = refl; missed = refl }
@@ -131,7 +132,7 @@ plain p t (m ∷ marks) is = let rest = no_look p (record t { read = false }) ma
 abbrev wake_of : RecordReader → Wake
 wake_of t = record { asked = t.asked; missed = t.missed }
 
--- they tell what the step leaves of an end with these numbers
+-- the lines record what the step leaves of an end with these numbers
 record Steps (n : Numbers) (t u : RecordReader) (a : Access) (marks : List Mark) : Type 0 where
   kept : (end : End) → Keeps t end n.log → Keeps u (with_marks (with_access end a) marks) (numbers_after n end a).log
   asked : u.asked ≡ (wake_after (length t.accepted) (length t.delivered) (wake_of t) a marks).asked
@@ -257,7 +258,7 @@ now_more n Nowhere d = refl
 now_more n Asking d = refl
 now_more n (At number) d = refl
 
--- the marks of a look, which are told, or quiet
+-- the marks of a look: the lines record the marks, or the call is quiet
 quiet_look : (p : ℕ) (n : Numbers) (t : RecordReader) (word v : ℕ) → t.asked ≢ Asking → Steps n t (reader_after_lines t (lines_of p true (access.Read word) v (Look 0 ∷ mark.Done ∷ []))) (access.Read word) (Look 0 ∷ mark.Done ∷ [])
 unfolding reader_after_lines
 quiet_look p n t word v ne = record { kept = λ end k. record { state = k.state; accepted = k.accepted; delivered = k.delivered; log = k.log }; asked = sym (last_same (length t.delivered) t.asked ne); missed = refl }
@@ -319,7 +320,7 @@ state_step p first n t state v never = record {
   missed = refl;
 }
 
--- that with 3 is told with the number that was loaded
+-- the State step with 3 is recorded with the number that was loaded
 enter_step : (p opened other : ℕ) (n : Numbers) (t : RecordReader) → n.loaded ≡ Some other → Steps n t (reader_after_lines t (line.State p 3 ∷ line.Session p opened other ∷ line.Over p ∷ [])) (access.State 3) (Over ∷ [])
 unfolding reader_after_lines
 enter_step p opened other n t loaded = record {
@@ -418,7 +419,7 @@ pub looked_told : (p found : ℕ) (r : Runner) (t : RecordReader) → Told r t �
 looked_told p found r t told = let c = heard_counts 64 p found t in let one = c.0 in let k = one.kept r.end r.numbers.log (keeps r t told) in
     record { side = side_kept k; log = k.log; asked = one.asked ∙ told.asked; missed = one.missed ∙ told.missed; quiet = λ e. c.1 (told.quiet e); place = told.place }
 
--- a turn at a session word tells nothing
+-- a turn at a session word records no line
 pub met_told : (p number : ℕ) (word : SessionWord) (r : Runner) (t : RecordReader) → Told r t → Told (met_on word r number) (reader_after_lines t (lines_in p (turn_met word number)))
 unfolding reader_after_lines
 met_told p number Own r t told = record { side = told.side; log = told.log; asked = told.asked; missed = told.missed; quiet = told.quiet; place = told.place }

@@ -57,7 +57,7 @@ pub shut : (place : Place) → is_open place ≡ false → place ≡ Closed
 shut Closed is = refl
 shut place is = absurd (cc)
 
--- the call that is told is the one that was chosen
+-- the reported call is the chosen call
 same_call : (answer : Choice) (frames : List (List ℕ)) (c : automatic.Choice) → IsChoice answer frames c → call_of answer frames ≡ call_chosen (Some c)
 same_call Tick frames c is = sym (ap (λ (x : automatic.Choice). call_chosen (Some x)) is)
 same_call Offer [] c is = absurd is
@@ -151,7 +151,7 @@ begun_if_fits mtu None frames c are is goes = tt
 begun_if_fits mtu (Some answer) frames None are is goes = absurd is
 begun_if_fits mtu (Some answer) frames (Some c) are is goes = begun_fits mtu answer frames c are is goes
 
--- the call that is told begins where none is open, and stops nothing
+-- the reported call begins if no call is open, and is no Stop
 may_offer : (key : RunSetup) (frame : List ℕ) → IsFrame key.queue.mtu frame → IsOffered (link_config_of key) frame
 may_offer key frame f = record { least = f.0; most = f.1; bytes = f.2 }
 
@@ -166,7 +166,7 @@ begins_if : (key : RunSetup) (r : Runner) (s : DerivedState) (answer : Option Ch
 begins_if key r s None frames are is closed = tt
 begins_if key r s (Some answer) frames are is closed = begins_told key s answer frames are (closed (shut r.place (chosen_where (is_open r.place) _ answer frames is).0))
 
--- the place of the access is the same for the stance, where the place is settled
+-- the place of the access is the same for the derived state, if the place is settled
 same_place : (config : EndConfig) (r : Runner) (call : Option Call) → (call ≡ None → settled_place r.place ≡ r.place) → (begun_if config (derived_state_of r) call).place ≡ place_for config r.end r.place call
 same_place config r None is = is refl
 same_place config r (Some call) is = refl
@@ -175,13 +175,14 @@ at_none : (config : EndConfig) (end : End) (place : Place) (call : Option Call) 
 at_none config end place None is = refl
 at_none config end place (Some call) is = absurd (cc)
 
--- the place of an access to a word for the stance
+-- the place of an access to a word, for the derived state
 settled_same : (config : EndConfig) (r : Runner) → touches (access_at config (place_in config r)) ≡ true → (begun_if config (derived_state_of r) (call_chosen (chosen r))).place ≡ place_in config r
 settled_same config r touch = same_place config r (call_chosen (chosen r)) (λ none. let here : place_in config r ≡ r.place = at_none config r.end r.place (call_chosen (chosen r)) none in unsettled config r.place (subst (λ (p : Place). touches (access_at config p) ≡ true) here touch))
 
 -- The number that is met for a State step
 
--- at the place of a turn that meets none: for the step with 2 the session word is stored, and for the one with 3 the number that was loaded is met
+-- at the place of a turn that meets none: for the step with 2 the session word is stored, and for
+-- the one with 3 the number that was loaded is met
 pub record IsMet (place : Place) (met : Option ℕ) (numbers : Numbers) : Type 0 where
   pub two : place ≡ WritingState 2 → (met ≢ None) × (numbers.stored ≡ true)
   pub three : place ≡ WritingState 3 → (other : ℕ) × (met ≡ Some other) × (numbers.loaded ≡ Some other)
@@ -348,7 +349,7 @@ value_in config r done = step_at config (place_in config r) (value_done done)
 abbrev at : End → Place → Numbers → Wake → DerivedState
 at end place numbers wake = record { end = end; place = place; numbers = numbers; wake = wake }
 
--- the stance after the turn
+-- the derived state after the turn
 begun_at : (config : EndConfig) (r : Runner) (call : Option Call) (place : Place) → (begun_if config (derived_state_of r) call).place ≡ place → begun_if config (derived_state_of r) call ≡ at r.end place r.numbers r.wake
 begun_at config r None place is = ap (λ (p : Place). at r.end p r.numbers r.wake) is
 begun_at config r (Some call) place is = ap (λ (p : Place). at r.end p r.numbers r.wake) is
@@ -525,7 +526,8 @@ none_met r none = record { stored = λ number at is. none_some number (sym none 
     none_some : {P : Type 0} → (number : ℕ) → None ≡ Some number → P
     none_some number e = absurd (cc)
 
--- a turn that was taken to the end of its step: its call was opened, the step was done and taken, and its notes were counted
+-- a turn that was taken to the end of its step: its call was opened, the step was done and taken,
+-- and its notes were counted
 pub turn_taken : (key : RunSetup) (me : ℕ) (routes : List Route) (done : Done) (r : Runner) (answer : Option Choice) (old pass : PassView) (p : AutoPeer) (new : Plan) (e1 e2 : Engine) (a : Access) (notes : List Note) → honest_of key me ≡ true →
     Turns key me routes r answer old p → RefinesAt e1 (config_in key me) r.end (place_in (config_in key me) r) → is_open (place_in (config_in key me) r) ≡ true → a ≡ access_at (config_in key me) (place_in (config_in key me) r) →
     IsDone p.ringing (is_guarded (doorbell_path_in routes a)) done → awaits_ring done ≡ false → pass ≡ made old (done_of routes (call_chosen_by answer p.auto.frames) a done) → Takes e1 (value_done done) notes e2 →
@@ -681,7 +683,7 @@ pub first_is : (choice : Option Choice) (busy : Bool) (r : Runner) → Closes ch
 first_is None busy r closes same = ap not (sym closes ∙ same)
 first_is (Some answer) busy r closes same = ap not (sym closes ∙ same)
 
--- the lines that were told are those of the turn
+-- the recorded lines are the lines of the turn
 step_told : (me : ℕ) (first : Bool) (opened : ℕ) (met : Option ℕ) (a : Access) (value : ℕ) (marks : List Mark) → stepped_lines me first opened met a value marks ≡ lines_in me (stepped_turn first opened met (step_of a value marks) a)
 step_told me first opened None (access.Read word) value marks = refl
 step_told me first opened (Some other) (access.Read word) value marks = refl
@@ -798,7 +800,7 @@ module _ (key : RunSetup) (me : ℕ) (routes : List Route) (done : Done) (r : Ru
   pub done_there : IsDone p.ringing (is_guarded (doorbell_path_in routes (access_at (config_in key me) (place_in (config_in key me) r)))) done
   done_there = subst (λ (x : Access). IsDone p.ringing (is_guarded (doorbell_path_in routes x)) done) at_is is_done
 
-  pub held_turn : (q : AutoPeer) → awaits_ring done ≡ true → (awaits_ring done ≡ true → MayRingBy routes a (front pass.lists)) → q.auto ≡ p.auto → q.looks ≡ 0 → q.ringing ≡ true → q.opened ≡ p.opened → q.met ≡ p.met →
+  pub held_turn : (q : AutoPeer) → awaits_ring done ≡ true → (awaits_ring done ≡ true → MayRingBy routes a (front pass.lists)) → q.auto ≡ p.auto → q.looks ≡ Some 0 → q.ringing ≡ true → q.opened ≡ p.opened → q.met ≡ p.met →
       IsThere key me routes (turned routes (config_in key me) r done) pass e1 × IsAutoPeer q (turned routes (config_in key me) r done)
   held_turn q held may auto looks ringing opened met = let both = turn_held key me routes done r answer old pass p e1 a turns refines at_is is_done held is (may held) in let same = sym (turned_held routes (config_in key me) r done held) in (
     subst (λ (x : Runner). IsThere key me routes x pass e1) same both.0,
@@ -812,7 +814,7 @@ module _ (key : RunSetup) (me : ℕ) (routes : List Route) (done : Done) (r : Ru
   )
 
   pub step_turn : (q : AutoPeer) (e2 : Engine) (notes : List Note) → honest_of key me ≡ true → is_open (place_in (config_in key me) r) ≡ true → awaits_ring done ≡ false → Takes e1 (value_done done) notes e2 →
-      ((auto : Auto) (one other : List ℕ) → IsPlanOf p.auto auto → IsPlanOf q.auto (counted_all auto (marks_between one other notes))) → q.looks ≡ 0 → q.ringing ≡ false → q.opened ≡ p.opened + opens a → q.met ≡ None →
+      ((auto : Auto) (one other : List ℕ) → IsPlanOf p.auto auto → IsPlanOf q.auto (counted_all auto (marks_between one other notes))) → q.looks ≡ Some 0 → q.ringing ≡ false → q.opened ≡ p.opened + opens a → q.met ≡ None →
       IsThere key me routes (turned routes (config_in key me) r done) pass e2 × IsAutoPeer q (turned routes (config_in key me) r done)
   step_turn q e2 notes hp opens_is goes took counts looks ringing opened met = let both = turn_taken key me routes done r answer old pass p q.auto e1 e2 a notes hp turns refines opens_is at_is is_done goes is took counts in let same = sym (turned_stepped routes (config_in key me) r done goes) in (
     subst (λ (x : Runner). IsThere key me routes x pass e2) same both.0,

@@ -211,7 +211,7 @@ rings_bits n target (looked found) = let e : tally n (λ bit. 0) ≡ 0 = tally_z
 rings_bits n target (cleared at found) = let e : tally n (λ bit. 0) ≡ 0 = tally_zero n _ (λ p lt. refl) in omega arith
 rings_bits n target (rang at b) = of_bits n b (at == target)
 
--- each ring of the list stands behind a clear, and so with one access more
+-- each ring of a list comes after a clear, and so does each ring of the list with one more action
 pub behind_none : (A : Type 0) → (target : ℕ) → FollowsClears {A = A} target []
 unfolding weigh
 behind_none A target zero = omega arith

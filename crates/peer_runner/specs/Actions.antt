@@ -2,8 +2,11 @@
 use Rattle.std.specs.Prelude.{ℕ, List, [], ◌∷◌}
 use Rattle.std.specs.List.{flat_map}
 
--- One action of a peer: an access to a word of the region; a bit that it sets in the interrupt word of a target; a look, by which its own interrupt word
--- becomes 0; or a clear of bit 0 of a target's Interrupt Control. A look and a clear have the word that they found
+-- One action of a peer:
+-- * `accessed`: an access to a word of the region or of the sessions;
+-- * `rang`: bit `bit` is set in the interrupt word of the peer `target`;
+-- * `looked`: a look, which finds `found` in the peer's own interrupt word and sets that word to 0;
+-- * `cleared`: a clear of bit 0 of `target`'s Interrupt Control, in which the clear finds `found`
 pub data Action (A : Type 0) : Type 0 where
   accessed : (access : A) → Action A
   rang : (target bit : ℕ) → Action A

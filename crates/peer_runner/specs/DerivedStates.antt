@@ -11,7 +11,8 @@ use Rattle.pair_sessions.specs.Numbers.{Numbers, no_numbers, numbers_after, numb
 use Rattle.peer_runner.specs.declared.run_setup.RunSetup.{RunSetup}
 use Rattle.peer_runner.specs.RunSetups.{config_in, link_config_of, honest_of}
 
--- one access to a word: a read with the value that it gave, or a write of a word or of State, with 0
+-- one access to a word: a read with the value that it gave, or a write of a word or of State, with
+-- 0
 pub record ObservedAccess : Type 0 where
   pub access : Access
   pub value : ℕ
@@ -19,7 +20,8 @@ pub record ObservedAccess : Type 0 where
 abbrev pub touch : Access → ℕ → ObservedAccess
 touch a value = record { access = a; value = value }
 
--- the same, with the call that the access begins, if it begins one: a read of the used index doesn't tell the frame of its offer
+-- the same, with the call that the access begins, if it begins one: a read of the used index
+-- doesn't determine the frame of its offer
 pub record CallAccess : Type 0 where
   pub begins : Option Call
   pub access : Access
@@ -31,9 +33,12 @@ taken begins a value = record { begins = begins; access = a; value = value }
 abbrev pub touch_of : CallAccess → ObservedAccess
 touch_of t = touch t.access (value_given t.access t.value)
 
--- What a peer does to the words of the region and of the sessions: an access of a call, or of a storm; a store of its session word, with the number of the
--- session that it opens next; a load of the other's, with the number that it found, which it carries in its next session; and the store of 0 in its own state
--- word by which its device is reset
+-- What a peer does to the words of the region and of the sessions:
+-- * `called`: an access of a call, or of a storm;
+-- * `numbered`: a store of its session word, with the number of the session that it opens next;
+-- * `carried`: a load of the other's session word, which finds `number`; the peer's next session
+--   carries this number;
+-- * `restarted`: the reset of the peer's device, by a store of 0 in the peer's own state word
 pub data MemoryOp (A : Type 0) : Type 0 where
   called : (access : A) → MemoryOp A
   numbered : (number : ℕ) → MemoryOp A
@@ -47,14 +52,18 @@ memory_op_by f (numbered number) = numbered number
 memory_op_by f (carried number) = carried number
 memory_op_by f restarted = restarted
 
--- What a receiver asks for: nothing; nothing yet, as a look of its open poll found no frame, and the poll goes on to write the event; or a doorbell at the frame
--- with this number, as that poll's second look found none either
+-- The doorbell that a receiver asks for:
+-- * `Nowhere`: none;
+-- * `Asking`: none yet. A look of its open poll found no frame, and the poll then writes the event;
+-- * `At`: a doorbell at the frame with number `number`. The second look of that poll found no frame
+--   either
 pub data DoorbellRequest : Type 0 where
   Nowhere : DoorbellRequest
   Asking : DoorbellRequest
   At : (number : ℕ) → DoorbellRequest
 
--- after a look that found so many frames, where its poll goes on; and after one that found none, with which the poll is done
+-- the request after a look that found `count` frames, if its poll continues; and the request after
+-- a look that found none, which completes the poll
 abbrev pub request_after_poll : DoorbellRequest → (count : ℕ) → DoorbellRequest
 request_after_poll was zero = Asking
 request_after_poll Asking (suc more) = Nowhere
@@ -64,19 +73,21 @@ abbrev pub request_after_last : (delivered : ℕ) → DoorbellRequest → Doorbe
 request_after_last delivered Asking = At delivered
 request_after_last delivered was = was
 
--- by the marks of a read, where so many frames were delivered in the session
+-- the request after a read with these marks, if `delivered` frames were delivered in the session
 abbrev pub request_after_marks : (delivered : ℕ) → DoorbellRequest → List Mark → DoorbellRequest
 request_after_marks delivered was (Look count ∷ []) = request_after_poll was count
 request_after_marks delivered was (Look count ∷ Done ∷ []) = request_after_last delivered was
 request_after_marks delivered was marks = was
 
--- the numbers of the frames of the session for which no doorbell was rung, where so many were accepted: the read of the other's event ended the offer of the
--- last one
+-- The numbers of the session's frames for which no doorbell was rung, after a read with these
+-- marks, if `accepted` frames were accepted. A read of the other's event that ends the offer of the
+-- last frame adds the number of this frame
 abbrev pub missed_by : (accepted : ℕ) → List ℕ → List Mark → List ℕ
 missed_by accepted was (Over ∷ []) = was ++ (accepted - 1) ∷ []
 missed_by accepted was marks = was
 
--- what a peer asks for, and for which frames of its session it didn't ring; frames are numbered in their session, from 0
+-- what a peer asks for, and for which frames of its session it didn't ring; frames are numbered in
+-- their session, from 0
 pub record Wake : Type 0 where
   pub asked : DoorbellRequest
   pub missed : List ℕ
@@ -84,13 +95,16 @@ pub record Wake : Type 0 where
 abbrev pub at_rest : Wake
 at_rest = record { asked = Nowhere; missed = [] }
 
--- after a step with these marks; a write of State ends what was asked for, and one of 2 opens a session, in which none was missed
+-- after a step with these marks; a write of State ends what was asked for, and one of 2 opens a
+-- session, in which none was missed
 abbrev pub wake_after : (accepted delivered : ℕ) → Wake → Access → List Mark → Wake
-wake_after accepted delivered wake (access.Read word) marks = record { asked = request_after_marks delivered wake.asked marks; missed = missed_by accepted wake.missed marks }
+wake_after accepted delivered wake (access.Read word) marks =
+    record { asked = request_after_marks delivered wake.asked marks; missed = missed_by accepted wake.missed marks }
 wake_after accepted delivered wake (access.State state) marks = record { asked = Nowhere; missed = if state == 2 then [] else wake.missed }
 wake_after accepted delivered wake _ marks = wake
 
--- an end, its place in the open call, its sessions by their numbers, and which doorbells it asks for and didn't ring
+-- an end, its place in the open call, its sessions by their numbers, and which doorbells it asks
+-- for and didn't ring
 pub record DerivedState : Type 0 where
   pub end : End
   pub place : Place
@@ -121,7 +135,8 @@ numbers_loaded s number = record s { numbers = with_loaded s.numbers number }
 
 -- the device is reset: no call is open, and nothing is asked for
 abbrev pub derived_state_after_reset : DerivedState → DerivedState
-derived_state_after_reset s = record { end = after_reset s.end; place = Closed; numbers = numbers_reset s.numbers s.end; wake = record (s.wake) { asked = Nowhere } }
+derived_state_after_reset s =
+    record { end = after_reset s.end; place = Closed; numbers = numbers_reset s.numbers s.end; wake = record (s.wake) { asked = Nowhere } }
 
 -- a doorbell and a call that is down touch no word, and leave the call closed
 unfoldable pub settled_place : Place → Place
@@ -137,7 +152,8 @@ abbrev pub begun_if : EndConfig → DerivedState → Option Call → DerivedStat
 begun_if config s None = s
 begun_if config s (Some call) = begun config s call
 
--- where a memory operation leaves an honest end, and where it leaves peer p: a hostile peer stands nowhere
+-- where a memory operation leaves an honest end, and where it leaves peer `p`: the derived state of
+-- a hostile peer never changes
 abbrev pub after_access : EndConfig → DerivedState → CallAccess → DerivedState
 after_access config s t = settled (moved config (begun_if config s t.begins) t.value)
 
@@ -158,7 +174,8 @@ state_after_ops key p s (d ∷ list) = state_after_ops key p (state_after_op key
 unfoldable pub derived_state : RunSetup → ℕ → List (MemoryOp CallAccess) → DerivedState
 derived_state key p list = state_after_ops key p initial_derived_state list
 
--- wherever one memory operation after another left it, it bore no mark of a refusal: a reset takes the mark away
+-- wherever one memory operation after another left it, it bore no mark of a refusal: a reset takes
+-- the mark away
 abbrev pub NeverMarked : RunSetup → ℕ → List (MemoryOp CallAccess) → Type 0
 NeverMarked key p list = (front back : List (MemoryOp CallAccess)) → list ≡ front ++ back → (derived_state key p front).end.handshake.mark ≡ false
 
@@ -167,7 +184,8 @@ abbrev pub Begins : LinkConfig → DerivedState → Option Call → Type 0
 Begins over s None = Unit {0}
 Begins over s (Some call) = (s.place ≡ Closed) × (call ≢ Stop) × IsGivenTo over call
 
--- the next access of an honest peer: a State step with 2 stands behind a store of its session word, and one with 3 behind a load of the other's
+-- The access `a` is the next one of an honest peer `p` in the derived state `s`. A State step with
+-- 2 comes after a store of its session word, and one with 3 after a load of the other's
 pub record IsNext (key : RunSetup) (p : ℕ) (s : DerivedState) (begins : Option Call) (a : Access) : Type 0 where
   pub at_call : Begins (link_config_of key) s begins
   pub goes : is_open (begun_if (config_in key p) s begins).place ≡ true

@@ -41,7 +41,8 @@ events_in other = []
 unfoldable pub events_of : List Act → List Event
 events_of acts = fold (λ events a. events_in a ++ events) [] acts
 
--- the devices of so many peers take it
+-- an act that sets a device names one of `peers` peers, and a configuration write is a permitted
+-- access
 abbrev pub MaySet : ℕ → Act → Type 0
 MaySet peers (act.CfgWrite p offset width value) = (p < peers) × (is_access 256 offset width ≡ true)
 MaySet peers (act.MsixWrite p offset value) = p < peers
@@ -53,7 +54,8 @@ pub record AreRoutesOf (world : World) (routes : List Route) : Type 0 where
   pub count : length routes ≡ world.geometry.peers
   pub each : (p : ℕ) → p < world.geometry.peers → IsRoute (devices_of world) (events_of world.acts) p (route_to routes p)
 
--- a doorbell touches no word where no interrupt would come; it sets its bit at once; or, at a peer in one-shot mode, it clears Interrupt Control first
+-- a doorbell touches no word where no interrupt would come; it sets its bit at once; or, at a peer
+-- in one-shot mode, it clears Interrupt Control first
 abbrev pub doorbell_path_by : (one_shot : Bool) → Option ℕ → DoorbellPath
 doorbell_path_by one_shot None = Silent
 doorbell_path_by true (Some bit) = Guarded bit

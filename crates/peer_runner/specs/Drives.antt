@@ -24,7 +24,8 @@ use Rattle.peer_runner.specs.declared.driving.Driver.TheVariants.{Auto, Storm}
 use Rattle.peer_runner.specs.RunSetups.{world_in, config_in, honest_of, IsMadeFor}
 use Rattle.peer_runner.specs.DerivedStates.{CallAccess, MemoryOp, derived_state, NeverMarked}
 use Rattle.peer_runner.specs.Actions.{Action, accesses_in}
-use Rattle.peer_runner.specs.Passes.{shown}
+use Rattle.peer_runner.specs.PassView.{PassView}
+use Rattle.peer_runner.specs.Passes.{shown, held}
 use Rattle.doorbell_irq.specs.declared.route.Route.{Route}
 use Rattle.peer_runner.specs.declared.doorbell_paths.Done.{Done}
 use Rattle.peer_runner.specs.DoorbellPaths.{AreRoutesOf}
@@ -52,8 +53,8 @@ abbrev pub starting : Driver → Peer
 starting (Auto plan end) = automatic plan
 starting (Storm seed geometry queue) = storming seed
 
--- an automatic peer at its start, whose frames may be offered, is driven at an honest end of the link, which is at its start; a storm is driven at a hostile
--- peer
+-- an automatic peer at its start, whose frames may be offered, is driven at an honest end of the
+-- link, which is at its start; a storm is driven at a hostile peer
 pub record MayBeAuto (key : RunSetup) (p : ℕ) (plan : Plan) (end : Engine) : Type 0 where
   pub link : p < 2
   pub honest : honest_of key p ≡ true
@@ -65,7 +66,9 @@ abbrev pub MayDrive : RunSetup → ℕ → Driver → Type 0
 MayDrive key p (Auto plan end) = MayBeAuto key p plan end
 MayDrive key p (Storm seed geometry queue) = (p < key.geometry.peers) × (honest_of key p ≡ false) × (geometry ≡ key.geometry) × (queue ≡ key.queue)
 
--- its list leaves an honest peer where its turns did, and its lines tell of that; and where it never bore the mark of a refusal, they tell none
+-- The list `list` leaves an honest peer where the turns `taken` did, and a reader of the lines of
+-- these turns agrees with the list. If the peer never bore the mark of a refusal, the lines have no
+-- refusal
 pub record IsLeft (key : RunSetup) (p : ℕ) (list : List (Action (MemoryOp CallAccess))) (taken : List Turn) (after : Peer) : Type 0 where
   pub end : (derived_state key p (accesses_in list)).end ≡ after.end
   pub told : ReaderMatches (derived_state key p (accesses_in list)) (reader_of_lines (lines_of_turns p taken))
@@ -121,12 +124,18 @@ pub record Did (key : RunSetup) (routes : List Route) (p : ℕ) (start : Peer) (
   pub made : shown list ≡ actions_in routes turns
   pub left : honest_of key p ≡ true → IsLeft key p list turns after.peer
 
--- it took at most all of them, and tells them where memory was enough
+-- it took at most all turns of its spans, and its trace records the turns if memory was enough
 abbrev pub Drove : RunSetup → List Route → (p : ℕ) → (spans : List ℕ) → Peer → List (Action (MemoryOp CallAccess)) → Result OwnTrace NoMemory → Type 0
 Drove key routes p spans start list answer = (did : Did key routes p start spans list) × (length did.turns ≤ all_turns spans)
     × IfOk answer (λ (t : OwnTrace). IsTraceOf p (all_turns spans) did.turns did.after (part_of t))
 
--- a peer of a scenario did this to the words, and these are the traces of it: one, or none where it has no turns
+-- it did so by a pass that had it alone, with an empty list
+abbrev pub DroveBy : RunSetup → List Route → (p : ℕ) → (spans : List ℕ) → Peer → (old new : PassView) → Result OwnTrace NoMemory → Type 0
+DroveBy key routes p spans start old new answer =
+    (list : List (Action (MemoryOp CallAccess))) × (new ≡ held old.table_id p (list ∷ [])) × Drove key routes p spans start list answer
+
+-- a peer of a scenario did this to the words, and these are the traces of it: one, or none where it
+-- has no turns
 abbrev pub HasRun : World → RunSetup → ℕ → List (Action (MemoryOp CallAccess)) → List OwnTrace → Type 0
 HasRun world key p list traces =
     (t : OwnTrace) × (traces ≡ t ∷ []) × (routes : List Route) × AreRoutesOf world routes ×

@@ -1,4 +1,5 @@
--- What peers make of all words of a table: one action after another, each a step on one word, and one element more in the list of its peer.
+-- What peers make of all words of a table: one action after another, each a step on one word, and
+-- one element more in the list of its peer.
 use Rattle.std.specs.Prelude.{ℕ, ◌≡◌, ◌-◌, ◌^◌, ◌<◌, List, [], bit_or, bit_and, slice_index}
 use Rattle.link_invariant.specs.Steps.{Stored, ReadsMemory, MemoryAfter}
 use Rattle.peer_runner.specs.declared.run_setup.RunSetup.{RunSetup}
@@ -11,17 +12,21 @@ use Rattle.peer_runner.specs.SharedMemory.{Appends, MayTake, MayStoreSession, Ma
 abbrev pub without_first : ℕ → ℕ
 without_first n = bit_and n 18446744073709551614
 
--- The words are those of the start and all lists empty; or a peer does one thing more, and every word stays but the one that it stores in:
--- * it makes an access: a read gives what stands in the word, and a store changes that word;
--- * it stores its session word, or loads the other's; or its device is reset, by a store of 0 in its state word;
--- * it rings: one bit more is set in the interrupt word of the target;
--- * it looks: it finds what stands in its own interrupt word, which becomes 0;
--- * or it clears: it finds what stands in the target's Interrupt Control, which loses bit 0
+-- The words are those of the start and all lists empty; or a peer makes one more action, by which
+-- every word stays except the one that it stores in:
+-- * an access: a read gives the word, and a store changes that word;
+-- * a store of its session word, a load of the other's, or a reset: a store of 0 in its state word;
+-- * a ring: one bit is set in the interrupt word of the target;
+-- * a look: it finds the peer's own interrupt word, which becomes 0;
+-- * a clear: it finds the target's Interrupt Control, which loses bit 0
 pub data Happened (key : RunSetup) : (memory : ℕ → ℕ) → (ℕ → List (Action (MemoryOp CallAccess))) → Type 0 where
-  starts : (memory : ℕ → ℕ) (acc : ℕ → List (Action (MemoryOp CallAccess))) → ((w : ℕ) → memory w ≡ slice_index (words_at_start key) w) → ((p : ℕ) → acc p ≡ []) →
+  starts : (memory : ℕ → ℕ) (acc : ℕ → List (Action (MemoryOp CallAccess))) →
+      ((w : ℕ) → memory w ≡ slice_index (words_at_start key) w) → ((p : ℕ) → acc p ≡ []) →
       Happened key memory acc
-  makes : (memory after : ℕ → ℕ) (acc next : ℕ → List (Action (MemoryOp CallAccess))) (p : ℕ) (t : CallAccess) → Happened key memory acc → p < key.geometry.peers →
-      MayTake key p (accesses_in (acc p)) t → ReadsMemory memory t.access t.value → MemoryAfter p memory t.access after → Appends acc next p (accessed (called t)) →
+  makes : (memory after : ℕ → ℕ) (acc next : ℕ → List (Action (MemoryOp CallAccess))) (p : ℕ) (t : CallAccess) →
+      Happened key memory acc → p < key.geometry.peers →
+      MayTake key p (accesses_in (acc p)) t → ReadsMemory memory t.access t.value → MemoryAfter p memory t.access after →
+      Appends acc next p (accessed (called t)) →
       Happened key after next
   stores : (memory after : ℕ → ℕ) (acc next : ℕ → List (Action (MemoryOp CallAccess))) (p number : ℕ) → Happened key memory acc → p < key.geometry.peers →
       MayStoreSession key p (accesses_in (acc p)) number → Stored memory after (session_word key p) number → Appends acc next p (accessed (numbered number)) →

@@ -5,16 +5,16 @@ use Rattle.section_map.specs.Geometry.{word_count}
 use Rattle.peer_runner.specs.declared.run_setup.RunSetup.{RunSetup}
 use Rattle.peer_runner.specs.Actions.{Action, accessed, rang, looked, cleared}
 
--- The words behind the region
+-- The words after the region's words
 
--- a peer's interrupt word, and the word of its Interrupt Control, which stands behind it
+-- a peer's interrupt word, and the word of its Interrupt Control, which follows it
 abbrev pub interrupt_word : RunSetup → ℕ → ℕ
 interrupt_word key target = word_count key.geometry + 2 * target
 
 abbrev pub control_word : RunSetup → ℕ → ℕ
 control_word key target = word_count key.geometry + 2 * target + 1
 
--- behind these words of all peers, the session word of each of the two link peers
+-- after these words of all peers, the session word of each of the two link peers
 abbrev pub session_word : RunSetup → ℕ → ℕ
 session_word key p = word_count key.geometry + 2 * key.geometry.peers + p
 
@@ -84,7 +84,7 @@ strikes target (cleared at found) = one_if (at == target)
 
 -- What the words keep
 
--- each ring at this target stands behind a clear that found its bit set, one ring for each clear
+-- each ring at this target comes after a clear that found its bit set, one ring for each clear
 abbrev pub FollowsClears : {A : Type 0} → (target : ℕ) → List (Action A) → Type 0
 FollowsClears target list = (n : ℕ) → weigh (aims target) (take n list) ≤ weigh (wins target) (take n list)
 
@@ -92,8 +92,10 @@ FollowsClears target list = (n : ℕ) → weigh (aims target) (take n list) ≤ 
 abbrev pub MayRing : {A : Type 0} → (target : ℕ) → List (Action A) → Type 0
 MayRing target list = weigh (aims target) list < weigh (wins target) list
 
--- Of each target and bit: the looks that found it, and one more where it is set now, are at most the rings of all peers. Bit 0 of the target's Interrupt
--- Control, and the clears of all peers that found it set, are as many as at the start. And at a one-shot target each ring stands behind such a clear
+-- Of each target and bit: the looks that found the bit, plus one if it is set now, are at most the
+-- rings of all peers. Bit 0 of the target's Interrupt Control, plus the number of clears of all
+-- peers that found it set, equals this bit at the start. At a one-shot target each ring comes after
+-- such a clear
 pub record Interrupts {A : Type 0} (key : RunSetup) (memory : ℕ → ℕ) (acc : ℕ → List (Action A)) : Type 0 where
   pub rung : (target bit : ℕ) → target < key.geometry.peers →
       weigh (finds bit) (acc target) + bit_at (memory (interrupt_word key target)) bit ≤ tally key.geometry.peers (λ p. weigh (rings target bit) (acc p))
@@ -101,15 +103,17 @@ pub record Interrupts {A : Type 0} (key : RunSetup) (memory : ℕ → ℕ) (acc 
       bit_at (memory (control_word key target)) 0 + tally key.geometry.peers (λ p. weigh (wins target) (acc p)) ≡ bit_at key.enabled target
   pub leave : (target p : ℕ) → target < key.geometry.peers → p < key.geometry.peers → IsOneShot key target → FollowsClears target (acc p)
 
--- Of each target and bit: where any peer rang it, it is set now or a look found it. And where any peer cleared a target's Interrupt Control, its bit 0 isn't set
+-- Of each target and bit: where any peer rang it, it is set now or a look found it. And where any
+-- peer cleared a target's Interrupt Control, its bit 0 isn't set
 pub record Doorbells {A : Type 0} (key : RunSetup) (memory : ℕ → ℕ) (acc : ℕ → List (Action A)) : Type 0 where
   pub refines : (target bit : ℕ) → target < key.geometry.peers → 1 ≤ tally key.geometry.peers (λ p. weigh (rings target bit) (acc p)) →
       1 ≤ bit_at (memory (interrupt_word key target)) bit + weigh (finds bit) (acc target)
   pub shut : (target : ℕ) → target < key.geometry.peers → 1 ≤ tally key.geometry.peers (λ p. weigh (strikes target) (acc p)) →
       bit_at (memory (control_word key target)) 0 ≡ 0
 
--- What this says of the lists alone: no peer finds a bit oftener than it was rung; a one-shot peer finds one bit at most, and once; and each ring at it stands
--- behind a clear
+-- Of the lists alone: no peer finds a bit more often than the bit was rung. A one-shot peer finds
+-- one bit at most, and once. Each ring at a one-shot peer comes after a clear that found its bit
+-- set
 pub record AreRung {A : Type 0} (key : RunSetup) (acc : ℕ → List (Action A)) : Type 0 where
   pub rung : (target bit : ℕ) → target < key.geometry.peers → weigh (finds bit) (acc target) ≤ tally key.geometry.peers (λ p. weigh (rings target bit) (acc p))
   pub once : (target : ℕ) → target < key.geometry.peers → IsOneShot key target → tally 64 (λ bit. weigh (finds bit) (acc target)) ≤ 1

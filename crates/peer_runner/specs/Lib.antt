@@ -13,6 +13,7 @@ pub mod OwnRecord
 pub mod RunningRecord
 pub mod Runners
 pub mod Trajectories
+pub mod Contexts
 pub mod Drives
 pub mod ListSays
 pub mod RunningLaws

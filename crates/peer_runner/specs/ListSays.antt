@@ -6,7 +6,8 @@ use Rattle.split_ring.specs.declared.steps.Access.TheVariants as access
 use Rattle.call_grammar.specs.Calls.{Call}
 use Rattle.peer_runner.specs.DerivedStates.{CallAccess, MemoryOp, called, numbered, carried, restarted}
 
--- what a memory operation does to the region: its access; of a reset a write of State with 0; else nothing
+-- what a memory operation does to the region: its access; of a reset a write of State with 0; else
+-- nothing
 abbrev pub access_of : MemoryOp CallAccess → Access
 access_of (called t) = t.access
 access_of (numbered number) = access.Nothing

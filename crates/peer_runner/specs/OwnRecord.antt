@@ -1,5 +1,6 @@
--- The own record of a running peer: its turns are the steps of its calls, or the first steps of its storm, with its looks, its doorbells, the accesses to session
--- words and its resets; its list has what it did to the words by them, and its trace tells them.
+-- The own record of a running peer. Its turns are the steps of its calls, or the first steps of its
+-- storm, with its looks, its doorbells, the accesses to session words and its resets. Its list has
+-- what it did to the words by these turns, and its trace records the turns.
 use Rattle.std.specs.Prelude.{ℕ, ◌≡◌, ◌≤◌, ◌==◌, false, if◌then◌else◌, List, [], ◌∷◌, length}
 use Rattle.std.specs.List.{flat_map}
 use Rattle.scenario_text.specs.declared.acts.Act.{Act}
@@ -16,7 +17,8 @@ use Rattle.peer_runner.specs.Actions.{Action}
 use Rattle.peer_runner.specs.DoorbellPaths.{AreRoutesOf}
 use Rattle.peer_runner.specs.Turns.{Turn, Running, comes_to, all_turns, TakesTurns, is_finished, actions_in, lines_of_turns}
 
--- the trace of these turns, which led the peer there: it took all of its turns, or fewer and is finished
+-- the trace of these turns, which led the peer there: it took all of its turns, or fewer and is
+-- finished
 pub record IsTraceOf (p turns : ℕ) (taken : List Turn) (after : Running) (part : Part) : Type 0 where
   pub peer : part.peer ≡ p
   pub lines : part.lines ≡ lines_of_turns p taken
@@ -27,7 +29,7 @@ pub record IsTraceOf (p turns : ℕ) (taken : List Turn) (after : Running) (part
 
 -- In a scenario
 
--- what an act tells a peer before its turns
+-- the peer `p`, which was `peer`, after an act that comes before its turns
 abbrev pub after_act : ℕ → Peer → Act → Peer
 after_act p peer (act.Auto q expected) = if q == p then automated peer expected else peer
 after_act p peer (act.Offer q frame) = if q == p then with_call peer (Offer frame) else peer
@@ -49,12 +51,14 @@ span_in p _ = []
 unfoldable pub spans_of : List Act → ℕ → List ℕ
 spans_of acts p = flat_map (span_in p) acts
 
--- the part of a running record that a peer of the scenario has with these actions, by the routes of the peers
+-- the part of a running record that a peer of the scenario has with these actions, by the routes of
+-- the peers
 pub record IsOwnRecord (world : World) (actions : List (Action (MemoryOp ObservedAccess))) (part : Part) : Type 0 where
   pub routes : List Route
   pub routed : AreRoutesOf world routes
   pub taken : List Turn
   pub after : Running
-  pub takes : TakesTurns (config_of world part.peer) (storm_step world part.peer) routes (comes_to (start_of world.acts part.peer) (spans_of world.acts part.peer)) taken after
+  pub takes : TakesTurns (config_of world part.peer) (storm_step world part.peer) routes
+      (comes_to (start_of world.acts part.peer) (spans_of world.acts part.peer)) taken after
   pub made : actions ≡ actions_in routes taken
   pub told : IsTraceOf part.peer (all_turns (spans_of world.acts part.peer)) taken after part

@@ -1,4 +1,5 @@
--- What a contract sees of a pass: its words, the first peer of its range, and the list of each peer's actions.
+-- What a contract sees of a pass: its words, the first peer of its range, and the list of each
+-- peer's actions.
 use Rattle.std.specs.Prelude.{ℕ, List}
 use Rattle.atomic_table.specs.Seated.{TableId}
 use Rattle.peer_runner.specs.DerivedStates.{CallAccess, MemoryOp}

@@ -1,18 +1,42 @@
 -- Passes of words.
-use Rattle.std.specs.Prelude.{◌≡◌, List, [], ℕ, ◌+◌, ◌-◌, ◌≤◌, ◌++◌, length, take, drop, replicate, map, get_or}
+use Rattle.std.specs.Prelude.{◌≡◌, List, [], ℕ, ◌+◌, ◌-◌, ◌<◌, ◌≤◌, ◌++◌, true, Option, length, take, drop, replicate, map, get_or}
 use Rattle.atomic_table.specs.Seated.{TableId}
 use Rattle.scenario_text.specs.Scenario.{World}
+use Rattle.split_ring.specs.declared.steps.Access.{Access}
+use Rattle.call_grammar.specs.Calls.{Call}
 use Rattle.peer_runner.specs.declared.run_setup.RunSetup.{RunSetup}
 use Rattle.peer_runner.specs.PassView.{PassView}
-use Rattle.peer_runner.specs.RunSetups.{IsFit, IsMadeFor}
-use Rattle.peer_runner.specs.DerivedStates.{CallAccess, ObservedAccess, touch_of, MemoryOp, memory_op_by}
-use Rattle.peer_runner.specs.Actions.{Action, seen_by}
+use Rattle.peer_runner.specs.RunSetups.{IsFit, IsMadeFor, honest_of}
+use Rattle.peer_runner.specs.DerivedStates.{CallAccess, ObservedAccess, touch_of, MemoryOp, memory_op_by, DerivedState, derived_state, IsNext}
+use Rattle.peer_runner.specs.Actions.{Action, seen_by, accesses_in}
 use Rattle.peer_runner.specs.Interrupts.{all_words}
-use Rattle.peer_runner.specs.Rules.{added_to}
+use Rattle.peer_runner.specs.Rules.{front, added_to}
 
 -- the pass is of the words, which are as many as the key says, and its range is one of the peers
 abbrev pub IsOf : TableId → RunSetup → PassView → Type 0
 IsOf id key h = (h.table_id ≡ id) × (id.words ≡ all_words key) × (h.from + length h.lists ≤ key.geometry.peers) × IsFit key
+
+-- the pass is of the words, and has a peer
+abbrev pub IsFilled : TableId → RunSetup → PassView → Type 0
+IsFilled id key h = IsOf id key h × (0 < length h.lists)
+
+-- the pass is of the words, and this peer is its first one
+abbrev pub IsFirstIn : TableId → RunSetup → ℕ → PassView → Type 0
+IsFirstIn id key p h = IsOf id key h × (h.from ≡ p) × (0 < length h.lists)
+
+-- where the first list of the pass leaves peer p
+abbrev pub state_in : RunSetup → ℕ → PassView → DerivedState
+state_in key p h = derived_state key p (accesses_in (front h.lists))
+
+-- by that list the next access of peer p is this one, which begins such a call, or is a step of the
+-- open one
+abbrev pub IsNextIn : RunSetup → ℕ → PassView → Option Call → Access → Type 0
+IsNextIn key p h begins a = IsNext key p (state_in key p h) begins a
+
+-- the pass's first peer may make this access: a hostile one makes any, and an honest one the next
+-- of its calls
+abbrev pub MayAccess : RunSetup → PassView → Option Call → Access → Type 0
+MayAccess key h begins a = honest_of key h.from ≡ true → IsNextIn key h.from h begins a
 
 -- the words were made for this scenario, and the pass is of them and has all peers
 abbrev pub IsWhole : World → TableId → RunSetup → PassView → Type 0

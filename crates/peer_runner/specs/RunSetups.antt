@@ -1,5 +1,5 @@
--- What the rule of a table reads of a scenario: its sizes, its wiring, which of the two link peers are honest, and how peers take
--- interrupts.
+-- What the rule of a table reads of a scenario: its sizes, its wiring, which of the two link peers
+-- are honest, and how peers take interrupts.
 use Rattle.std.specs.Prelude.{◌≡◌, ℕ, ◌*◌, ◌<◌, ◌≤◌, ◌==◌, if◌then◌else◌, Bool, false, []}
 use Rattle.std.specs.Int.{bit_at}
 use Rattle.section_map.specs.Geometry.{IsShape, section_start}
@@ -14,7 +14,8 @@ use Rattle.peer_runner.specs.declared.run_setup.RunSetup.{RunSetup}
 use Rattle.peer_runner.specs.Interrupts.{one_if}
 use Rattle.peer_runner.specs.DoorbellPaths.{events_of}
 
--- a world of these sizes without acts, of the version of its queue, and a peer of it as the call grammar sees it
+-- a world of these sizes without acts, of the version of its queue, and a peer of it as the call
+-- grammar sees it
 abbrev pub world_in : RunSetup → World
 world_in key = record { version = key.queue.version; geometry = key.geometry; queue = key.queue; wiring = key.wiring; honest = []; acts = [] }
 

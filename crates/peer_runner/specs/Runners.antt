@@ -1,5 +1,6 @@
--- An automatic peer between two turns, as the code steps it: its place in the open call, where the own record has what is left of it.
-use Rattle.std.specs.Prelude.{ℕ, ◌≡◌, ◌+◌, ◌<◌, ◌≤◌, ◌==◌, ◌&&◌, not, nat_lt, Bool, true, false, if◌then◌else◌, Option, Some, None, All, List, [], ◌∷◌, ◌++◌, length, map}
+-- An automatic peer between two turns, as the code steps it: its place in the open call, where the
+-- own record has what is left of it.
+use Rattle.std.specs.Prelude.{ℕ, ◌≡◌, ◌+◌, ◌<◌, ◌≤◌, ◌==◌, ◌&&◌, not, Bool, true, false, if◌then◌else◌, Option, Some, None, All, List, [], ◌∷◌, ◌++◌, length, map}
 use Rattle.split_ring.specs.declared.steps.Access.{Access}
 use Rattle.split_ring.specs.declared.steps.Access.TheVariants as access
 use Rattle.section_map.specs.Geometry.{word_count}
@@ -12,8 +13,9 @@ use Rattle.call_grammar.specs.Automatic.{Anew, AfterOffer, AfterPoll, choice_of}
 use Rattle.call_grammar.specs.Automatic as automatic
 use Rattle.pair_sessions.specs.Numbers.{Numbers, no_numbers, numbers_after, numbers_reset, with_stored, with_loaded}
 use Rattle.call_grammar.specs.Places.{Place, Closed, WritingState, remaining, first_place, access_at, next_place, step_at, marks_at, is_open}
-use Rattle.link_endpoint.specs.Engine.{Engine, is_busy}
-use Rattle.link_endpoint.specs.Refinement.{RefinesAt}
+use Rattle.split_ring.specs.declared.steps.Note.{Note}
+use Rattle.link_endpoint.specs.Engine.{Engine, is_busy, offered, delivered}
+use Rattle.link_endpoint.specs.Refinement.{RefinesAt, marks_between}
 use Rattle.link_endpoint.specs.Plan.{IsChoice}
 use Rattle.link_endpoint.specs.declared.auto.Choice.{Choice}
 use Rattle.link_endpoint.specs.declared.auto.Choice.TheVariants.{Tick, Offer, Poll, Finished}
@@ -31,11 +33,12 @@ use Rattle.peer_runner.specs.Actions.{Action, accessed, looked, accesses_in}
 use Rattle.peer_runner.specs.Passes.{added}
 use Rattle.peer_runner.specs.DoorbellPaths.{doorbell_path_to, is_guarded, rung_by}
 use Rattle.peer_runner.specs.Interrupts.{MayRing}
-use Rattle.peer_runner.specs.Turns.{Turn, Looks, Makes, Clears, Rings, Stores, Loads, Enters, Restarts, Running, sleeps, looks_after, spent, later, is_end, is_set, cleared_by, is_quiet, lines_in}
+use Rattle.peer_runner.specs.Turns.{Turn, Looks, Makes, Clears, Rings, Stores, Loads, Enters, Restarts, Running, sleeps, is_below, looks_after, spent, later, is_end, is_set, cleared_by, is_quiet, lines_in}
 use Rattle.peer_runner.specs.declared.sessions.SessionWord.{SessionWord}
 use Rattle.peer_runner.specs.declared.sessions.SessionWord.TheVariants.{Own, Others}
 use Rattle.peer_runner.specs.declared.doorbell_paths.Done.{Done}
 use Rattle.peer_runner.specs.declared.turns.AutoPeer.{AutoPeer}
+use Rattle.peer_runner.specs.declared.notes.RecordedStep.{RecordedStep}
 use Rattle.peer_runner.specs.declared.doorbell_paths.Done.TheVariants.{Stepped, Cleared, Rung}
 use Rattle.doorbell_irq.specs.declared.route.Route.{Route}
 
@@ -43,14 +46,23 @@ use Rattle.doorbell_irq.specs.declared.route.Route.{Route}
 abbrev pub IsFrame : ℕ → List ℕ → Type 0
 IsFrame mtu frame = (14 ≤ length frame) × (length frame ≤ mtu + 18) × All (λ byte. byte < 256) frame
 
--- its end, its place in the open call, what it has to do, how many looks it has taken since its last step, whether a ring is to come, its sessions by their
--- numbers, the number that it stored or loaded for the State step that comes next, the turns left of its span and those of the spans to come, its list of
--- actions, the turns that it took, and which doorbells it asks for and didn't ring
+-- A runner:
+-- * `end`: its end;
+-- * `place`: its place in the open call;
+-- * `auto`: what it has to do;
+-- * `looks`: how many looks it has taken since its last step;
+-- * `ringing`: whether a ring is to come;
+-- * `numbers`: its sessions by their numbers;
+-- * `met`: the number that it stored or loaded for the State step that comes next;
+-- * `spans`: the turns left of its span, and those of the spans to come;
+-- * `actions`: its list of actions;
+-- * `turns`: the turns that it took;
+-- * `wake`: which doorbells it asks for and didn't ring
 pub record Runner : Type 0 where
   pub end : End
   pub place : Place
   pub auto : Auto
-  pub looks : ℕ
+  pub looks : Option ℕ
   pub ringing : Bool
   pub numbers : Numbers
   pub met : Option ℕ
@@ -67,7 +79,7 @@ initial_runner frames expected spans = record {
   end = fresh;
   place = Closed;
   auto = start_auto frames expected;
-  looks = 0;
+  looks = Some 0;
   ringing = false;
   numbers = no_numbers;
   met = None;
@@ -210,13 +222,15 @@ turn_of first opened met step (Stepped value) = stepped_turn first opened met st
 turn_of first opened met step (Cleared found) = Clears step found
 turn_of first opened met step Rung = Rings step
 
--- a clear is done first of a doorbell at a peer in one-shot mode, and then, where it found the bit, the ring
+-- a clear is done first of a doorbell at a peer in one-shot mode, and then, where it found the bit,
+-- the ring
 abbrev pub IsDone : (ringing guarded : Bool) → Done → Type 0
 IsDone ringing guarded (Stepped value) = (ringing ≡ false) × (guarded ≡ false)
 IsDone ringing guarded (Cleared found) = (ringing ≡ false) × (guarded ≡ true)
 IsDone ringing guarded Rung = (ringing ≡ true) × (guarded ≡ true)
 
--- the lines of it, with these marks, where such numbers stand behind a State step with 3
+-- The lines of a turn, with these marks. If a State step with 3 met a number, the line of the
+-- session, with `opened` and this number, follows the line of the step
 abbrev pub session_lines : ℕ → (opened : ℕ) → (met : Option ℕ) → Access → List Line
 session_lines p opened (Some other) (access.State state) = if state == 3 then line.Session p opened other ∷ [] else []
 session_lines p opened met _ = []
@@ -229,6 +243,16 @@ abbrev pub done_lines : ℕ → (first : Bool) → (opened : ℕ) → (met : Opt
 done_lines p first opened met a (Stepped value) marks = stepped_lines p first opened met a value marks
 done_lines p first opened met a (Cleared found) marks = access_lines p a 0 ++ map (mark_line p) marks
 done_lines p first opened met a Rung marks = map (mark_line p) marks
+
+-- the same, by what the code keeps of the step, and by the endpoint's notes of it
+abbrev pub lines_stepped : ℕ → RecordedStep → ℕ → List Mark → List Line
+lines_stepped p step value marks = stepped_lines p step.first step.opened step.met step.access value marks
+
+abbrev pub lines_done : ℕ → RecordedStep → Done → List Mark → List Line
+lines_done p step done marks = done_lines p step.first step.opened step.met step.access done marks
+
+abbrev pub marks_of_notes : Engine → List Note → List Mark
+marks_of_notes end notes = marks_between (offered end) (delivered end) notes
 
 -- and of a step without marks, whose access is no read
 abbrev pub drawn_lines : ℕ → Access → Done → List Line
@@ -247,15 +271,17 @@ MayRingBy routes other list = ⊥
 
 -- A turn
 
--- it looks first, where so many looks are due and so many were taken
+-- The number of looks due: none in an open call, 64 if the peer sleeps, otherwise 1. With `looks`
+-- taken and `due` due, the peer looks first if its interrupts are enabled and `looks` is below
+-- `due`
 abbrev pub due_at : EndConfig → End → Place → Auto → ℕ
 due_at config end place auto = if is_open place then 0 else if sleeps config end auto then 64 else 1
 
 abbrev pub due_of : EndConfig → Runner → ℕ
 due_of config r = due_at config r.end r.place r.auto
 
-abbrev pub looks_now : Route → (due looks : ℕ) → Bool
-looks_now own due looks = own.enabled && nat_lt looks due
+abbrev pub looks_now : Route → (due : ℕ) → (looks : Option ℕ) → Bool
+looks_now own due looks = own.enabled && is_below looks due
 
 abbrev pub looked_on : Runner → ℕ → Runner
 looked_on r found = record r {
@@ -265,9 +291,11 @@ looked_on r found = record r {
   turns = r.turns ++ Looks found ∷ [];
 }
 
--- It meets a number for the State step to come, which is the next one: it stores the number of the session that it opens, or loads the other's
+-- It meets a number for the State step to come, which is the next one: it stores the number of the
+-- session that it opens, or loads the other's
 
--- the session word that it comes to before the State step with 2, or with 3, where it has met no number for it yet
+-- the session word that it comes to before the State step with 2, or with 3, where it has met no
+-- number for it yet
 abbrev pub due_word : Place → Option ℕ → Option SessionWord
 due_word (WritingState state) None = if state == 2 then Some Own else if state == 3 then Some Others else None
 due_word place met = None
@@ -303,7 +331,7 @@ restarted_on r = record {
   end = after_reset r.end;
   place = Closed;
   auto = record (r.auto) { round = Anew };
-  looks = 0;
+  looks = Some 0;
   ringing = false;
   numbers = numbers_reset r.numbers r.end;
   met = None;
@@ -324,7 +352,7 @@ turn_on config r done = turn_of (is_first r) r.numbers.log.opened r.met (step_at
 -- the step goes on, or is held for its ring
 abbrev pub held_on : List Route → EndConfig → Runner → Done → Runner
 held_on routes config r done = record r {
-  looks = 0;
+  looks = Some 0;
   ringing = true;
   spans = spent r.spans;
   actions = r.actions ++ done_of routes (call_chosen (chosen r)) (access_at config (place_in config r)) done;
@@ -340,7 +368,7 @@ stepped_on routes config r done = record {
   end = end_after r.end (step_at config (place_in config r) (value_done done));
   place = next_place config (place_in config r) (value_done done);
   auto = counted_all (round_on r.auto (chosen r)) (marks_at config (place_in config r) (value_done done));
-  looks = 0;
+  looks = Some 0;
   ringing = false;
   numbers = numbers_after r.numbers r.end (access_at config (place_in config r));
   met = None;
@@ -353,7 +381,7 @@ stepped_on routes config r done = record {
 abbrev pub turned : List Route → EndConfig → Runner → Done → Runner
 turned routes config r done = if awaits_ring done then held_on routes config r done else stepped_on routes config r done
 
--- the lines that it tells
+-- the lines of the turn
 abbrev pub lines_on : EndConfig → Runner → Done → List Line
 lines_on config r done = lines_in config.me (turn_on config r done)
 
@@ -366,7 +394,8 @@ pub record HasMet (r : Runner) : Type 0 where
   pub stored : (number : ℕ) → r.place ≡ WritingState 2 → r.met ≡ Some number → r.numbers.stored ≡ true
   pub loaded : (number : ℕ) → r.place ≡ WritingState 3 → r.met ≡ Some number → r.numbers.loaded ≡ Some number
 
--- the endpoint stands where the runner is, its list leaves it there, its frames may be offered, and a ring that is to come may be made
+-- the endpoint stands where the runner is, its list leaves it there, its frames may be offered, and
+-- a ring that is to come may be made
 pub record RunnerRefines (key : RunSetup) (me : ℕ) (routes : List Route) (r : Runner) (end : Engine) : Type 0 where
   pub refines : RefinesAt end (config_in key me) r.end r.place
   pub derived_state : derived_state key me (accesses_in r.actions) ≡ derived_state_of r
@@ -389,7 +418,8 @@ pub record IsAutoPeer (auto_peer : AutoPeer) (r : Runner) : Type 0 where
   pub opened : auto_peer.opened ≡ r.numbers.log.opened
   pub met : auto_peer.met ≡ r.met
 
--- a turn is to come that is no look and meets no number, for which this was chosen, with which the round went on
+-- a turn is to come that is no look and meets no number, for which this was chosen, with which the
+-- round went on
 pub record Turns (key : RunSetup) (me : ℕ) (routes : List Route) (r : Runner) (choice : Option Choice) (pass : PassView) (auto_peer : AutoPeer) : Type 0 where
   pub there : IsThere key me routes r pass auto_peer.end
   pub is : IsAutoPeer auto_peer (record r { auto = round_on r.auto (chosen r) })

@@ -1,6 +1,8 @@
--- The running record of a scenario: an own record for each running peer, by the list of its actions; of all, that no interrupt came unrung; of two honest link
--- peers, that each delivered in each session a beginning of what the other accepted in the session that it carries, and rang where the other asked; and of one
--- beside a hostile peer, that its sessions carry none. It says nothing of an order between peers.
+-- The running record of a scenario has an own record for each running peer, by the list of its
+-- actions. Of all peers, no interrupt came unrung. Of two honest link peers, each delivered in each
+-- session a beginning of what the other accepted in the session that it carries, and rang if the
+-- other asked. The sessions of an honest peer whose other is hostile carry none. The record states
+-- no order between peers.
 use Rattle.std.specs.Prelude.{ℕ, zero, suc, ◌≡◌, ◌+◌, ◌-◌, ◌<◌, ◌≤◌, ◌==◌, ◌&&◌, ◌||◌, Bool, true, false, if◌then◌else◌, All, Contains, List, [], ◌∷◌, ◌++◌, length}
 use Rattle.std.specs.List.{flat_map, list_any}
 use Rattle.split_ring.specs.Layout.{has_events}
@@ -33,8 +35,13 @@ abbrev pub refuses : Line → Bool
 refuses (line.Refuse peer refused) = true
 refuses _ = false
 
--- What the lines of a peer tell of it: its state, the frames that it accepted and delivered in its present session, and the log of its sessions; where it asks
--- for a doorbell, and the numbers of the frames of the session, from 0, for which it rang none; and whether its last line is a read
+-- What the lines of a peer report of it:
+-- * `state`: its state;
+-- * `accepted` and `delivered`: the frames that it accepted and delivered in its present session;
+-- * `log`: the log of its sessions;
+-- * `asked`: the doorbell that it asks for;
+-- * `missed`: the numbers of the frames of the session, from 0, for which it rang none;
+-- * `read`: whether its last line is a read
 pub record RecordReader : Type 0 where
   pub state : ℕ
   pub accepted : List (List ℕ)
@@ -51,22 +58,26 @@ initial_reader = record { state = 0; accepted = []; delivered = []; log = no_ses
 abbrev pub side_in : RecordReader → Side
 side_in t = record initial_side { state = t.state; accepted = t.accepted; delivered = t.delivered }
 
--- its log after a State step or a reset. One with 3 is told with the number that it carries in the line behind it
+-- its log after the State step or the reset `told`. The number that a State step with 3 carries is
+-- in the next line
 abbrev pub log_in : RecordReader → SideEvent → Log
 log_in t told = log_after t.log no_sessions (side_in t) told
 
--- a poll that looks and finds nothing writes its event and looks again; where it finds nothing then, it has asked for a doorbell at the next frame
+-- a poll that looks and finds nothing writes its event and looks again; where it finds nothing
+-- then, it has asked for a doorbell at the next frame
 abbrev pub asked_now : (delivered : ℕ) → DoorbellRequest → (count : ℕ) → DoorbellRequest
 asked_now delivered Asking zero = At delivered
 asked_now delivered Asking (suc more) = Nowhere
 asked_now delivered was zero = Asking
 asked_now delivered was (suc more) = was
 
--- a call that is over right after a read is an offer, of the frame accepted last: it read an event that doesn't ask for this frame, and rang no doorbell
+-- a call that is over right after a read is an offer, of the frame accepted last: it read an event
+-- that doesn't ask for this frame, and rang no doorbell
 abbrev pub missed_now : RecordReader → List ℕ
 missed_now t = if t.read then t.missed ++ (length t.accepted - 1) ∷ [] else t.missed
 
--- a value that is none of the four states is that of RESET, as the handshake takes it; and one of 2 opens a session
+-- a value that is none of the four states is that of RESET, as the handshake takes it; and one of 2
+-- opens a session
 abbrev pub reader_after_state : RecordReader → ℕ → RecordReader
 reader_after_state t value = record {
   state = state_of (phase_at value);
@@ -102,7 +113,8 @@ reader_after_lines t (line ∷ lines) = reader_after_lines (reader_after_line t 
 abbrev pub reader_of_lines : List Line → RecordReader
 reader_of_lines lines = reader_after_lines initial_reader lines
 
--- the lines tell just this of where a peer stands
+-- the lines, as the reader `t` has them, report exactly the derived state `s`: its side, its log,
+-- its request and its missed frames
 pub record ReaderMatches (s : DerivedState) (t : RecordReader) : Type 0 where
   pub side : side_in t ≡ own_side s.end
   pub log : t.log ≡ s.numbers.log
@@ -112,8 +124,9 @@ pub record ReaderMatches (s : DerivedState) (t : RecordReader) : Type 0 where
 abbrev pub reader_of_part : List Part → ℕ → RecordReader
 reader_of_part parts p = reader_of_lines (lines_by parts p)
 
--- Of two honest peers: the sessions of each that reached RUN carry sessions of the other's by their numbers, which rise; in each it delivered a beginning of what
--- the other accepted in the session that it carries; and neither refused anything
+-- Of two honest peers: the sessions of each that reached RUN carry sessions of the other's by their
+-- numbers, which rise. In each session the peer delivered a beginning of what the other accepted in
+-- the session that it carries. Neither refused anything
 pub record ArePaired (parts : List Part) : Type 0 where
   pub deliver : (p : ℕ) → p < 2 → DeliversInOrder (side_in (reader_of_part parts p)) (side_in (reader_of_part parts (1 - p))) (reader_of_part parts p).log
       (reader_of_part parts (1 - p)).log
@@ -123,7 +136,8 @@ pub record ArePaired (parts : List Part) : Type 0 where
 abbrev pub CarryNone : World → List Part → Type 0
 CarryNone world parts = (p : ℕ) → p < 2 → is_link world p ≡ true → is_link world (1 - p) ≡ false → CarriesNone (reader_of_part parts p).log
 
--- where a peer that asked for a doorbell last asked at a frame, and wrote no event since, the other's offer of that frame didn't end without one
+-- where a peer that asked for a doorbell last asked at a frame, and wrote no event since, the
+-- other's offer of that frame didn't end without one
 abbrev pub AreWoken : List Part → Type 0
 AreWoken parts = (p number : ℕ) → p < 2 → (reader_of_part parts p).asked ≡ At number → ¬ Contains (reader_of_part parts (1 - p)).missed number
 
@@ -151,13 +165,15 @@ unfoldable pub bells_in : (intx : Bool) → (p vector : ℕ) → List Part → �
 bells_in intx p vector [] = 0
 bells_in intx p vector (part ∷ parts) = how_many (is_bell intx p vector) part.lines + bells_in intx p vector parts
 
--- no interrupt is told that no doorbell brought, and a peer in one-shot mode tells one at most
+-- For each peer and vector: the interrupts in the peer's lines are at most the doorbells in `parts`
+-- that may have brought them. The lines of a peer in one-shot mode have one interrupt at most
 pub record InterruptsMatch (world : World) (parts : List Part) : Type 0 where
   pub rung : (p vector : ℕ) → p < world.geometry.peers → how_many (is_interrupt_by vector) (lines_by parts p) ≤ bells_in (is_intx world.wiring) p vector parts
   pub once : (p : ℕ) → p < world.geometry.peers → is_one_shot (bytes_after (devices_of world) (events_of world.acts) p) ≡ true →
       how_many is_interrupt (lines_by parts p) ≤ 1
 
--- these parts are what a run of the scenario tells, in which the peers did to the words what the pass holds
+-- `parts` is the record of a run of the scenario, in which the peers did to the words what the pass
+-- `h` holds
 pub record IsRunOf (world : World) (h : PassView) (parts : List Part) : Type 0 where
   pub peers : peers_of parts ≡ running_peers world
   pub own : All (λ (part : Part). IsOwnRecord world (actions_of h part.peer) part) parts

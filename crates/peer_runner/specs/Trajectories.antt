@@ -1,4 +1,5 @@
--- The course of an automatic peer, as the code drives it: one turn after another, from its start.
+-- The trajectory of an automatic peer, as the code drives it: one turn after another, from its
+-- start.
 use Rattle.std.specs.Prelude.{ℕ, ◌≡◌, ◌+◌, Bool, true, false, Some, None, List}
 use Rattle.atomic_table.specs.Seated.{TableId}
 use Rattle.call_grammar.specs.Calls.{EndConfig}
@@ -24,23 +25,31 @@ pub record IsNoLook (config : EndConfig) (routes : List Route) (r : Runner) : Ty
   pub left : has_turn_left r.spans ≡ true
   pub first : looks_now (route_to routes config.me) (due_of config r) r.looks ≡ false
 
--- one turn leads it from r to there: a look; a turn at a session word; a step, or a part of its doorbell; or a reset
+-- one turn leads it from r to there: a look; a turn at a session word; a step, or a part of its
+-- doorbell; or a reset
 pub data GoesOn (config : EndConfig) (routes : List Route) (r : Runner) : Runner → Type 0 where
-  by_look : (found : ℕ) → has_turn_left r.spans ≡ true → looks_now (route_to routes config.me) (due_of config r) r.looks ≡ true → GoesOn config routes r (looked_on r found)
-  by_word : (word : SessionWord) (number : ℕ) → IsNoLook config routes r → due_word r.place r.met ≡ Some word → (word ≡ Own → number ≡ r.numbers.log.opened + 1) →
+  by_look : (found : ℕ) → has_turn_left r.spans ≡ true → looks_now (route_to routes config.me) (due_of config r) r.looks ≡ true →
+      GoesOn config routes r (looked_on r found)
+  by_word : (word : SessionWord) (number : ℕ) → IsNoLook config routes r → due_word r.place r.met ≡ Some word →
+      (word ≡ Own → number ≡ r.numbers.log.opened + 1) →
       GoesOn config routes r (met_on word r number)
   by_step : (done : Done) → IsNoLook config routes r → due_word r.place r.met ≡ None → has_finished r ≡ false →
-      IsDone r.ringing (is_guarded (doorbell_path_in routes (access_at config (place_in config r)))) done → HasFrames (place_in config r) → GoesOn config routes r (turned routes config r done)
+      IsDone r.ringing (is_guarded (doorbell_path_in routes (access_at config (place_in config r)))) done →
+      HasFrames (place_in config r) →
+      GoesOn config routes r (turned routes config r done)
   by_reset : IsSpanSpent r.spans → has_finished r ≡ false → GoesOn config routes r (restarted_on r)
 
--- with this plan and these spans the runner comes there, turn by turn; at each an endpoint stands where it is
+-- with this plan and these spans the runner comes there, turn by turn; at each an endpoint stands
+-- where it is
 pub data Trajectory (key : RunSetup) (me : ℕ) (routes : List Route) (plan : Plan) (spans : List ℕ) : Runner → Type 0 where
   starts : Trajectory key me routes plan spans (initial_runner plan.frames plan.expected spans)
-  follows : (r next : Runner) (end : Engine) → Trajectory key me routes plan spans r → RunnerRefines key me routes r end → GoesOn (config_in key me) routes r next →
+  follows : (r next : Runner) (end : Engine) → Trajectory key me routes plan spans r → RunnerRefines key me routes r end →
+      GoesOn (config_in key me) routes r next →
       Trajectory key me routes plan spans next
 
 -- the code's peer, with its pass of these words, is where the runner came
-pub record IsOnTrajectory (id : TableId) (key : RunSetup) (me : ℕ) (routes : List Route) (plan : Plan) (spans : List ℕ) (r : Runner) (pass : PassView) (auto_peer : AutoPeer) : Type 0 where
+pub record IsOnTrajectory (id : TableId) (key : RunSetup) (me : ℕ) (routes : List Route) (plan : Plan) (spans : List ℕ)
+    (r : Runner) (pass : PassView) (auto_peer : AutoPeer) : Type 0 where
   pub comes : Trajectory key me routes plan spans r
   pub of : IsOf id key pass
   pub there : IsThere key me routes r pass auto_peer.end

@@ -20,9 +20,17 @@ use Rattle.peer_runner.specs.DerivedStates.{ObservedAccess, touch, MemoryOp, cal
 use Rattle.peer_runner.specs.Actions.{Action, accessed, looked, cleared}
 use Rattle.peer_runner.specs.DoorbellPaths.{route_to, doorbell_path_to, is_guarded, doorbell_path_in, rung_by}
 
--- A turn: a look, which finds this word; a step with all that it does, which is the first of its call or a later one; of the step of a doorbell at a peer in
--- one-shot mode the clear, which finds this word, and the ring behind it; a store of the session word, and a load of the other's, which finds this number; the
--- State step with 3 of an honest peer, which has opened so many sessions and carries this number; and the reset of the peer
+-- A turn:
+-- * `Looks`: a look, which finds the word `found`;
+-- * `Makes`: a step with all that it does; `first` is whether it is the first of its call;
+-- * `Clears`: the clear of the step of a doorbell at a peer in one-shot mode, which finds the word
+--   `found`;
+-- * `Rings`: the ring of such a step, after the clear;
+-- * `Stores`: a store of `number` in the session word;
+-- * `Loads`: a load of the other's session word, which finds `number`;
+-- * `Enters`: the State step with 3 of an honest peer, which has opened `opened` sessions and
+--   carries the number `other`;
+-- * `Restarts`: the reset of the peer
 pub data Turn : Type 0 where
   Looks : (found : ℕ) → Turn
   Makes : (first : Bool) → (step : Step) → Turn
@@ -33,19 +41,23 @@ pub data Turn : Type 0 where
   Enters : (step : Step) → (opened other : ℕ) → Turn
   Restarts : Turn
 
--- A running peer between two turns: its end, its calls and its driver; how many looks it has taken since its last step, or 64 where one of them found a bit;
--- whether the ring of a doorbell is to come, whose clear found the bit; how many sessions it opened; the number that it stored or loaded for the State step that
--- comes next; and how many turns are left of its span, before those of the spans to come
+-- A running peer between two turns:
+-- * `peer`: its end, its calls and its driver;
+-- * `looks`: the number of looks since its last step, or none if one of them found a bit;
+-- * `ringing`: whether the ring of a doorbell is to come, whose clear found the bit;
+-- * `opened`: the number of sessions that it opened;
+-- * `met`: the number that it stored or loaded for the State step that comes next;
+-- * `spans`: the turns left of its span, before those of the spans to come
 pub record Running : Type 0 where
   pub peer : Peer
-  pub looks : ℕ
+  pub looks : Option ℕ
   pub ringing : Bool
   pub opened : ℕ
   pub met : Option ℕ
   pub spans : List ℕ
 
 abbrev pub comes_to : Peer → List ℕ → Running
-comes_to peer spans = record { peer = peer; looks = 0; ringing = false; opened = 0; met = None; spans = spans }
+comes_to peer spans = record { peer = peer; looks = Some 0; ringing = false; opened = 0; met = None; spans = spans }
 
 -- all turns of a peer with these spans, and with a reset between each two
 abbrev pub all_turns : List ℕ → ℕ
@@ -71,7 +83,8 @@ later (turns ∷ spans) = spans
 
 -- Which turn is to come
 
--- a step is the next one of the open call, else the first one of the call that the automatic peer chooses; or it is the step of the storm
+-- a step is the next one of the open call, else the first one of the call that the automatic peer
+-- chooses; or it is the step of the storm
 abbrev pub TakesStep : EndConfig → (ℕ → Step) → Driver → Peer → Step → Peer → Type 0
 TakesStep config storm (Storms x) peer step after = (step ≡ storm x) × (after ≡ record peer { driver = Storms (storm_after x) })
 TakesStep config storm _ peer step after = (left : CallTree) × Goes (opened config peer).left step left × (after ≡ stepped (opened config peer) step left)
@@ -80,19 +93,28 @@ TakesStep config storm _ peer step after = (left : CallTree) × Goes (opened con
 abbrev pub sleeps : EndConfig → End → Auto → Bool
 sleeps config end auto = is_armed config end && is_empty auto.frames
 
--- one that takes interrupts looks before each choice: once; or, where it sleeps, until a look has found a bit, at most 64 times
+-- one that takes interrupts looks before each choice: once; or, where it sleeps, until a look has
+-- found a bit, at most 64 times
 abbrev pub looks_due : EndConfig → End → CallTree → Driver → ℕ
 looks_due config end Ended (Chooses auto) = if sleeps config end auto then 64 else 1
 looks_due config end _ _ = 0
 
-abbrev pub looks_after : (looks found : ℕ) → ℕ
-looks_after looks found = if found == 0 then looks + 1 else 64
+-- fewer looks than these were taken, and none of them found a bit
+abbrev pub is_below : Option ℕ → ℕ → Bool
+is_below None due = false
+is_below (Some taken) due = nat_lt taken due
+
+abbrev pub looks_after : (looks : Option ℕ) → (found : ℕ) → Option ℕ
+looks_after None found = None
+looks_after (Some taken) found = if found == 0 then Some (taken + 1) else None
 
 abbrev pub looks_next : EndConfig → Route → Running → Bool
-looks_next config own run = own.enabled && nat_lt run.looks (looks_due config run.peer.end run.peer.left run.peer.driver)
+looks_next config own run = own.enabled && is_below run.looks (looks_due config run.peer.end run.peer.left run.peer.driver)
 
--- the next step leads the peer there: no look comes first; and its ring is to come, and its doorbell is at a peer in one-shot mode, or not
-pub record StepsTo (config : EndConfig) (storm : ℕ → Step) (routes : List Route) (run : Running) (ringing guarded : Bool) (step : Step) (after : Peer) : Type 0 where
+-- the next step leads the peer there: no look comes first; and its ring is to come, and its
+-- doorbell is at a peer in one-shot mode, or not
+pub record StepsTo (config : EndConfig) (storm : ℕ → Step) (routes : List Route) (run : Running)
+    (ringing guarded : Bool) (step : Step) (after : Peer) : Type 0 where
   pub first : looks_next config (route_to routes config.me) run ≡ false
   pub rings : run.ringing ≡ ringing
   pub guards : is_guarded (doorbell_path_in routes step.access) ≡ guarded
@@ -110,16 +132,17 @@ opens _ = 0
 
 -- a step with this access leaves the peer so
 abbrev pub steps_on : Running → Access → Peer → Running
-steps_on run a after = record { peer = after; looks = 0; ringing = false; opened = run.opened + opens a; met = None; spans = spent run.spans }
+steps_on run a after = record { peer = after; looks = Some 0; ringing = false; opened = run.opened + opens a; met = None; spans = spent run.spans }
 
 -- where a clear found the bit, the step isn't done, and its ring is to come
 abbrev pub is_set : ℕ → Bool
 is_set found = bit_at found 0 == 1
 
 abbrev pub cleared_to : (found : ℕ) → Running → Access → Peer → Running
-cleared_to found run a after = if is_set found then record run { looks = 0; ringing = true; spans = spent run.spans } else steps_on run a after
+cleared_to found run a after = if is_set found then record run { looks = Some 0; ringing = true; spans = spent run.spans } else steps_on run a after
 
--- A reset drops the open call, and the ring of a doorbell that is to come: a storm goes on with its next step
+-- A reset drops the open call, and the ring of a doorbell that is to come: a storm goes on with its
+-- next step
 abbrev pub skipped : (ringing : Bool) → Driver → Driver
 skipped true (Storms x) = Storms (storm_after x)
 skipped _ driver = driver
@@ -127,7 +150,7 @@ skipped _ driver = driver
 abbrev pub restarts_to : Running → Running
 restarts_to run = record {
   peer = was_reset (record (run.peer) { driver = skipped run.ringing run.peer.driver });
-  looks = 0;
+  looks = Some 0;
   ringing = false;
   opened = run.opened;
   met = None;
@@ -156,9 +179,10 @@ pub record ComesToSet (config : EndConfig) (storm : ℕ → Step) (routes : List
   pub step_is : StepsTo config storm routes run false false step after
   pub sets_it : sets state run.peer.driver step.access ≡ true
 
--- A look, a step and each part of a doorbell are turns of the span. A peer that chooses its calls stores the number of the session that it opens right before
--- its State step with 2, and loads the other's number right before its State step with 3, which bears both numbers. Where the turns of a span are taken and
--- another span follows, the peer is reset, unless it is finished
+-- A look, a step and each part of a doorbell are turns of the span. A peer that chooses its calls
+-- stores the number of the session that it opens right before its State step with 2, and loads the
+-- other's number right before its State step with 3, which bears both numbers. Where the turns of a
+-- span are taken and another span follows, the peer is reset, unless it is finished
 abbrev pub TakesTurn : EndConfig → (ℕ → Step) → List Route → Running → Turn → Running → Type 0
 TakesTurn config storm routes run (Looks found) after = (has_turn_left run.spans ≡ true) × (looks_next config (route_to routes config.me) run ≡ true) ×
     (after ≡ record run { looks = looks_after run.looks found; spans = spent run.spans })
@@ -179,7 +203,8 @@ TakesTurn config storm routes run Restarts after = IsSpanSpent run.spans × (is_
 
 unfoldable pub TakesTurns : EndConfig → (ℕ → Step) → List Route → Running → List Turn → Running → Type 0
 TakesTurns config storm routes run [] after = after ≡ run
-TakesTurns config storm routes run (turn ∷ turns) after = (mid : Running) × TakesTurn config storm routes run turn mid × TakesTurns config storm routes mid turns after
+TakesTurns config storm routes run (turn ∷ turns) after = (mid : Running) × TakesTurn config storm routes run turn mid ×
+    TakesTurns config storm routes mid turns after
 
 -- What a turn does to the words
 
@@ -208,9 +233,9 @@ acted_in routes Restarts = accessed restarted ∷ []
 unfoldable pub actions_in : List Route → List Turn → List (Action (MemoryOp ObservedAccess))
 actions_in routes turns = flat_map (acted_in routes) turns
 
--- What is told of it
+-- The lines of a turn
 
--- a look tells the bits below n that it found
+-- the lines of a look: an interrupt for each bit below n that it found
 abbrev pub interrupt_line : ℕ → ℕ → ℕ → List Line
 interrupt_line me bit found = if bit_at found bit == 0 then [] else line.Interrupt me bit ∷ []
 
@@ -218,8 +243,10 @@ unfoldable pub interrupt_lines : ℕ → ℕ → ℕ → List Line
 interrupt_lines zero me found = []
 interrupt_lines (suc n) me found = interrupt_lines n me found ++ interrupt_line me n found
 
--- a call is quiet that finds nothing, all in one step, a read: a Tick that ends without a State step, a Poll that finds no frame and asks for no doorbell, an
--- Offer that reclaims none and meets a full ring
+-- A call is quiet if it finds nothing, all in one step, a read. Quiet calls are:
+-- * a Tick that ends without a State step;
+-- * a Poll that finds no frame and asks for no doorbell;
+-- * an Offer that reclaims none and meets a full ring
 abbrev pub finds_nothing : List Mark → Bool
 finds_nothing (Saw value ∷ Over ∷ []) = true
 finds_nothing (Look zero ∷ Done ∷ []) = true
@@ -230,11 +257,12 @@ abbrev pub is_quiet : (first : Bool) → Access → List Mark → Bool
 is_quiet first (access.Read word) marks = first && finds_nothing marks
 is_quiet first other marks = false
 
--- a step is told by its access and its marks, unless its call is quiet
+-- the lines of a step are those of its access and of its marks; there are none if its call is quiet
 abbrev pub lines_of : ℕ → (first : Bool) → Access → ℕ → List Mark → List Line
 lines_of p first a value marks = if is_quiet first a marks then [] else access_lines p a value ++ map (mark_line p) marks
 
--- the doorbell's line stands at its clear, and the marks of the step at the end of it
+-- the doorbell's line is recorded at its clear, and the marks of the step at the end of the
+-- doorbell
 abbrev pub marks_of : Turn → List Mark
 marks_of (Makes first step) = step.marks
 marks_of (Clears step found) = if is_set found then [] else step.marks
@@ -242,7 +270,7 @@ marks_of (Rings step) = step.marks
 marks_of (Enters step opened other) = step.marks
 marks_of _ = []
 
--- a session's numbers stand behind the State step with 3
+-- the lines of a turn: a session's numbers are in the line after the State step with 3
 abbrev pub lines_in : ℕ → Turn → List Line
 lines_in p (Looks found) = interrupt_lines 64 p found
 lines_in p (Makes first step) = lines_of p first step.access step.value step.marks

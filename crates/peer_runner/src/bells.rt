@@ -1,9 +1,9 @@
-//! Doorbells, as turns make them.
-ghost use Rattle.std.specs.Prelude.{◌≡◌, ◌<◌, true, None, length};
+//! The parts of a doorbell that one turn makes.
+ghost use Rattle.std.specs.Prelude.{◌≡◌, true, None};
 ghost use Rattle.split_ring.specs.declared.steps.Access.{Access};
 ghost use Rattle.peer_runner.specs.DoorbellPaths.{AreRoutes, doorbell_path_to, is_guarded};
 ghost use Rattle.peer_runner.specs.Rules.{front};
-ghost use Rattle.peer_runner.specs.Passes.{IsOf};
+ghost use Rattle.peer_runner.specs.Passes.{IsFilled};
 ghost use Rattle.peer_runner.specs.Runners.{MayRingBy, IsDone, value_done, awaits_ring, done_of, made};
 
 use crate::doorbell_paths::{Done, DoorbellPath, doorbell_path_to};
@@ -11,7 +11,8 @@ use crate::interrupts::{clear, ring};
 use crate::words::{Pass, Words};
 use doorbell_irq::Route;
 
-/// Rings the target, or begins to: what one turn does of a doorbell, where `ringing` says that its clear is done and found the bit.
+/// Makes the part of a doorbell that one turn makes, and returns it. `ringing` says whether its
+/// clear is done and found the bit.
 pub fn ring_turn(
     words: &Words,
     pass: &mut Pass,
@@ -20,7 +21,7 @@ pub fn ring_turn(
     vector: u32,
     ringing: bool,
 ) -> Done
-    requires of { IsOf words.now.shared.table_id words.now.shared.key pass.old × (0 < length pass.old.lists) }
+    requires of { IsFilled words.now.shared.table_id words.now.shared.key pass.old }
     requires routes { AreRoutes words.now.shared.key routes.now }
     requires may { ringing ≡ true → MayRingBy routes.now (Access.Ring target vector) (front pass.old.lists) }
     ensures done { IsDone ringing (is_guarded (doorbell_path_to routes.now target vector)) result }

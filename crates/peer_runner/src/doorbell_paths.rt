@@ -1,4 +1,4 @@
-//! How the doorbells of running peers go, and what is done of a step in one turn.
+//! The paths of running peers' doorbells, and what one turn does of a step.
 ghost use Rattle.std.specs.Prelude.{◌≡◌};
 ghost use Rattle.doorbell_irq.specs.Routes.{bit_for, bit_rung};
 ghost use Rattle.peer_runner.specs.DoorbellPaths.{doorbell_path_to, route_to};
@@ -7,31 +7,31 @@ ghost use Rattle.peer_runner.specs.Runners.{value_done, awaits_ring};
 
 use doorbell_irq::Route;
 
-/// How a doorbell goes.
+/// The path of a doorbell.
 #[derive(Clone, Copy, Debug, PartialEq, Eq)]
 pub enum DoorbellPath {
-    /// It touches no word, since no interrupt would come.
+    /// The doorbell touches no word: it causes no interrupt.
     Silent,
-    /// It sets this bit of the target's interrupt word.
+    /// The doorbell sets this bit of the target's interrupt word.
     Direct(u32),
-    /// The target is in one-shot mode. The doorbell clears the target's Interrupt Control, and sets this bit of its interrupt word only
-    /// where the clear found Interrupt Control set.
+    /// The target is in one-shot mode. The doorbell clears the target's Interrupt Control. If the
+    /// clear found it set, the doorbell sets this bit of the target's interrupt word.
     Guarded(u32),
 }
 
-/// What is done of a step in one turn.
+/// What one turn does of a step.
 #[derive(Clone, Copy, Debug, PartialEq, Eq)]
 pub enum Done {
-    /// All of it. A read gave this value, else it is 0.
+    /// The whole step. The value is what a read gave, else 0.
     Stepped(u32),
-    /// The clear of a doorbell at a peer in one-shot mode, which found this word.
+    /// The clear of a doorbell at a peer in one-shot mode. The clear found this word.
     Cleared(u64),
     /// The ring of such a doorbell.
     Rung,
 }
 
 impl Done {
-    /// What a read gave, else 0.
+    /// The value that a read gave, else 0.
     pub fn value(self) -> u32
         ensures { result ≡ value_done self }
     {
@@ -41,7 +41,8 @@ impl Done {
         }
     }
 
-    /// Whether it was a clear that found the bit: the ring is to come, and with it the end of the step.
+    /// Whether this is a clear that found the bit set. Then the ring is to come, which ends the
+    /// step.
     pub fn awaits_ring(self) -> bool
         ensures { result ≡ awaits_ring self }
     {
@@ -59,14 +60,14 @@ fn is_set(found: u64) -> bool
     found % 2 == 1
 }
 
-/// The bit that stands for a vector.
+/// The bit of the interrupt word for a vector.
 fn bit_for(route: &Route, vector: u32) -> u32
     ensures { result ≡ bit_for route.now vector }
 {
     if route.intx { 0 } else { vector }
 }
 
-/// The bit that a doorbell with this vector sets at the end of a route, if an interrupt comes.
+/// The bit that a doorbell with this vector sets at the end of a route, if it causes an interrupt.
 fn bit_rung(route: &Route, vector: u32) -> Option<u32>
     ensures { result ≡ bit_rung route.now vector }
 {
@@ -83,7 +84,8 @@ fn bit_rung(route: &Route, vector: u32) -> Option<u32>
     Some(bit)
 }
 
-/// How a doorbell at the target goes. No interrupt comes to a peer that isn't there.
+/// The path of a doorbell at the target. A doorbell at a peer that doesn't exist causes no
+/// interrupt.
 pub fn doorbell_path_to(routes: &[Route], target: u32, vector: u32) -> DoorbellPath
     ensures { result ≡ doorbell_path_to routes.now target vector }
 {
@@ -95,7 +97,7 @@ pub fn doorbell_path_to(routes: &[Route], target: u32, vector: u32) -> DoorbellP
     }
 }
 
-/// The route to a peer: no interrupt comes to one that isn't there.
+/// The route to a peer. The route to a peer that doesn't exist is disabled.
 pub fn route_to(routes: &[Route], peer: u32) -> Route
     ensures { result ≡ route_to routes.now peer }
 {

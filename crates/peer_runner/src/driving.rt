@@ -1,23 +1,21 @@
 //! What each thread calls: the turns of one peer.
-ghost use Rattle.std.specs.Prelude.{ℕ, ◌≡◌, ◌∷◌, ◌++◌, ◌<◌, ◌^◌, [], None, List, length, not, true, false, if◌then◌else◌, IfOk, OnOk};
-ghost use Rattle.lawful_history.specs.declared.line.Line.{Line};
+ghost use Rattle.std.specs.Prelude.{ℕ, ◌≡◌, ◌∷◌, ◌++◌, ◌<◌, ◌^◌, [], Some, None, List, length, true, false, if◌then◌else◌, OnOk};
 ghost use Rattle.lawful_history.specs.declared.line.Line.TheVariants as line;
 ghost use Rattle.lawful_history.specs.Storm.{storm_after};
 ghost use Rattle.link_endpoint.specs.Plan.{Plan};
-ghost use Rattle.doorbell_irq.specs.declared.route.Route.{Route as RouteTo};
-ghost use Rattle.record_text.specs.OwnLines.{AreOwn};
-ghost use Rattle.record_text.specs.OwnParts.{part_of};
 ghost use Rattle.step_lines.specs.Storms.{IsStormOf};
 ghost use Rattle.peer_runner.specs.RunSetups.{world_in, honest_of};
-ghost use Rattle.peer_runner.specs.Actions.{Action, accessed};
-ghost use Rattle.peer_runner.specs.DerivedStates.{CallAccess, MemoryOp, restarted};
-ghost use Rattle.peer_runner.specs.Turns.{all_turns, has_turn_left, spent, later, IsSpanSpent, lines_of_turns};
-ghost use Rattle.peer_runner.specs.Passes.{IsOf, added, held};
+ghost use Rattle.peer_runner.specs.Actions.{accessed};
+ghost use Rattle.peer_runner.specs.DerivedStates.{restarted};
+ghost use Rattle.peer_runner.specs.Turns.{all_turns, has_turn_left, IsSpanSpent};
+ghost use Rattle.peer_runner.specs.Passes.{IsOf, IsFirstIn, added};
 ghost use Rattle.peer_runner.specs.DoorbellPaths.{AreRoutes};
 ghost use Rattle.peer_runner.specs.Runners.{Runner, has_finished};
-ghost use Rattle.peer_runner.specs.Trajectories.{IsOnTrajectory, WentTo};
-ghost use Rattle.peer_runner.specs.Drives.{MayBeAuto, MayDrive, starting, storming, automatic, Drove};
+ghost use Rattle.peer_runner.specs.Contexts.{setup_of, IsHonest, HasRoutes, IsSeated, IsOn, Records, IsBeforeTurn, TookTurn, WasReset};
+ghost use Rattle.peer_runner.specs.Contexts.{IsBeforeSpan, TookSpan};
+ghost use Rattle.peer_runner.specs.Drives.{MayBeAuto, MayDrive, starting, storming, automatic, DroveBy};
 
+use crate::context::PeerContext;
 use crate::doorbell_paths::route_to;
 use crate::gate::Gate;
 use crate::sessions::reset;
@@ -40,7 +38,7 @@ use split_ring::Queue;
 use std::alloc::Global;
 use step_lines::Storm;
 
-/// Who chooses the steps of a running peer.
+/// The driver of a running peer, which chooses its steps.
 #[derive(Debug, Drop)]
 pub enum Driver {
     /// The rule of the automatic peer, at an end of the link.
@@ -53,47 +51,48 @@ pub enum Driver {
     },
 }
 
-/// A running peer: its number, how many turns it has at most before each reset and after the last, what drives it, and how its doorbells
-/// go.
+/// A running peer: its number, its most turns before each reset and after the last one, what drives
+/// it, and the routes of its doorbells.
 #[derive(Debug, Drop)]
 pub struct PeerPlan {
     /// The peer.
     pub peer: u32,
-    /// The most turns that it takes, span by span. Between two spans the peer is reset, which is a turn of its own.
+    /// The most turns that the peer takes, span by span. Between two spans the peer is reset: each
+    /// reset is one more turn.
     pub spans: Spans,
-    /// Who chooses its steps.
+    /// The driver, which chooses the peer's steps.
     pub driver: Driver,
     /// How doorbells reach each peer, by its number.
     pub routes: ArrayVec<Route, 8>,
 }
 
-/// One turn of an automatic peer, or false where it is finished. After NoMemory it was taken.
+/// Takes one turn of an automatic peer, the turn with this number, and returns true. Returns false
+/// if the peer is finished: then no turn is taken. After NoMemory the turn was taken.
 fn auto_turn<G: Gate>(
-    alloc: Global,
-    words: &Words,
+    context: &PeerContext<'_>,
     pass: &mut Pass,
-    me: u32,
-    routes: &[Route],
     turn: u64,
     peer: &mut AutoPeer,
     gate: &G,
     lines: &mut Lines,
 ) -> Result<bool, NoMemory>
-    requires honest { (me < 2) × (honest_of words.now.shared.key me ≡ true) }
-    requires routes { AreRoutes words.now.shared.key routes.now }
-    requires course { (plan : Plan) × (spans : List ℕ) × (r : Runner) × (all_turns spans < 2 ^ 32) × IsOnTrajectory words.now.shared.table_id words.now.shared.key me routes.now plan spans r pass.old peer.old × (has_turn_left r.spans ≡ true) }
-    ensures course { (plan : Plan) (spans : List ℕ) (r : Runner) → IsOnTrajectory words.now.shared.table_id words.now.shared.key me routes.now plan spans r pass.old peer.old → has_turn_left r.spans ≡ true → lines.old ≡ lines_of_turns me r.turns →
-        (next : Runner) × IsOnTrajectory words.now.shared.table_id words.now.shared.key me routes.now plan spans next pass.new peer.new × IfOk result (λ went. (lines.new ≡ lines_of_turns me next.turns) × WentTo (spent r.spans) r next went) }
+    requires honest { IsHonest context.now }
+    requires routes { HasRoutes context.now }
+    requires course { IsBeforeTurn context.now pass.old peer.old }
+    ensures course { (plan : Plan) (spans : List ℕ) (r : Runner) → IsOn context.now plan spans r pass.old peer.old →
+        has_turn_left r.spans ≡ true → Records context.now r lines.old →
+        TookTurn context.now plan spans r pass.new peer.new lines.new result }
 {
+    let me = context.me;
     let due = looks_due(&peer.auto, &peer.end);
-    if is_look_next(route_to(routes, me), due, peer.looks) {
+    if is_look_next(route_to(context.routes, me), due, peer.looks) {
         gate.pass(me, turn);
-        look_turn(words, pass, routes.len() as u32, me, &mut peer.looks, lines)?;
+        look_turn(context, pass, &mut peer.looks, lines)?;
         return Ok(true);
     }
     if let Some(word) = word_due(&peer.end, peer.met) {
         gate.pass(me, turn);
-        peer.met = Some(exchange_session_number(words, pass, me, peer.opened, word));
+        peer.met = Some(exchange_session_number(context, pass, peer.opened, word));
         return Ok(true);
     }
     let choice = choose(&mut peer.auto, &peer.end);
@@ -101,32 +100,31 @@ fn auto_turn<G: Gate>(
         return Ok(false);
     }
     gate.pass(me, turn);
-    take_turn(alloc, words, pass, me, routes, peer, choice, lines)?;
+    take_turn(context, pass, peer, choice, lines)?;
     Ok(true)
 }
 
-/// The turns of one span, or fewer where the peer is finished. `turns` counts all turns of the peer.
+/// Takes the turns of one span, or fewer if the peer is finished. `turns` counts all turns of the
+/// peer.
 fn auto_span<G: Gate>(
-    alloc: Global,
-    words: &Words,
+    context: &PeerContext<'_>,
     pass: &mut Pass,
-    me: u32,
-    routes: &[Route],
     span: u64,
     turns: &mut u64,
     peer: &mut AutoPeer,
     gate: &G,
     lines: &mut Lines,
 ) -> Result<(), NoMemory>
-    requires honest { (me < 2) × (honest_of words.now.shared.key me ≡ true) }
-    requires routes { AreRoutes words.now.shared.key routes.now }
-    requires course { (plan : Plan) × (spans : List ℕ) × (r : Runner) × (rest : List ℕ) × (all_turns spans < 2 ^ 32) × IsOnTrajectory words.now.shared.table_id words.now.shared.key me routes.now plan spans r pass.old peer.old × (r.spans ≡ span ∷ rest) × (turns.old ≡ length r.turns) × (lines.old ≡ lines_of_turns me r.turns) }
-    ensures course { (plan : Plan) (spans : List ℕ) (r : Runner) (rest : List ℕ) → IsOnTrajectory words.now.shared.table_id words.now.shared.key me routes.now plan spans r pass.old peer.old → r.spans ≡ span ∷ rest → turns.old ≡ length r.turns → lines.old ≡ lines_of_turns me r.turns →
-        (next : Runner) × IsOnTrajectory words.now.shared.table_id words.now.shared.key me routes.now plan spans next pass.new peer.new × IfOk result (λ _. (lines.new ≡ lines_of_turns me next.turns) × (turns.new ≡ length next.turns) × (has_finished next ≡ false → next.spans ≡ 0 ∷ rest)) }
+    requires honest { IsHonest context.now }
+    requires routes { HasRoutes context.now }
+    requires course { IsBeforeSpan context.now span pass.old peer.old turns.old lines.old }
+    ensures course { (plan : Plan) (spans : List ℕ) (r : Runner) (rest : List ℕ) →
+        IsOn context.now plan spans r pass.old peer.old → r.spans ≡ span ∷ rest → turns.old ≡ length r.turns →
+        Records context.now r lines.old → TookSpan context.now plan spans rest pass.new peer.new turns.new lines.new result }
 {
     for _taken in 0..span {
         let turn = *turns + 1;
-        if !auto_turn(alloc, words, pass, me, routes, turn, peer, gate, lines)? {
+        if !auto_turn(context, pass, turn, peer, gate, lines)? {
             return Ok(());
         }
         *turns = turn;
@@ -134,81 +132,82 @@ fn auto_span<G: Gate>(
     Ok(())
 }
 
-/// The reset of an automatic peer, after which no call is open and no ring of a doorbell is to come; or false where it is finished: then it
+/// Resets an automatic peer, by the turn with this number, and returns true. After that no call is
+/// open and no ring of a doorbell is to come. Returns false if the peer is finished: then the peer
 /// isn't reset.
 fn auto_restart<G: Gate>(
-    words: &Words,
+    context: &PeerContext<'_>,
     pass: &mut Pass,
-    me: u32,
     turn: u64,
     peer: &mut AutoPeer,
     gate: &G,
     lines: &mut Lines,
 ) -> Result<bool, NoMemory>
-    requires honest { honest_of words.now.shared.key me ≡ true }
-    requires of { IsOf words.now.shared.table_id words.now.shared.key pass.old × (pass.old.from ≡ me) × (0 < length pass.old.lists) }
-    ensures course { (routes : List RouteTo) (plan : Plan) (spans : List ℕ) (r : Runner) → IsOnTrajectory words.now.shared.table_id words.now.shared.key me routes plan spans r pass.old peer.old → (has_finished r ≡ false → IsSpanSpent r.spans) → lines.old ≡ lines_of_turns me r.turns →
-        (next : Runner) × IsOnTrajectory words.now.shared.table_id words.now.shared.key me routes plan spans next pass.new peer.new × IfOk result (λ went. (lines.new ≡ lines_of_turns me next.turns) × WentTo (later r.spans) r next went × (has_finished r ≡ not went)) }
+    requires honest { honest_of (setup_of context.now) context.now.me ≡ true }
+    requires of { IsSeated context.now pass.old }
+    ensures course { (plan : Plan) (spans : List ℕ) (r : Runner) → IsOn context.now plan spans r pass.old peer.old →
+        (has_finished r ≡ false → IsSpanSpent r.spans) → Records context.now r lines.old →
+        WasReset context.now plan spans r pass.new peer.new lines.new result }
 {
+    let me = context.me;
     let choice = choose(&mut peer.auto, &peer.end);
     if is_finished(choice) {
         return Ok(false);
     }
     gate.pass(me, turn);
-    reset(words, pass, me);
+    reset(context.words, pass, me);
     peer.auto.cut();
     peer.end.reset();
-    peer.looks = 0;
+    peer.looks = Some(0);
     peer.ringing = false;
     peer.met = None;
     lines.push(Line::Reset { peer: me })?;
     Ok(true)
 }
 
-/// An automatic peer runs for its spans, or until it is finished.
+/// Runs an automatic peer for its spans, or until it is finished.
 fn drive_auto<G: Gate>(
-    alloc: Global,
-    words: &Words,
+    context: &PeerContext<'_>,
     pass: &mut Pass,
-    me: u32,
     spans: &[u64],
     mut peer: AutoPeer,
-    routes: &[Route],
     gate: &G,
 ) -> Result<OwnTrace, NoMemory>
-    requires of { IsOf words.now.shared.table_id words.now.shared.key pass.old }
-    requires alone { (pass.old.from ≡ me) × (pass.old.lists ≡ [] ∷ []) }
-    requires drives { MayBeAuto words.now.shared.key me peer.auto peer.end }
-    requires fresh { (peer.looks ≡ 0) × (peer.ringing ≡ false) × (peer.opened ≡ 0) × (peer.met ≡ None) }
+    requires of { IsOf context.now.words.now.shared.table_id (setup_of context.now) pass.old }
+    requires alone { (pass.old.from ≡ context.now.me) × (pass.old.lists ≡ [] ∷ []) }
+    requires drives { MayBeAuto (setup_of context.now) context.now.me peer.auto peer.end }
+    requires fresh { (peer.looks ≡ Some 0) × (peer.ringing ≡ false) × (peer.opened ≡ 0) × (peer.met ≡ None) }
     requires few { all_turns spans.now < 2 ^ 32 }
-    requires routes { AreRoutes words.now.shared.key routes.now }
-    ensures { (list : List (Action (MemoryOp CallAccess))) × (pass.new ≡ held pass.old.table_id me (list ∷ [])) × Drove words.now.shared.key routes.now me spans.now (automatic peer.auto) list result }
+    requires routes { HasRoutes context.now }
+    ensures { DroveBy (setup_of context.now) context.now.routes.now context.now.me spans.now (automatic peer.auto)
+        pass.old pass.new result }
 {
     places_follow_trees();
-    let mut lines = Lines::new(alloc);
+    let mut lines = Lines::new(context.alloc);
     let mut turns = 0;
     for (k, span) in spans.iter().enumerate() {
         if k > 0 {
             let turn = turns + 1;
-            if !auto_restart(words, pass, me, turn, &mut peer, gate, &mut lines)? {
+            if !auto_restart(context, pass, turn, &mut peer, gate, &mut lines)? {
                 break;
             }
             turns = turn;
         }
         auto_span(
-            alloc, words, pass, me, routes, *span, &mut turns, &mut peer, gate, &mut lines,
+            context, pass, *span, &mut turns, &mut peer, gate, &mut lines,
         )?;
     }
     let choice = choose(&mut peer.auto, &peer.end);
     Ok(OwnTrace {
-        peer: me,
+        peer: context.me,
         lines,
         turns,
         finished: is_finished(choice),
     })
 }
 
-/// The reset of a storm: it drops the ring of a doorbell that is to come, and the storm goes on with its next step.
+/// Resets a storm. The reset drops the ring of a doorbell that is to come: then the storm continues
+/// with its next step.
 fn storm_restart(
     words: &Words,
     pass: &mut Pass,
@@ -216,7 +215,7 @@ fn storm_restart(
     ringing: &mut bool,
     lines: &mut Lines,
 ) -> Result<(), NoMemory>
-    requires of { IsOf words.now.shared.table_id words.now.shared.key pass.old × (pass.old.from ≡ storm.old.peer) × (0 < length pass.old.lists) }
+    requires of { IsFirstIn words.now.shared.table_id words.now.shared.key storm.old.peer pass.old }
     requires storm { IsStormOf (world_in words.now.shared.key) storm.old }
     ensures pass { pass.new ≡ added pass.old (accessed restarted) }
     ensures storm { storm.new ≡ record storm.old { at = if ringing.old then storm_after storm.old.at else storm.old.at } }
@@ -231,7 +230,7 @@ fn storm_restart(
     lines.push(Line::Reset { peer: storm.peer })
 }
 
-/// A storm takes all turns of its spans.
+/// Takes all turns of a storm's spans.
 fn drive_storm<G: Gate>(
     alloc: Global,
     words: &Words,
@@ -247,7 +246,7 @@ fn drive_storm<G: Gate>(
     requires storm { IsStormOf (world_in words.now.shared.key) storm }
     requires few { all_turns spans.now < 2 ^ 32 }
     requires routes { AreRoutes words.now.shared.key routes.now }
-    ensures { (list : List (Action (MemoryOp CallAccess))) × (pass.new ≡ held pass.old.table_id storm.peer (list ∷ [])) × Drove words.now.shared.key routes.now storm.peer spans.now (storming storm.at) list result }
+    ensures { DroveBy words.now.shared.key routes.now storm.peer spans.now (storming storm.at) pass.old pass.new result }
 {
     let mut lines = Lines::new(alloc);
     let mut turns = 0;
@@ -272,7 +271,7 @@ fn drive_storm<G: Gate>(
     })
 }
 
-/// The turns of a plan's peer, by whatever drives it.
+/// Takes the turns of the plan's peer, by what the plan says of its driver.
 fn drive_plan<G: Gate>(
     alloc: Global,
     words: &Words,
@@ -285,7 +284,7 @@ fn drive_plan<G: Gate>(
     requires drives { MayDrive words.now.shared.key plan.peer plan.driver }
     requires few { all_turns plan.spans < 2 ^ 32 }
     requires routes { AreRoutes words.now.shared.key plan.routes.items }
-    ensures { (list : List (Action (MemoryOp CallAccess))) × (pass.new ≡ held pass.old.table_id plan.peer (list ∷ [])) × Drove words.now.shared.key plan.routes.items plan.peer plan.spans (starting plan.driver) list result }
+    ensures { DroveBy words.now.shared.key plan.routes.items plan.peer plan.spans (starting plan.driver) pass.old pass.new result }
 {
     let PeerPlan {
         peer,
@@ -300,12 +299,18 @@ fn drive_plan<G: Gate>(
             let auto_peer = AutoPeer {
                 auto,
                 end,
-                looks: 0,
+                looks: Some(0),
                 ringing: false,
                 opened: 0,
                 met: None,
             };
-            drive_auto(alloc, words, pass, peer, spans, auto_peer, routes, gate)
+            let context = PeerContext {
+                alloc,
+                words,
+                me: peer,
+                routes,
+            };
+            drive_auto(&context, pass, spans, auto_peer, gate)
         }
         Driver::Storm {
             seed,
@@ -323,11 +328,19 @@ fn drive_plan<G: Gate>(
     }
 }
 
-/// The peer of a plan takes the turns of its spans, and waits for nobody; between two spans it is reset. The pass is of the words, has
-/// this peer alone, and its list is empty; the driver is at its start; the routes are those with which the words were made. The answer
-/// is the peer's own trace, without its quiet calls: it has taken all its turns, or is finished.
+/// Takes the turns of a plan's peer, and waits for no other peer. Between two spans the peer is
+/// reset.
 ///
-/// NoMemory says that memory ran out. Then the pass has what was done so far. The gate's `ended` is called once in either case.
+/// Requires that the pass is of the words and has this peer alone, with an empty list; that the
+/// driver is at its start; and that the routes are those with which the words were made. Returns
+/// the peer's own trace, without its quiet calls, once all turns are taken or the peer is finished.
+///
+/// Returns `NoMemory` if an allocation fails. Then the pass has the actions so far. The gate's
+/// `ended` is called once in either case.
+// claim: A driven peer adds exactly its actions to its pass. Its trace is its own record: the lines
+//    and marks of its calls as the automatic rule chooses them, or of its storm, its turns, and
+//    whether it is finished. Doorbells follow their target's route, sessions are numbered at States
+//    2 and 3, and a span ends with a reset if another follows.
 pub fn drive<G: Gate>(
     alloc: Global,
     words: &Words,
@@ -340,7 +353,7 @@ pub fn drive<G: Gate>(
     requires drives { MayDrive words.now.shared.key plan.peer plan.driver }
     requires few { all_turns plan.spans < 2 ^ 32 }
     requires routes { AreRoutes words.now.shared.key plan.routes.items }
-    ensures { (list : List (Action (MemoryOp CallAccess))) × (pass.new ≡ held pass.old.table_id plan.peer (list ∷ [])) × Drove words.now.shared.key plan.routes.items plan.peer plan.spans (starting plan.driver) list result }
+    ensures { DroveBy words.now.shared.key plan.routes.items plan.peer plan.spans (starting plan.driver) pass.old pass.new result }
 {
     let peer = plan.peer;
     let trace = drive_plan(alloc, words, pass, plan, gate);

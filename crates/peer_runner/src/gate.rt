@@ -1,11 +1,11 @@
-//! What is called before each turn of a running peer.
+//! The calls that a running peer makes before its turns and after the last one.
 
-/// What a running peer calls as it goes on. Its methods may be called from several threads at once, and return.
+/// What a running peer calls. Several threads may call its methods at once, and each call returns.
 pub trait Gate {
-    /// Called before each turn of a peer, with the number of the turn, from 1.
+    /// The call before each turn of a peer, with the number of the turn, from 1.
     fn pass(&self, peer: u32, turn: u64);
 
-    /// Called once for each peer that is driven, after its last turn, also where memory ran out.
+    /// The one call after the last turn of each peer that is driven, also after `NoMemory`.
     fn ended(&self, peer: u32);
 }
 

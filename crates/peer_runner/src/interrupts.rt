@@ -1,10 +1,11 @@
-//! Single actions on the words behind the region: rings, looks and clears. `peers` is the number of all peers.
-ghost use Rattle.std.specs.Prelude.{◌≡◌, ◌<◌, ◌≤◌, ◌+◌, ◌*◌, length};
+//! Single actions on the words after those of the region: rings, looks and clears. `peers` is the
+//! number of all peers.
+ghost use Rattle.std.specs.Prelude.{◌≡◌, ◌<◌, ◌≤◌, ◌+◌, ◌*◌};
 ghost use Rattle.std.specs.Int.{bit_at};
 ghost use Rattle.peer_runner.specs.Actions.{rang, looked, cleared};
 ghost use Rattle.peer_runner.specs.Interrupts.{IsOneShot, MayRing};
 ghost use Rattle.peer_runner.specs.Rules.{LearnsExactly, rings_at, clears, front};
-ghost use Rattle.peer_runner.specs.Passes.{IsOf, added};
+ghost use Rattle.peer_runner.specs.Passes.{IsFilled, added};
 
 use crate::rule::Looks;
 use crate::view::View;
@@ -12,8 +13,8 @@ use crate::words::{Pass, Words};
 use atomic_table::Play;
 use std::marker::Brand;
 
-/// Where the interrupt word of a peer stands: behind the words of the region, and before the word of the peer's Interrupt Control. The
-/// two session words are the last of all.
+/// The index of a peer's interrupt word. The interrupt words follow those of the region; the next
+/// word is the peer's Interrupt Control, and the two session words are the last of all.
 fn interrupt_word(words: &Words, peers: u32, peer: u32) -> usize
     requires { (peer < peers) × (2 * peers + 2 ≤ words.now.shared.table_id.words) }
     ensures { result + 2 * peers + 2 ≡ words.now.shared.table_id.words + 2 * peer }
@@ -21,10 +22,11 @@ fn interrupt_word(words: &Words, peers: u32, peer: u32) -> usize
     words.word_count() - 2 - 2 * (peers as usize) + 2 * (peer as usize)
 }
 
-/// Sets a bit at a play that the caller picks.
+/// `ring`, by a play that the caller picks.
 fn ring_by<M: Play<u8, View>>(words: &Words, pass: &mut Pass, peers: u32, target: u32, bit: u32)
     requires tells { LearnsExactly M.then (rings_at target bit) }
-    requires of { IsOf words.now.shared.table_id words.now.shared.key pass.old × (peers ≡ words.now.shared.key.geometry.peers) × (0 < length pass.old.lists) }
+    requires of { IsFilled words.now.shared.table_id words.now.shared.key pass.old }
+    requires peers { peers ≡ words.now.shared.key.geometry.peers }
     requires target { (target < peers) × (bit < 64) }
     requires may { IsOneShot words.now.shared.key target → MayRing target (front pass.old.lists) }
     ensures { pass.new ≡ added pass.old (rang target bit) }
@@ -35,9 +37,11 @@ fn ring_by<M: Play<u8, View>>(words: &Words, pass: &mut Pass, peers: u32, target
         .fetch_or::<M>(&mut pass.seat, word, 1u64 << bit);
 }
 
-/// Sets a bit of the target's interrupt word. At a one-shot target it stands behind a clear that found its bit set.
+/// Sets a bit of the target's interrupt word. A ring of a target in one-shot mode follows a clear
+/// that found its bit set.
 pub fn ring(words: &Words, pass: &mut Pass, peers: u32, target: u32, bit: u32)
-    requires of { IsOf words.now.shared.table_id words.now.shared.key pass.old × (peers ≡ words.now.shared.key.geometry.peers) × (0 < length pass.old.lists) }
+    requires of { IsFilled words.now.shared.table_id words.now.shared.key pass.old }
+    requires peers { peers ≡ words.now.shared.key.geometry.peers }
     requires target { (target < peers) × (bit < 64) }
     requires may { IsOneShot words.now.shared.key target → MayRing target (front pass.old.lists) }
     ensures { pass.new ≡ added pass.old (rang target bit) }
@@ -45,9 +49,10 @@ pub fn ring(words: &Words, pass: &mut Pass, peers: u32, target: u32, bit: u32)
     ring_by::<Brand>(words, pass, peers, target, bit);
 }
 
-/// Takes the bits of the interrupt word of the pass's first peer, which is 0 then.
+/// Swaps the interrupt word of the pass's first peer with 0, and returns its bits.
 pub fn look(words: &Words, pass: &mut Pass, peers: u32, me: u32) -> u64
-    requires of { IsOf words.now.shared.table_id words.now.shared.key pass.old × (peers ≡ words.now.shared.key.geometry.peers) × (0 < length pass.old.lists) }
+    requires of { IsFilled words.now.shared.table_id words.now.shared.key pass.old }
+    requires peers { peers ≡ words.now.shared.key.geometry.peers }
     requires own { pass.old.from ≡ me }
     ensures { pass.new ≡ added pass.old (looked result) }
 {
@@ -55,10 +60,11 @@ pub fn look(words: &Words, pass: &mut Pass, peers: u32, me: u32) -> u64
     words.shared.swap::<Looks>(&mut pass.seat, word, 0)
 }
 
-/// Clears at a play that the caller picks.
+/// `clear`, by a play that the caller picks.
 fn clear_by<M: Play<u8, View>>(words: &Words, pass: &mut Pass, peers: u32, target: u32) -> u64
     requires tells { LearnsExactly M.then (clears words.now.shared.key target) }
-    requires of { IsOf words.now.shared.table_id words.now.shared.key pass.old × (peers ≡ words.now.shared.key.geometry.peers) × (0 < length pass.old.lists) }
+    requires of { IsFilled words.now.shared.table_id words.now.shared.key pass.old }
+    requires peers { peers ≡ words.now.shared.key.geometry.peers }
     requires target { target < peers }
     ensures list { pass.new ≡ added pass.old (cleared target result) }
     ensures may { IsOneShot words.now.shared.key target → bit_at result 0 ≡ 1 → MayRing target (front pass.new.lists) }
@@ -71,7 +77,8 @@ fn clear_by<M: Play<u8, View>>(words: &Words, pass: &mut Pass, peers: u32, targe
 
 /// Clears bit 0 of the target's Interrupt Control, and returns the word as it was.
 pub fn clear(words: &Words, pass: &mut Pass, peers: u32, target: u32) -> u64
-    requires of { IsOf words.now.shared.table_id words.now.shared.key pass.old × (peers ≡ words.now.shared.key.geometry.peers) × (0 < length pass.old.lists) }
+    requires of { IsFilled words.now.shared.table_id words.now.shared.key pass.old }
+    requires peers { peers ≡ words.now.shared.key.geometry.peers }
     requires target { target < peers }
     ensures list { pass.new ≡ added pass.old (cleared target result) }
     ensures may { IsOneShot words.now.shared.key target → bit_at result 0 ≡ 1 → MayRing target (front pass.new.lists) }

@@ -1,14 +1,27 @@
-//! What the rule says of the words and of the lists of memory operations, between any two accesses of whatever threads (`specs/RunningLaws`). No function here
-//! does anything: each is a law, which its contract states.
-ghost use Rattle.peer_runner.specs.RunningLaws.{WordsAreMade, AllWordsAreMade, StoresAreOwned, InterruptsAreRung, DoorbellsStand, OfEachHonest, OfTwoHonest, AccessesAreCalls, WordsAreWritten, PhasesShow, FlightIsSpelled, OpenOfferStores, ReadValuesAreInRange, NeverRefuses, OtherOpensNone, SessionWordsAreNumbers, HostileSessionsAreNone, SessionsArePaired, WhereEitherAttends, PairKeeps, AskedIsRung, ReadValuesAreAsSent, HostileWordsAreFree};
+//! Laws of the words and of the lists of memory operations, between any two accesses of any threads
+//! (`specs/RunningLaws`). The functions here do nothing: the contract of each one is a law.
+ghost use Rattle.peer_runner.specs.RunningLaws.{WordsAreMade, AllWordsAreMade, StoresAreOwned, InterruptsAreRung, DoorbellsStand};
+ghost use Rattle.peer_runner.specs.RunningLaws.{OfEachHonest, OfTwoHonest, AccessesAreCalls, WordsAreWritten, PhasesShow, FlightIsSpelled};
+ghost use Rattle.peer_runner.specs.RunningLaws.{OpenOfferStores, ReadValuesAreInRange, NeverRefuses, OtherOpensNone, SessionWordsAreNumbers};
+ghost use Rattle.peer_runner.specs.RunningLaws.{HostileSessionsAreNone, SessionsArePaired, WhereEitherAttends, PairKeeps, AskedIsRung};
+ghost use Rattle.peer_runner.specs.RunningLaws.{ReadValuesAreAsSent, HostileWordsAreFree};
 
-/// The words of the region and of the sessions are what the memory operations of all lists made of them, one after another in some order.
+/// The words of the region and of the sessions are what the memory operations of all lists made of
+/// them, one after another in some order.
+// claim with stores_are_owned: At each moment the words of the region and the session words are
+//    what the memory operations of all lists, in some order, made of them. Each store in a list is
+//    to a word that its peer may write.
 pub fn words_are_made()
     ensures { WordsAreMade }
 {}
 
-/// All words of the table are what the actions of all lists made of those at the start, one after another in some order: each ring set its bit, each look found
-/// what stood in the own interrupt word and left 0, and each clear found what stood in Interrupt Control and left it without bit 0.
+/// All words of the table are what the actions of all lists made of the first words, one after
+/// another in some order. Each ring set its bit. Each look found the word of its own peer and left
+/// 0. Each clear found the target's Interrupt Control and left it without bit 0.
+// claim: At each moment all words are what the actions of all lists, in some order, made of those
+//    at the start. A ring set its bit of the target's interrupt word; a look found what stood in
+//    the own one and left 0; a clear found the target's Interrupt Control and left it without bit
+//    0.
 pub fn all_words_are_made()
     ensures { AllWordsAreMade }
 {}
@@ -18,57 +31,92 @@ pub fn stores_are_owned()
     ensures { StoresAreOwned }
 {}
 
-/// No interrupt is found that wasn't rung, Interrupt Control is cleared once for each time that it was set, and a one-shot peer is rung behind a clear alone.
+/// Each interrupt that is found was rung. Interrupt Control is cleared once for each time that it
+/// was set. A peer in one-shot mode is rung only after such a clear.
+// claim: For each peer and each bit of its interrupt word, no more looks found the bit than rings
+//    set it, and one fewer while it is set. Bit 0 of Interrupt Control and the clears that found it
+//    set are as many as at the start. At a one-shot peer each ring follows such a clear of the same
+//    list.
 pub fn interrupts_are_rung()
     ensures { InterruptsAreRung }
 {}
 
-/// A bit that was rung is set until its target finds it, and Interrupt Control that was cleared stays so.
+/// A bit that was rung is set until its target finds it, and Interrupt Control stays clear once it
+/// was cleared.
+// claim: For each peer and each bit of its interrupt word: if a peer rang it, it is set or a look
+//    found it. Bit 0 of Interrupt Control that a peer cleared is not set.
 pub fn doorbells_stand()
     ensures { DoorbellsStand }
 {}
 
 /// Each access in the list of an honest link peer is the next one of its calls.
+// claim: Each access in the list of an honest link peer is the next one of its calls, at the place
+//    where the accesses before it left the peer.
 pub fn accesses_are_calls()
     ensures { OfEachHonest AccessesAreCalls }
 {}
 
-/// Each word of the section of an honest link peer, and its state word, is what its list of memory operations wrote last, or 0; a reset writes 0 in its state word.
+/// Each word of an honest link peer's section, and its state word, is what the peer's list of
+/// memory operations wrote last, or 0. A reset writes 0 in the state word.
+// claim: Each word of an honest link peer's section, and its state word, is what its list wrote
+//    last, or 0, whatever hostile threads store.
 pub fn words_are_written()
     ensures { OfEachHonest WordsAreWritten }
 {}
 
-/// What an honest link peer shows of its phase: nothing is written in RESET, and its section is 0 as far as a tick has cleared it, and in READY.
+/// The words that an honest link peer shows in each phase: it writes nothing in RESET, and its
+/// section is 0 as far as a tick has cleared it, and in READY.
+// claim: In RESET an honest link peer has written no word since its last State. A tick that clears
+//    its section has left 0 in the words before the next one. In READY the section is 0, and
+//    nothing is listed or counted.
 pub fn phases_show()
     ensures { OfEachHonest PhasesShow }
 {}
 
-/// No more frames of an honest link peer are in flight than may be, and its section spells each of them, whatever the other stores.
+/// The frames of an honest link peer in flight are within the limit, and its section spells each of
+/// them, whatever the other peer stores.
+// claim: The frames in flight of an honest link peer are within the limit. In a session its section
+//    spells each of them, whatever the other stores, and a frame is in flight until its id was
+//    read.
 pub fn flight_is_spelled()
     ensures { OfEachHonest FlightIsSpelled }
 {}
 
-/// An open offer has stored in the slot, the descriptor and the entry of its own frame alone, which no frame in flight has.
+/// An open offer has stored only in the slot, the descriptor and the entry of its own frame. No
+/// frame in flight has these.
+// claim: An open offer is of the frame after those accepted. It has stored in the bytes of this
+//    frame, in its descriptor and in its entry alone, and no frame in flight has that descriptor or
+//    any of those bytes.
 pub fn offers_store_apart()
     ensures { OfEachHonest OpenOfferStores }
 {}
 
-/// What an honest link peer holds of what it has read is within the ranges of its fields, by its checks alone.
+/// The values that an honest link peer has read and keeps are within the ranges of their fields, by
+/// its checks alone.
+// claim: What an open call of an honest link peer holds of the values it read is in range: the
+//    index, the entry, the address and the length.
 pub fn read_values_are_in_range()
     ensures { OfEachHonest ReadValuesAreInRange }
 {}
 
 /// Two honest link peers never refuse each other.
+// claim: Two honest link peers never refuse each other.
 pub fn honest_peers_never_refuse()
     ensures { OfTwoHonest NeverRefuses }
 {}
 
 /// While one of two honest link peers attends to the other's session, the other opens none.
+// claim: While one of two honest link peers is in RUN or about to set it, the other is not in INIT
+//    nor about to set it.
 pub fn other_opens_none()
     ensures { OfTwoHonest OtherOpensNone }
 {}
 
-/// The session word of an honest link peer is the number of sessions that it opened, or one more, which it stored since.
+/// The session word of an honest link peer is the number of sessions that it opened, or one more,
+/// which it stored since then.
+// claim with hostile_sessions_are_none: The session word of an honest link peer is the number of
+//    sessions that it opened, or one more, stored since its last State 2. In READY and RUN it is
+//    the number opened. That of a hostile peer stays 0.
 pub fn session_words_are_numbers()
     ensures { SessionWordsAreNumbers }
 {}
@@ -78,28 +126,45 @@ pub fn hostile_sessions_are_none()
     ensures { HostileSessionsAreNone }
 {}
 
-/// The sessions of two honest link peers are paired by their numbers, which rise, and each delivers a beginning of what was accepted in the one that it carries.
+/// The sessions of two honest link peers are paired by their numbers, which rise. The frames
+/// delivered in a session are the first ones accepted in the session that it carries.
+// claim: Of two honest link peers, the numbers of the sessions that one carries rise, and are at
+//    most those that the other opened. In RUN a peer carries the session that the other opened
+//    last. Each session delivered a beginning of what was accepted in the one that it carries.
 pub fn sessions_are_paired()
     ensures { SessionsArePaired }
 {}
 
-/// What two honest link peers keep between them as soon as one of them attends: the counts of frames in their order, the frames delivered as the first ones
-/// accepted, and those in flight as the words spell them.
+/// What two honest link peers keep between them as soon as one of them attends: the counts of
+/// frames in their order, the delivered frames as the first ones accepted, and the frames in flight
+/// as the words spell them.
+// claim: As soon as one of two honest link peers is in RUN or about to set it, in either direction:
+//    freed, returned, delivered and accepted follow one another within the limit. The frames
+//    delivered are the first ones accepted, those not yet freed are spelled, and the used elements
+//    name the descriptors in order.
 pub fn pair_keeps()
     ensures { OfTwoHonest (WhereEitherAttends PairKeeps) }
 {}
 
-/// In a link with events no offer of an honest link peer ends without a doorbell at a frame for which the other, which is honest too, asks for one.
+/// In a link with events: if an honest link peer asks the other honest one for a doorbell at a
+/// frame, then no offer of that frame ends without a doorbell.
+// claim: In a link with events, while one of two honest link peers asks for a doorbell at a frame,
+//    the other's offer of that frame has not ended without one.
 pub fn asked_doorbells_are_rung()
     ensures { OfTwoHonest AskedIsRung }
 {}
 
-/// What an open call of one of two honest link peers holds of what it has read is what the other one has written.
+/// The values that an open call of one of two honest link peers has read are what the other one has
+/// written.
+// claim: What an open call of one of two honest link peers holds is what the other has written for
+//    that frame, and indexes count frames that were accepted or returned.
 pub fn read_values_are_as_sent()
     ensures { OfTwoHonest ReadValuesAreAsSent }
 {}
 
-/// The words of a hostile peer may hold whatever number below 2^32.
+/// The words of a hostile peer may have any value below 2^32.
+// claim: Each word of the region is below 2^32. Whatever such number a hostile peer stores in its
+//    section or its state word, the rule is kept, and the lists of the others stay.
 pub fn hostile_words_are_free()
     ensures { HostileWordsAreFree }
 {}

@@ -1,26 +1,41 @@
-//! Peers in threads of their own, over words that they share, which may be reset as they run. The words are an `atomic_table` under one
-//! rule, whatever hostile threads store: each access of an honest peer is the next one of its calls, what two honest peers deliver in a
-//! session begins what the other accepted in the session that it carries, and no interrupt is found that wasn't rung. It stands on
-//! `link_endpoint` for the ends, on `link_invariant` and `pair_sessions` for what they keep between them, on `doorbell_irq` for the routes of
-//! doorbells, and on `record_text` for what is told of a run. `run_peers` promises the running record of a scenario of up to eight peers by
-//! the lists of actions that its pass holds; nothing is said of an order between peers, nor that a peer gets on. `laws` tells what the
-//! words and the lists show between any two accesses.
+//! Peers that run in threads of their own, over words that they share. A peer may be reset as it
+//! runs.
+//!
+//! The words are an `atomic_table` under one rule. Whatever hostile threads store, the rule gives:
+//!
+//! - each access of an honest peer is the next one of its calls;
+//! - the frames that an honest peer delivers in a session are the first ones that the other honest
+//!   peer accepted in the session that it carries;
+//! - each interrupt that is found was rung.
+//!
+//! `run_peers` gives the running record of a scenario of up to eight peers, by the lists of actions
+//! that its pass has. It says nothing of an order between peers, and doesn't say that a peer makes
+//! progress. `laws` states what the words and the lists show between any two accesses.
+//!
+//! The crate uses `link_endpoint` for the ends, `link_invariant` and `pair_sessions` for what the
+//! ends keep between them, `doorbell_irq` for the routes of doorbells, and `record_text` for the
+//! record of a run.
 //!
 //! # Design
 //!
-//! - Interrupt words stand behind the region's in the same table, two for each peer, and session words behind these, so one pass has all
-//!   that a peer does, in its order. What the rule keeps of interrupts are counts over all lists; of the region it keeps what it would
-//!   without them, since no ring, look or clear touches its words.
-//! - A doorbell at a peer in one-shot mode takes two turns where its clear found Interrupt Control set, else one. Between the two the step
-//!   isn't done: an automatic peer's call is open, and a storm stays at its draw.
-//! - A call is quiet only if its one step is a read, so a doorbell always has its line.
-//! - Spans are counted in the turns of the own record (`Running`), so that a reset is a turn like the others, and one relation says which
-//!   turn comes next.
-//! - The pairing is said by the numbers that the lines tell, in the words of the link machine's log: what is over, and what is carried now.
+//! - The table has the words of the region, then two words for the interrupts of each peer, then
+//!   two session words. So one pass has all actions of a peer, in their order. No ring, look or
+//!   clear touches a word of the region.
+//! - A doorbell at a peer in one-shot mode takes two turns if its clear found Interrupt Control
+//!   set, else one. Between the two the step isn't done: the call of an automatic peer is open, and
+//!   a storm stays at its draw.
+//! - A call is quiet only if its one step is a read, so each doorbell has its line.
+//! - Spans are counted in the turns of the own record (`Running`). So a reset is a turn, and one
+//!   relation says which turn is next.
+//! - The pairing of sessions is stated by the numbers in the lines, as the log of the link machine:
+//!   the sessions that are over, and the number that the present one carries.
+// tested: That peers run at the same time (`checks/one_after_the_other`). Not said: the order in
+//    which accesses were made, that a peer makes progress, that threads run at the same time.
 #![tactic(auto)]
 
 mod accesses;
 mod bells;
+mod context;
 mod doorbell_paths;
 mod driving;
 mod gate;

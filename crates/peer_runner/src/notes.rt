@@ -1,11 +1,8 @@
 //! The lines of a running peer's steps.
-ghost use Rattle.std.specs.Prelude.{◌≡◌, ◌<◌, ◌++◌, ◌∷◌, [], map, OnOk};
+ghost use Rattle.std.specs.Prelude.{◌≡◌, ◌<◌, ◌++◌, map, OnOk};
 ghost use Rattle.lawful_history.specs.EventRecords.{access_lines, mark_line};
-ghost use Rattle.link_endpoint.specs.Engine.{offered, delivered};
-ghost use Rattle.link_endpoint.specs.Refinement.{marks_between};
-ghost use Rattle.std.specs.Int.{bit_at};
-ghost use Rattle.peer_runner.specs.Turns.{interrupt_lines, interrupt_line, finds_nothing, is_quiet, lines_of};
-ghost use Rattle.peer_runner.specs.Runners.{session_lines, stepped_lines, done_lines};
+ghost use Rattle.peer_runner.specs.Turns.{interrupt_lines, interrupt_line, finds_nothing, is_quiet};
+ghost use Rattle.peer_runner.specs.Runners.{session_lines, lines_stepped, lines_done, marks_of_notes};
 
 use crate::doorbell_paths::Done;
 use ivs_base::NoMemory;
@@ -15,7 +12,7 @@ use split_ring::steps::{Access, Note};
 use std::alloc::Global;
 use step_lines::line_of;
 
-/// Tells an access.
+/// Appends the line of an access, if the access has one.
 pub fn record_access(me: u32, access: Access, value: u32, lines: &mut Lines) -> Result<(), NoMemory>
     ensures { OnOk result (lines.new ≡ lines.old ++ access_lines me access value) }
 {
@@ -41,7 +38,7 @@ pub fn record_access(me: u32, access: Access, value: u32, lines: &mut Lines) -> 
     lines.push(line)
 }
 
-/// Tells the notes of a step.
+/// Appends the lines of a step's notes.
 fn record_notes(
     alloc: Global,
     me: u32,
@@ -49,7 +46,7 @@ fn record_notes(
     notes: &[Note],
     lines: &mut Lines,
 ) -> Result<(), NoMemory>
-    ensures { OnOk result (lines.new ≡ lines.old ++ map (mark_line me) (marks_between (offered end.now) (delivered end.now) notes.now)) }
+    ensures { OnOk result (lines.new ≡ lines.old ++ map (mark_line me) (marks_of_notes end.now notes.now)) }
 {
     for note in notes {
         let line = line_of(alloc, me, end, *note)?;
@@ -58,9 +55,9 @@ fn record_notes(
     Ok(())
 }
 
-/// Are these the notes of a call that found nothing, all in one step?
+/// Whether these are the notes of a call that found nothing and was over in one step.
 fn finds_nothing(end: &Endpoint, notes: &[Note]) -> bool
-    ensures { result ≡ finds_nothing (marks_between (offered end.now) (delivered end.now) notes.now) }
+    ensures { result ≡ finds_nothing (marks_of_notes end.now notes.now) }
 {
     matches!(
         notes,
@@ -68,9 +65,9 @@ fn finds_nothing(end: &Endpoint, notes: &[Note]) -> bool
     )
 }
 
-/// Is this the step of a quiet call? `first` says that its call begins with it.
+/// Whether this is the step of a quiet call. `first` says whether the call begins with the step.
 fn is_quiet(first: bool, access: Access, end: &Endpoint, notes: &[Note]) -> bool
-    ensures { result ≡ is_quiet first access (marks_between (offered end.now) (delivered end.now) notes.now) }
+    ensures { result ≡ is_quiet first access (marks_of_notes end.now notes.now) }
 {
     match access {
         Access::Read(_) => first && finds_nothing(end, notes),
@@ -78,77 +75,76 @@ fn is_quiet(first: bool, access: Access, end: &Endpoint, notes: &[Note]) -> bool
     }
 }
 
-/// Tells the mark of a session behind a State step with 3, for which the other's number was met.
-fn record_session(
-    me: u32,
-    opened: u32,
-    met: Option<u32>,
-    access: Access,
-    lines: &mut Lines,
-) -> Result<(), NoMemory>
-    ensures { OnOk result (lines.new ≡ lines.old ++ session_lines me opened met access) }
+/// What the lines of a step need of the peer as the step began.
+#[derive(Clone, Copy, Debug)]
+pub struct RecordedStep {
+    /// Whether the call begins with the step.
+    pub first: bool,
+    /// The number of sessions that the peer opened.
+    pub opened: u32,
+    /// The session number that the peer stored or loaded for the step.
+    pub met: Option<u32>,
+    /// The access of the step.
+    pub access: Access,
+}
+
+/// Appends the mark of a session after a State step with 3, if a number was loaded for the step.
+fn record_session(me: u32, step: RecordedStep, lines: &mut Lines) -> Result<(), NoMemory>
+    ensures { OnOk result (lines.new ≡ lines.old ++ session_lines me step.opened step.met step.access) }
 {
-    match (met, access) {
+    match (step.met, step.access) {
         (Some(other), Access::State(3)) => lines.push(Line::Session {
             peer: me,
-            opened,
+            opened: step.opened,
             other,
         }),
         _ => Ok(()),
     }
 }
 
-/// Tells a step of a call, unless the call is quiet. `opened` and `met` are the numbers of the session that it may enter.
+/// Appends the lines of a step that read `value`, unless the call of the step is quiet.
 fn record_lines(
     alloc: Global,
     me: u32,
-    first: bool,
-    opened: u32,
-    met: Option<u32>,
-    access: Access,
+    step: RecordedStep,
     value: u32,
     end: &Endpoint,
     notes: &[Note],
     lines: &mut Lines,
 ) -> Result<(), NoMemory>
-    ensures { OnOk result (lines.new ≡ lines.old ++ stepped_lines me first opened met access value (marks_between (offered end.now) (delivered end.now) notes.now)) }
+    ensures { OnOk result (lines.new ≡ lines.old ++ lines_stepped me step value (marks_of_notes end.now notes.now)) }
 {
-    if is_quiet(first, access, end, notes) {
+    if is_quiet(step.first, step.access, end, notes) {
         return Ok(());
     }
-    record_access(me, access, value, lines)?;
-    record_session(me, opened, met, access, lines)?;
+    record_access(me, step.access, value, lines)?;
+    record_session(me, step, lines)?;
     record_notes(alloc, me, end, notes, lines)
 }
 
-/// Tells what was done of a step that is done with it. `first` says that its call begins with it.
+/// Appends the lines of a step that is done by this turn.
 pub fn record_step(
     alloc: Global,
     me: u32,
-    first: bool,
-    opened: u32,
-    met: Option<u32>,
-    access: Access,
+    step: RecordedStep,
     done: Done,
     end: &Endpoint,
     notes: &[Note],
     lines: &mut Lines,
 ) -> Result<(), NoMemory>
-    ensures { OnOk result (lines.new ≡ lines.old ++ done_lines me first opened met access done (marks_between (offered end.now) (delivered end.now) notes.now)) }
+    ensures { OnOk result (lines.new ≡ lines.old ++ lines_done me step done (marks_of_notes end.now notes.now)) }
 {
     match done {
-        Done::Stepped(value) => record_lines(
-            alloc, me, first, opened, met, access, value, end, notes, lines,
-        ),
+        Done::Stepped(value) => record_lines(alloc, me, step, value, end, notes, lines),
         Done::Cleared(_) => {
-            record_access(me, access, 0, lines)?;
+            record_access(me, step.access, 0, lines)?;
             record_notes(alloc, me, end, notes, lines)
         }
         Done::Rung => record_notes(alloc, me, end, notes, lines),
     }
 }
 
-/// Tells one bit of what a look found.
+/// Appends the line of one bit, if the look found the bit.
 fn record_interrupt(me: u32, bit: u32, found: u64, lines: &mut Lines) -> Result<(), NoMemory>
     requires { bit < 64 }
     ensures { OnOk result (lines.new ≡ lines.old ++ interrupt_line me bit found) }
@@ -162,7 +158,8 @@ fn record_interrupt(me: u32, bit: u32, found: u64, lines: &mut Lines) -> Result<
     })
 }
 
-/// Tells the bits that a look found, ascending, up to the highest one. Where it found none this is one test.
+/// Appends a line for each bit that a look found, ascending. Stops after the highest bit: for an
+/// empty word this is one test.
 pub fn record_interrupts(me: u32, found: u64, lines: &mut Lines) -> Result<(), NoMemory>
     ensures { OnOk result (lines.new ≡ lines.old ++ interrupt_lines 64 me found) }
 {

@@ -22,7 +22,17 @@ use scenario_text::Scenario;
 use std::alloc::Global;
 use std::thread::{Threads, join};
 
-/// The plan of a peer, if it has a turn line. Where memory runs out the peer takes no turn, and the gate's `ended` is called.
+/// Consecutive peers.
+#[derive(Clone, Copy, Debug)]
+struct PeerRange {
+    /// The first of them.
+    from: u32,
+    /// Their number.
+    count: u32,
+}
+
+/// The plan of a peer, if the peer has a turn line. If an allocation fails, the peer takes no turn,
+/// and the gate's `ended` is called.
 fn plan_for<G: Gate>(
     alloc: Global,
     scenario: &Scenario,
@@ -40,7 +50,7 @@ fn plan_for<G: Gate>(
     plan
 }
 
-/// One peer runs, if it has a turn line: its trace, or none.
+/// Runs one peer, if the peer has a turn line. Returns its trace, or none.
 fn run_one<G: Gate>(
     alloc: Global,
     words: &Words,
@@ -65,24 +75,24 @@ fn run_one<G: Gate>(
     Ok(traces)
 }
 
-/// So many peers from one on run, each in a thread of its own, by joins in halves. The pass comes back.
+/// Runs a range of peers, each in a thread of its own, by joins in halves. Returns the pass too.
 fn run_range<R: Threads + Sync, G: Gate + Sync>(
     rt: &R,
     alloc: Global,
     words: &Words,
     mut pass: Pass,
     scenario: &Scenario,
-    from: u32,
-    count: u32,
+    range: PeerRange,
     gate: &G,
 ) -> (Result<Vec<OwnTrace>, NoMemory>, Pass)
     requires running { not_running (world_of scenario.now) ≡ None }
     requires made { IsMadeFor (world_of scenario.now) words.now.shared.key }
     requires of { IsOf words.now.shared.table_id words.now.shared.key pass }
-    requires whole { (pass.from ≡ from) × (pass.lists ≡ replicate count []) }
-    ensures { (lists : List (List (Action (MemoryOp CallAccess)))) × (result.1 ≡ held pass.table_id from lists) × (length lists ≡ count)
-        × IfOk result.0 (λ traces. RanAll (world_of scenario.now) words.now.shared.key from lists traces.items) }
+    requires whole { (pass.from ≡ range.from) × (pass.lists ≡ replicate range.count []) }
+    ensures { (lists : List (List (Action (MemoryOp CallAccess)))) × (result.1 ≡ held pass.table_id range.from lists) × (length lists ≡ range.count)
+        × IfOk result.0 (λ traces. RanAll (world_of scenario.now) words.now.shared.key range.from lists traces.items) }
 {
+    let PeerRange { from, count } = range;
     if count == 0 {
         return (Ok(Vec::new(alloc)), pass);
     }
@@ -104,7 +114,10 @@ fn run_range<R: Threads + Sync, G: Gate + Sync>(
             requires whole { (pass.from ≡ from) × (pass.lists ≡ replicate half []) }
             ensures { (lists : List (List (Action (MemoryOp CallAccess)))) × (result.1 ≡ held pass.table_id from lists) × (length lists ≡ half)
                 × IfOk result.0 (λ traces. RanAll (world_of scenario.entry.now) words.entry.now.shared.key from lists traces.items) }
-        { run_range(rt, alloc, words, pass, scenario, from, half, gate) },
+        {
+            let range = PeerRange { from, count: half };
+            run_range(rt, alloc, words, pass, scenario, range, gate)
+        },
         move || -> (Result<Vec<OwnTrace>, NoMemory>, Pass)
             requires sync { IsSync R.row × IsSync G.row }
             requires running { not_running (world_of scenario.now) ≡ None }
@@ -113,13 +126,19 @@ fn run_range<R: Threads + Sync, G: Gate + Sync>(
             requires whole { (upper.from ≡ middle) × (upper.lists ≡ replicate rest []) }
             ensures { (lists : List (List (Action (MemoryOp CallAccess)))) × (result.1 ≡ held upper.table_id middle lists) × (length lists ≡ rest)
                 × IfOk result.0 (λ traces. RanAll (world_of scenario.entry.now) words.entry.now.shared.key middle lists traces.items) }
-        { run_range(rt, alloc, words, upper, scenario, middle, rest, gate) },
+        {
+            let range = PeerRange {
+                from: middle,
+                count: rest,
+            };
+            run_range(rt, alloc, words, upper, scenario, range, gate)
+        },
     );
     join_pass(words, &mut lower, upper);
     (append(first, second), lower)
 }
 
-/// The traces of both halves.
+/// The traces of both halves, in their order.
 fn append(
     first: Result<Vec<OwnTrace>, NoMemory>,
     second: Result<Vec<OwnTrace>, NoMemory>,
@@ -131,7 +150,7 @@ fn append(
     Ok(all)
 }
 
-/// The traces as a list of their own.
+/// The traces as an `OwnTraces`.
 fn listed(alloc: Global, traces: Vec<OwnTrace>) -> Result<OwnTraces, NoMemory>
     ensures { IfOk result (λ list. list ≡ map part_of traces.items) }
 {
@@ -142,11 +161,17 @@ fn listed(alloc: Global, traces: Vec<OwnTrace>) -> Result<OwnTraces, NoMemory>
     Ok(list)
 }
 
-/// Runs the peers of a scenario that have a turn line, each in a thread of its own. The words and the pass were made by `words_for`
-/// for this scenario, and no access was made by the pass. After either answer the pass has all peers again, with the list of the
-/// accesses of each.
+/// Runs the peers of a scenario that have a turn line, each in a thread of its own. Requires that
+/// `words_for` made the words and the pass for this scenario, and that no access was made by the
+/// pass. After the call the pass has all peers again, with the list of each peer's actions.
 ///
-/// NoMemory says that memory ran out, in whichever thread. The gate's `ended` is called once for each peer that has a turn line, also then.
+/// Returns `NoMemory` if an allocation fails in any thread. Also then the gate's `ended` is called
+/// once for each peer that has a turn line.
+// claim whole, scenario, run: After a run the pass has all peers again, and each running peer's
+//    part is its own record, for its acts, with the list that the pass holds. A peer has at most as
+//    many `i` lines for a vector as `d` lines to it. Two honest link peers never refused, and each
+//    delivered in a session a beginning of what the other accepted in the session carried. In a
+//    link with events no offer ended without a doorbell that the other asks for.
 pub fn run_peers<R: Threads + Sync, G: Gate + Sync>(
     rt: &R,
     alloc: Global,
@@ -164,7 +189,11 @@ pub fn run_peers<R: Threads + Sync, G: Gate + Sync>(
 {
     let all = split_pass(words, pass, 0);
     let peers = scenario.geometry.peers();
-    let (traces, mut all) = run_range(rt, alloc, words, all, &scenario, 0, peers, gate);
+    let range = PeerRange {
+        from: 0,
+        count: peers,
+    };
+    let (traces, mut all) = run_range(rt, alloc, words, all, &scenario, range, gate);
     learn(words, &mut all);
     join_pass(words, pass, all);
     let peers = listed(alloc, traces?)?;

@@ -1,4 +1,4 @@
-//! What drives the peers of a scenario in running form.
+//! The plans of the peers of a scenario in running form.
 ghost use Rattle.std.specs.Prelude.{◌≡◌, ◌<◌, ◌++◌, true, false, None, IfOk, OnOk};
 ghost use Rattle.lawful_history.specs.Sides.{traffic_vector};
 ghost use Rattle.scenario_text.specs.Running.{has_turn, not_running};
@@ -26,14 +26,14 @@ fn traffic_vector(wiring: Wiring) -> u32
     }
 }
 
-/// Is this an honest peer of the link?
+/// Whether this is an honest peer of the link.
 fn is_link(scenario: &Scenario, me: u32) -> bool
     ensures { result ≡ is_link (world_of scenario.now) me }
 {
     me < 2 && scenario.honest.items()[me as usize]
 }
 
-/// Adds the turns that an act gives a peer, if it is a turn line of it.
+/// Appends the span of an act, if the act is a turn line of the peer.
 fn add_span(spans: &mut Spans, act: &Act, me: u32) -> Result<(), NoMemory>
     ensures { OnOk result (spans.new ≡ spans.old ++ span_in me act.now) }
 {
@@ -43,7 +43,7 @@ fn add_span(spans: &mut Spans, act: &Act, me: u32) -> Result<(), NoMemory>
     }
 }
 
-/// The spans of a peer: the turns of each of its turn lines.
+/// The spans of a peer: the number of turns of each of its turn lines.
 fn spans_for(alloc: Global, scenario: &Scenario, me: u32) -> Result<Spans, NoMemory>
     ensures { IfOk result (λ spans. spans ≡ spans_of scenario.now.acts me) }
 {
@@ -54,7 +54,7 @@ fn spans_for(alloc: Global, scenario: &Scenario, me: u32) -> Result<Spans, NoMem
     Ok(spans)
 }
 
-/// Takes what an act says of an automatic peer.
+/// Adds what an act says of an automatic peer.
 fn gather(alloc: Global, auto: &mut Auto, act: &Act, me: u32) -> Result<(), NoMemory>
     ensures { OnOk result (auto.new ≡ gathered me auto.old act.now) }
 {
@@ -81,7 +81,7 @@ fn auto_for(alloc: Global, scenario: &Scenario, me: u32) -> Result<Auto, NoMemor
     Ok(auto)
 }
 
-/// The seed that an act gives to a storm, if it is the peer's, else the one before.
+/// The seed of the act, if the act is a storm line of the peer, else `seed`.
 fn seed_in(seed: u64, act: &Act, me: u32) -> u64
     ensures { result ≡ seeded me seed act.now }
 {
@@ -103,7 +103,8 @@ fn seed_for(scenario: &Scenario, me: u32) -> u64
     seed
 }
 
-/// What drives a peer that has a turn line: the rule of the automatic peer at an honest end of the link, else its storm.
+/// The driver of a peer that has a turn line: the rule of the automatic peer at an honest end of
+/// the link, else its storm.
 fn driver_for(alloc: Global, scenario: &Scenario, me: u32) -> Result<Driver, NoMemory>
     requires there { me < scenario.now.geometry.peers }
     requires running { not_running (world_of scenario.now) ≡ None }
@@ -123,7 +124,8 @@ fn driver_for(alloc: Global, scenario: &Scenario, me: u32) -> Result<Driver, NoM
     Ok(Driver::Auto(auto, end))
 }
 
-/// What drives a peer of the scenario, its spans and the routes of all peers, if it has a turn line.
+/// The plan of a peer of the scenario: its driver, its spans and the routes of all peers. Returns
+/// none exactly if the peer has no turn line.
 pub fn plan_of(alloc: Global, scenario: &Scenario, me: u32) -> Result<Option<PeerPlan>, NoMemory>
     requires there { me < scenario.now.geometry.peers }
     requires running { not_running (world_of scenario.now) ≡ None }

@@ -1,4 +1,4 @@
-//! The rule of the table, and what its steps tell.
+//! The rule of the table, and what its steps report.
 ghost use Rattle.std.specs.Prelude.{[], Option, None};
 ghost use Rattle.call_grammar.specs.Calls.{Call};
 ghost use Rattle.peer_runner.specs.Rules.{TableInvariant, initial_view, reads, writes, sets, stores_number, loads_number, resets, looks, joined};
@@ -87,7 +87,7 @@ impl Join<View> for Both {
     ghost spent = { record { from = 0; lists = [] } };
 }
 
-/// A call picks what it tells.
+/// Each call picks what it reports.
 impl Play<u8, View> for Brand {
     ghost then = { λ _ _ _ _. Unit {0} };
 }

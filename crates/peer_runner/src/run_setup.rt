@@ -1,4 +1,4 @@
-//! What the rule of a table reads.
+//! The parameters of the rule of a table.
 ghost use Rattle.std.specs.Prelude.{◌≡◌, ◌≢◌, ℕ, ◌<◌, ◌≤◌, length};
 ghost use Rattle.std.specs.Int.{bit_at};
 ghost use Rattle.scenario_text.specs.Spelling.{world_of};
@@ -12,8 +12,7 @@ use scenario_text::Scenario;
 use section_map::Geometry;
 use split_ring::Queue;
 
-/// The sizes of a region and of its queues, the wiring, which gives the traffic vector, which of the two link peers are honest, and
-/// how each peer takes interrupts.
+/// The parameters of a table of running peers. The wiring gives the traffic vector.
 #[derive(Clone, Copy, Debug)]
 pub struct RunSetup {
     /// The sizes of the region.
@@ -28,11 +27,11 @@ pub struct RunSetup {
     pub second_is_honest: bool,
     /// Bit P is bit 0 of peer P's Interrupt Control before any action.
     pub enabled: u32,
-    /// Bit P says whether peer P is in one-shot mode.
+    /// Bit P is 1 exactly if peer P is in one-shot mode.
     pub one_shot: u32,
 }
 
-/// The mask with one peer more, whose bit isn't set.
+/// The mask after one more peer, whose bit isn't set in `mask`.
 fn with_bit(mask: u32, peer: u32, flag: bool) -> u32
     requires { (peer < 32) × (bit_at mask peer ≡ 0) }
     ensures here { bit_at result peer ≡ one_if flag }
@@ -41,7 +40,7 @@ fn with_bit(mask: u32, peer: u32, flag: bool) -> u32
     if flag { mask | (1u32 << peer) } else { mask }
 }
 
-/// Which peers take interrupts.
+/// The mask of the peers whose interrupts are enabled.
 fn enabled_of(routes: &[Route]) -> u32
     requires { length routes.now ≤ 8 }
     ensures { (p : ℕ) → p < length routes.now → bit_at result p ≡ one_if (route_to routes.now p).enabled }
@@ -53,7 +52,7 @@ fn enabled_of(routes: &[Route]) -> u32
     mask
 }
 
-/// Which peers are in one-shot mode.
+/// The mask of the peers in one-shot mode.
 fn one_shot_of(routes: &[Route]) -> u32
     requires { length routes.now ≤ 8 }
     ensures { (p : ℕ) → p < length routes.now → bit_at result p ≡ one_if (route_to routes.now p).one_shot }
@@ -66,7 +65,7 @@ fn one_shot_of(routes: &[Route]) -> u32
 }
 
 impl RunSetup {
-    /// The key of a scenario whose peers have these routes.
+    /// The run setup of a scenario whose peers have these routes.
     pub(crate) fn of(scenario: &Scenario, routes: &[Route]) -> RunSetup
         requires { AreRoutesOf (world_of scenario.now) routes.now }
         ensures made { IsMadeFor (world_of scenario.now) result }

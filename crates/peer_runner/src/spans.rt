@@ -1,11 +1,12 @@
-//! How many turns a running peer takes before it is reset.
+//! The number of turns that a running peer takes before each reset.
 ghost use Rattle.std.specs.Prelude.{◌≡◌, ◌++◌, [], ◌∷◌, OnOk, OnErr};
 
 use ivs_base::NoMemory;
 use std::alloc::Global;
 use std::marker::Model;
 
-/// The turns of a running peer up to its first reset, between each two resets, and after the last. It is seen as the list of them.
+/// The turns of a running peer up to its first reset, between each two resets, and after the last.
+/// The model is the list of these numbers.
 #[derive(Debug, Drop)]
 pub struct Spans {
     items: Vec<u64>,
@@ -29,7 +30,9 @@ impl Spans {
         }
     }
 
-    /// Puts a span last. After NoMemory the list is unchanged.
+    /// Appends a span. After `NoMemory` the list is unchanged.
+    // claim ok, err with Spans::new, Spans::items: A list has the items that were appended, in
+    //    order; a failed call changes nothing.
     pub fn push(&mut self, turns: u64) -> Result<(), NoMemory>
         ensures ok { OnOk result (self.new ≡ self.old ++ turns ∷ []) }
         ensures err { OnErr result (self.new ≡ self.old) }

@@ -1,5 +1,5 @@
 //! A turn of a storm.
-ghost use Rattle.std.specs.Prelude.{◌≡◌, ◌++◌, ◌<◌, true, false, if◌then◌else◌, None, length, OnOk};
+ghost use Rattle.std.specs.Prelude.{◌≡◌, ◌++◌, true, false, if◌then◌else◌, None, OnOk};
 ghost use Rattle.step_lines.specs.Storms.{IsStormOf, IsDrawn};
 ghost use Rattle.peer_runner.specs.RunSetups.{world_in, honest_of};
 ghost use Rattle.peer_runner.specs.DoorbellPaths.{AreRoutes, is_guarded, doorbell_path_in};
@@ -7,7 +7,7 @@ ghost use Rattle.peer_runner.specs.Rules.{front};
 ghost use Rattle.peer_runner.specs.Turns.{lines_in};
 ghost use Rattle.peer_runner.specs.Drives.{storm_in, storm_on};
 ghost use Rattle.peer_runner.specs.Runners.{made, value_done, done_of, turn_of, drawn_lines, IsDone, awaits_ring, MayRingBy};
-ghost use Rattle.peer_runner.specs.Passes.{IsOf};
+ghost use Rattle.peer_runner.specs.Passes.{IsFirstIn};
 
 use crate::accesses::{set_state, store};
 use crate::bells::ring_turn;
@@ -21,7 +21,7 @@ use split_ring::steps::Access;
 use std::marker::Brand;
 use step_lines::Storm;
 
-/// Does what a turn does of the step with this access, which a storm drew.
+/// Makes the access of a step that a storm drew, or a part of its doorbell, as one turn does.
 fn make(
     words: &Words,
     pass: &mut Pass,
@@ -30,7 +30,7 @@ fn make(
     access: Access,
     ringing: bool,
 ) -> Done
-    requires of { IsOf words.now.shared.table_id words.now.shared.key pass.old × (pass.old.from ≡ me) × (0 < length pass.old.lists) }
+    requires of { IsFirstIn words.now.shared.table_id words.now.shared.key me pass.old }
     requires routes { AreRoutes words.now.shared.key routes.now }
     requires hostile { honest_of words.now.shared.key me ≡ false }
     requires drawn { IsDrawn (world_in words.now.shared.key) me access }
@@ -56,8 +56,10 @@ fn make(
     }
 }
 
-/// The next step of a storm, or the part of a doorbell that is to come. `ringing` says whether the ring of a doorbell is to come,
-/// before the turn and after it; while it is, the storm stays at its step. After NoMemory it was done, and its line may be missing.
+/// Takes the next step of a storm, or the ring of a doorbell that is to come. `ringing` says
+/// whether a ring is to come, before the turn and after it: until then the storm stays at its step.
+///
+/// Returns `NoMemory` if an allocation fails. Then the turn was taken, and its line may be missing.
 pub fn take_step(
     words: &Words,
     pass: &mut Pass,
@@ -66,16 +68,17 @@ pub fn take_step(
     ringing: &mut bool,
     lines: &mut Lines,
 ) -> Result<(), NoMemory>
-    requires of { IsOf words.now.shared.table_id words.now.shared.key pass.old × (pass.old.from ≡ storm.old.peer) × (0 < length pass.old.lists) }
+    requires of { IsFirstIn words.now.shared.table_id words.now.shared.key storm.old.peer pass.old }
     requires routes { AreRoutes words.now.shared.key routes.now }
     requires hostile { honest_of words.now.shared.key storm.old.peer ≡ false }
     requires storm { IsStormOf (world_in words.now.shared.key) storm.old }
     requires rings { ringing.old ≡ true → MayRingBy routes.now (storm_in words.now.shared.key storm.old.peer storm.old.at).access (front pass.old.lists) }
-    ensures { (done : Done) × IsDone ringing.old (is_guarded (doorbell_path_in routes.now (storm_in words.now.shared.key storm.old.peer storm.old.at).access)) done × (value_done done ≡ 0)
-        × (pass.new ≡ made pass.old (done_of routes.now None (storm_in words.now.shared.key storm.old.peer storm.old.at).access done))
+    ensures { let step = storm_in words.now.shared.key storm.old.peer storm.old.at in
+        (done : Done) × IsDone ringing.old (is_guarded (doorbell_path_in routes.now step.access)) done × (value_done done ≡ 0)
+        × (pass.new ≡ made pass.old (done_of routes.now None step.access done))
         × (storm.new ≡ record storm.old { at = storm_on storm.old.at done }) × (ringing.new ≡ awaits_ring done)
-        × (awaits_ring done ≡ true → MayRingBy routes.now (storm_in words.now.shared.key storm.old.peer storm.old.at).access (front pass.new.lists))
-        × OnOk result (lines.new ≡ lines.old ++ lines_in storm.old.peer (turn_of true 0 None (storm_in words.now.shared.key storm.old.peer storm.old.at) done)) }
+        × (awaits_ring done ≡ true → MayRingBy routes.now step.access (front pass.new.lists))
+        × OnOk result (lines.new ≡ lines.old ++ lines_in storm.old.peer (turn_of true 0 None step done)) }
 {
     let me = storm.peer;
     let mut ahead = *storm;
@@ -86,14 +89,15 @@ pub fn take_step(
     record_storm_write(me, access, done, lines)
 }
 
-/// The storm after a turn: it goes ahead where its step is done.
+/// The storm after a turn: at its next step if this one is done.
 fn after(storm: &Storm, ahead: Storm, done: Done) -> Storm
     ensures { result ≡ (if awaits_ring done then storm.now else ahead) }
 {
     if done.awaits_ring() { *storm } else { ahead }
 }
 
-/// Tells what was done of a step that was drawn: a ring was told as its clear was done.
+/// Records the line of a storm's step. A doorbell is recorded at its clear, so its ring adds no
+/// line.
 fn record_storm_write(
     me: u32,
     access: Access,

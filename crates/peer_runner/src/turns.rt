@@ -1,45 +1,46 @@
 //! The turns of an automatic peer.
-ghost use Rattle.std.specs.Prelude.{◌≡◌, ℕ, ◌+◌, ◌^◌, ◌++◌, ◌<◌, ◌≤◌, true, false, length, OnOk};
+ghost use Rattle.std.specs.Prelude.{◌≡◌, ℕ, ◌+◌, ◌^◌, ◌++◌, ◌<◌, ◌≤◌, true, false, OnOk};
 ghost use Rattle.call_grammar.specs.Automatic.{is_empty};
 ghost use Rattle.call_grammar.specs.Calls.{EndConfig};
 ghost use Rattle.call_grammar.specs.Ends.{End};
 ghost use Rattle.call_grammar.specs.Places as places;
-ghost use Rattle.call_grammar.specs.Places.{WritingState, access_at};
-ghost use Rattle.lawful_history.specs.Peers as peers;
+ghost use Rattle.call_grammar.specs.Places.{WritingState};
 ghost use Rattle.link_endpoint.specs.Engine.{is_busy};
 ghost use Rattle.link_endpoint.specs.Refinement.{RefinesAt};
 ghost use Rattle.step_lines.specs.Plans.{IsPlanOf};
-ghost use Rattle.peer_runner.specs.RunSetups.{config_in, honest_of};
-ghost use Rattle.peer_runner.specs.DerivedStates.{derived_state, IsNext};
-ghost use Rattle.peer_runner.specs.Actions.{accessed, accesses_in, looked};
+ghost use Rattle.peer_runner.specs.Actions.{accessed, looked};
 ghost use Rattle.peer_runner.specs.Rules.{front};
 ghost use Rattle.peer_runner.specs.Passes.{IsOf, added};
-ghost use Rattle.peer_runner.specs.DoorbellPaths.{AreRoutes, is_guarded, doorbell_path_in};
-ghost use Rattle.peer_runner.specs.Turns.{interrupt_lines, looks_after, opens};
-ghost use Rattle.peer_runner.specs.Runners.{Runner, round_on, choice_at, chosen, place_in, place_for, Matches, is_end_choice, call_of, call_chosen_by, IsBegun, IsBegunIf, Closes, touches, MayMake, made, done_of, IsDone, awaits_ring, MayRingBy, due_at, looks_now, due_word, state_for, memory_op_met, turned, lines_on, IsThere, IsAutoPeer, Turns};
+ghost use Rattle.peer_runner.specs.DoorbellPaths.{is_guarded, doorbell_path_in};
+ghost use Rattle.peer_runner.specs.Turns.{interrupt_lines, is_below, looks_after, opens};
+ghost use Rattle.peer_runner.specs.Runners.{Runner, round_on, choice_at, chosen, place_in, place_for, Matches, is_end_choice, call_of, call_chosen_by};
+ghost use Rattle.peer_runner.specs.Runners.{IsBegun, IsBegunIf, Closes, touches, MayMake, made, done_of, IsDone, awaits_ring, MayRingBy, due_at, looks_now};
+ghost use Rattle.peer_runner.specs.Runners.{due_word, state_for, memory_op_met, lines_on, IsThere, IsAutoPeer};
+ghost use Rattle.peer_runner.specs.Contexts.{setup_of, end_config, IsHonest, HasRoutes, IsSeated, state_of, IsNextOf, AtItsPlace};
+ghost use Rattle.peer_runner.specs.Contexts.{IsStepDue, after_step, is_guarded_at};
 
 use crate::accesses::{load, set_state, store};
 use crate::bells::ring_turn;
+use crate::context::PeerContext;
 use crate::doorbell_paths::Done;
 use crate::interrupts::look;
-use crate::notes::{record_access, record_interrupts, record_step};
+use crate::notes::{RecordedStep, record_access, record_interrupts, record_step};
 use crate::rule::Begins;
 use crate::sessions::{SessionWord, load_session, store_session};
-use crate::words::{Pass, Words};
+use crate::words::Pass;
 use doorbell_irq::Route;
 use ivs_base::NoMemory;
 use lawful_history::Lines;
 use link_endpoint::{Auto, Call, Choice, Endpoint};
 use split_ring::steps::Access;
-use std::alloc::Global;
 use std::marker::Brand;
 use step_lines::count_notes;
 
-/// What the peer chooses where no call is open.
+/// Returns what the peer chooses, or none if a call is open.
 pub fn choose(auto: &mut Auto, end: &Endpoint) -> Option<Choice>
-    ensures chosen { (config : EndConfig) (at : End) (place : places.Place) (plan : peers.Auto) → RefinesAt end.now config at place → IsPlanOf auto.old plan → Matches result auto.new.frames (choice_at at place plan) }
+    ensures chosen { AtItsPlace end.now auto.old (λ config at place plan. Matches result auto.new.frames (choice_at at place plan)) }
     ensures closes { Closes result (is_busy end.now) }
-    ensures plan { (config : EndConfig) (at : End) (place : places.Place) (plan : peers.Auto) → RefinesAt end.now config at place → IsPlanOf auto.old plan → IsPlanOf auto.new (round_on plan (choice_at at place plan)) }
+    ensures plan { AtItsPlace end.now auto.old (λ config at place plan. IsPlanOf auto.new (round_on plan (choice_at at place plan))) }
 {
     if end.busy() {
         return None;
@@ -47,7 +48,7 @@ pub fn choose(auto: &mut Auto, end: &Endpoint) -> Option<Choice>
     Some(auto.choose(end.phase()))
 }
 
-/// Is nothing left to do?
+/// Whether the peer is finished.
 pub fn is_finished(choice: Option<Choice>) -> bool
     ensures { result ≡ is_end_choice choice }
 {
@@ -58,7 +59,8 @@ pub fn is_finished(choice: Option<Choice>) -> bool
 fn begin(auto: &Auto, end: &mut Endpoint, choice: Choice)
     requires closed { is_busy end.old ≡ false }
     requires chosen { IsBegun end.old.config.sizes.mtu choice auto.now.frames }
-    ensures refines { (config : EndConfig) (at : End) → RefinesAt end.old config at places.Closed → RefinesAt end.new config at (place_for config at places.Closed (call_of choice auto.now.frames)) }
+    ensures refines { (config : EndConfig) (at : End) → RefinesAt end.old config at places.Closed →
+        RefinesAt end.new config at (place_for config at places.Closed (call_of choice auto.now.frames)) }
     ensures open { is_busy end.new ≡ true }
     ensures config { end.new.config ≡ end.old.config }
 {
@@ -77,7 +79,8 @@ fn begin(auto: &Auto, end: &mut Endpoint, choice: Choice)
 fn open_call(auto: &Auto, end: &mut Endpoint, choice: Option<Choice>)
     requires closed { Closes choice (is_busy end.old) }
     requires chosen { IsBegunIf end.old.config.sizes.mtu choice auto.now.frames }
-    ensures refines { (config : EndConfig) (r : Runner) → RefinesAt end.old config r.end r.place → Matches choice auto.now.frames (chosen r) → RefinesAt end.new config r.end (place_in config r) }
+    ensures refines { (config : EndConfig) (r : Runner) → RefinesAt end.old config r.end r.place →
+        Matches choice auto.now.frames (chosen r) → RefinesAt end.new config r.end (place_in config r) }
     ensures open { is_busy end.new ≡ true }
     ensures config { end.new.config ≡ end.old.config }
 {
@@ -86,16 +89,17 @@ fn open_call(auto: &Auto, end: &mut Endpoint, choice: Option<Choice>)
     }
 }
 
-/// Is no frame left?
+/// Whether no frame is left to offer.
 fn has_no_frame(auto: &Auto) -> bool
     ensures { result ≡ is_empty auto.now.frames }
 {
     auto.head().is_none()
 }
 
-/// How many looks stand before the next choice of a peer that takes interrupts: one, or 64 where it sleeps.
+/// The most looks before the next choice of a peer whose interrupts are enabled: one, or 64 if the
+/// peer sleeps. None are due while a call is open.
 pub fn looks_due(auto: &Auto, end: &Endpoint) -> u32
-    ensures due { (config : EndConfig) (at : End) (place : places.Place) (plan : peers.Auto) → RefinesAt end.now config at place → IsPlanOf auto.now plan → result ≡ due_at config at place plan }
+    ensures due { AtItsPlace end.now auto.now (λ config at place plan. result ≡ due_at config at place plan) }
     ensures most { result ≤ 64 }
 {
     if end.busy() {
@@ -108,61 +112,75 @@ pub fn looks_due(auto: &Auto, end: &Endpoint) -> u32
     }
 }
 
-/// Does a look come next of a peer that has taken so many looks since its last step?
-pub fn is_look_next(own: Route, due: u32, looks: u32) -> bool
-    ensures value { result ≡ looks_now own due looks }
-    ensures more { result ≡ true → looks < due }
+/// Whether fewer looks than `due` were taken, of which none found a bit.
+fn is_below(looks: Option<u32>, due: u32) -> bool
+    ensures { result ≡ is_below looks due }
 {
-    own.enabled && looks < due
+    match looks {
+        Some(taken) => taken < due,
+        None => false,
+    }
 }
 
-/// How many looks were taken, where one that found a bit is the last.
-fn looks_after(looks: u32, found: u64) -> u32
-    requires { looks < 64 }
+/// Whether the next turn is a look. `own` is the peer's route, and `looks` the looks since its last
+/// step.
+pub fn is_look_next(own: Route, due: u32, looks: Option<u32>) -> bool
+    ensures value { result ≡ looks_now own due looks }
+    ensures more { result ≡ true → is_below looks due ≡ true }
+{
+    own.enabled && is_below(looks, due)
+}
+
+/// The looks after one more, which found this word: none if a bit was set.
+fn looks_after(looks: Option<u32>, found: u64) -> Option<u32>
+    requires { is_below looks 64 ≡ true }
     ensures { result ≡ looks_after looks found }
 {
-    if found == 0 { looks + 1 } else { 64 }
+    match looks {
+        Some(taken) if found == 0 => Some(taken + 1),
+        _ => None,
+    }
 }
 
-/// A turn that is a look. After NoMemory the look was made, and its lines may be missing.
+/// Takes a turn that is a look. After NoMemory the look was made, and its lines may be missing.
 pub fn look_turn(
-    words: &Words,
+    context: &PeerContext<'_>,
     pass: &mut Pass,
-    peers: u32,
-    me: u32,
-    looks: &mut u32,
+    looks: &mut Option<u32>,
     lines: &mut Lines,
 ) -> Result<(), NoMemory>
-    requires of { IsOf words.now.shared.table_id words.now.shared.key pass.old × (peers ≡ words.now.shared.key.geometry.peers) × (0 < length pass.old.lists) }
-    requires own { pass.old.from ≡ me }
-    requires few { looks.old < 64 }
-    ensures { (found : ℕ) × (pass.new ≡ added pass.old (looked found)) × (looks.new ≡ looks_after looks.old found) × OnOk result (lines.new ≡ lines.old ++ interrupt_lines 64 me found) }
+    requires of { IsSeated context.now pass.old }
+    requires routes { HasRoutes context.now }
+    requires few { is_below looks.old 64 ≡ true }
+    ensures { (found : ℕ) × (pass.new ≡ added pass.old (looked found)) × (looks.new ≡ looks_after looks.old found)
+        × OnOk result (lines.new ≡ lines.old ++ interrupt_lines 64 context.now.me found) }
 {
-    let found = look(words, pass, peers, me);
+    let (words, me) = (context.words, context.me);
+    let found = look(words, pass, context.routes.len() as u32, me);
     *looks = looks_after(*looks, found);
     record_interrupts(me, found, lines)
 }
 
-/// Does what a turn does of the step with this access. `_auto` and `_choice` tell the proof which call the access begins.
+/// Makes the access of a step, or a part of its doorbell, as one turn does. For the proof, `_auto`
+/// and `_choice` determine which call the access begins.
 fn take<B: Begins>(
-    words: &Words,
+    context: &PeerContext<'_>,
     pass: &mut Pass,
-    me: u32,
-    routes: &[Route],
     access: Access,
     ringing: bool,
     _auto: &Auto,
     _choice: Option<Choice>,
 ) -> Done
-    requires next { touches access ≡ true → IsNext words.now.shared.key me (derived_state words.now.shared.key me (accesses_in (front pass.old.lists))) B.call access }
-    requires of { IsOf words.now.shared.table_id words.now.shared.key pass.old × (pass.old.from ≡ me) × (0 < length pass.old.lists) }
-    requires routes { AreRoutes words.now.shared.key routes.now }
-    requires may { MayMake words.now.shared.key me access }
-    requires rings { ringing ≡ true → MayRingBy routes.now access (front pass.old.lists) }
-    ensures done { IsDone ringing (is_guarded (doorbell_path_in routes.now access)) result }
-    ensures pass { pass.new ≡ made pass.old (done_of routes.now B.call access result) }
-    ensures rings { awaits_ring result ≡ true → MayRingBy routes.now access (front pass.new.lists) }
+    requires next { touches access ≡ true → IsNextOf context.now pass.old B.call access }
+    requires of { IsSeated context.now pass.old }
+    requires routes { HasRoutes context.now }
+    requires may { MayMake (setup_of context.now) context.now.me access }
+    requires rings { ringing ≡ true → MayRingBy context.now.routes.now access (front pass.old.lists) }
+    ensures done { IsDone ringing (is_guarded (doorbell_path_in context.now.routes.now access)) result }
+    ensures pass { pass.new ≡ made pass.old (done_of context.now.routes.now B.call access result) }
+    ensures rings { awaits_ring result ≡ true → MayRingBy context.now.routes.now access (front pass.new.lists) }
 {
+    let (words, routes) = (context.words, context.routes);
     match access {
         Access::Read(word) => Done::Stepped(load::<B>(words, pass, word)),
         Access::Write(word, value) => {
@@ -170,7 +188,7 @@ fn take<B: Begins>(
             Done::Stepped(0)
         }
         Access::State(state) => {
-            set_state::<B>(words, pass, me, state);
+            set_state::<B>(words, pass, context.me, state);
             Done::Stepped(0)
         }
         Access::Ring { target, vector } => {
@@ -180,47 +198,47 @@ fn take<B: Begins>(
     }
 }
 
-/// The same for the access that begins the call of this choice, or goes on with the open one.
+/// `take` of the access that begins the call of this choice, or that is the next one of the open
+/// call.
 fn take_for(
-    words: &Words,
+    context: &PeerContext<'_>,
     pass: &mut Pass,
-    me: u32,
-    routes: &[Route],
     access: Access,
     ringing: bool,
     auto: &Auto,
     choice: Option<Choice>,
 ) -> Done
-    requires next { touches access ≡ true → IsNext words.now.shared.key me (derived_state words.now.shared.key me (accesses_in (front pass.old.lists))) (call_chosen_by choice auto.now.frames) access }
-    requires of { IsOf words.now.shared.table_id words.now.shared.key pass.old × (pass.old.from ≡ me) × (0 < length pass.old.lists) }
-    requires routes { AreRoutes words.now.shared.key routes.now }
-    requires may { MayMake words.now.shared.key me access }
-    requires rings { ringing ≡ true → MayRingBy routes.now access (front pass.old.lists) }
-    ensures done { IsDone ringing (is_guarded (doorbell_path_in routes.now access)) result }
-    ensures pass { pass.new ≡ made pass.old (done_of routes.now (call_chosen_by choice auto.now.frames) access result) }
-    ensures rings { awaits_ring result ≡ true → MayRingBy routes.now access (front pass.new.lists) }
+    requires next { touches access ≡ true → IsNextOf context.now pass.old (call_chosen_by choice auto.now.frames) access }
+    requires of { IsSeated context.now pass.old }
+    requires routes { HasRoutes context.now }
+    requires may { MayMake (setup_of context.now) context.now.me access }
+    requires rings { ringing ≡ true → MayRingBy context.now.routes.now access (front pass.old.lists) }
+    ensures done { IsDone ringing (is_guarded (doorbell_path_in context.now.routes.now access)) result }
+    ensures pass { pass.new ≡ made pass.old (done_of context.now.routes.now (call_chosen_by choice auto.now.frames) access result) }
+    ensures rings { awaits_ring result ≡ true → MayRingBy context.now.routes.now access (front pass.new.lists) }
 {
-    take::<Brand>(words, pass, me, routes, access, ringing, auto, choice)
+    take::<Brand>(context, pass, access, ringing, auto, choice)
 }
 
 /// An automatic peer between two turns.
 #[derive(Debug, Drop)]
 pub struct AutoPeer {
-    /// What it has to do.
+    /// The frames to offer, and the choices so far.
     pub auto: Auto,
     /// Its end of the link.
     pub end: Endpoint,
-    /// How many looks it has taken since its last step, or 64 where one of them found a bit.
-    pub looks: u32,
+    /// The number of looks since its last step, or none if the last look found a bit.
+    pub looks: Option<u32>,
     /// Whether the ring of a doorbell is to come.
     pub ringing: bool,
-    /// How many sessions it opened.
+    /// The number of sessions that it opened.
     pub opened: u32,
-    /// The number that it stored or loaded for the State step that comes next.
+    /// The session number that it stored or loaded for the State step that comes next.
     pub met: Option<u32>,
 }
 
-/// The session word to which the peer comes before its next step, if that is its State step with 2 or with 3 and it has met no number for it.
+/// The session word of the peer's next turn. There is one before a State step with 2 or with 3,
+/// unless the peer has met a number for that step.
 pub fn word_due(end: &Endpoint, met: Option<u32>) -> Option<SessionWord>
     ensures { (config : EndConfig) (at : End) (place : places.Place) → RefinesAt end.now config at place → result ≡ due_word place met }
 {
@@ -234,20 +252,21 @@ pub fn word_due(end: &Endpoint, met: Option<u32>) -> Option<SessionWord>
     }
 }
 
-/// A turn at a session word: stores the number of the session that the peer opens, or loads the other's. Returns the number.
+/// Takes a turn at a session word: stores the number of the session that the peer opens, or loads
+/// the other peer's. Returns the number.
 pub fn exchange_session_number(
-    words: &Words,
+    context: &PeerContext<'_>,
     pass: &mut Pass,
-    me: u32,
     opened: u32,
     word: SessionWord,
 ) -> u32
-    requires honest { (me < 2) × (honest_of words.now.shared.key me ≡ true) }
-    requires place { (derived_state words.now.shared.key me (accesses_in (front pass.old.lists))).place ≡ WritingState (state_for word) }
-    requires opened { (opened ≡ (derived_state words.now.shared.key me (accesses_in (front pass.old.lists))).numbers.log.opened) × (opened + 1 < 2 ^ 32) }
-    requires of { IsOf words.now.shared.table_id words.now.shared.key pass.old × (pass.old.from ≡ me) × (0 < length pass.old.lists) }
+    requires honest { IsHonest context.now }
+    requires place { (state_of context.now pass.old).place ≡ WritingState (state_for word) }
+    requires opened { (opened ≡ (state_of context.now pass.old).numbers.log.opened) × (opened + 1 < 2 ^ 32) }
+    requires of { IsSeated context.now pass.old }
     ensures { (pass.new ≡ added pass.old (accessed (memory_op_met word result))) × (word ≡ SessionWord.Own → result ≡ opened + 1) }
 {
+    let (words, me) = (context.words, context.me);
     match word {
         SessionWord::Own => {
             store_session(words, pass, me, opened + 1);
@@ -257,7 +276,8 @@ pub fn exchange_session_number(
     }
 }
 
-/// How many sessions are opened after this access, where so many were before it: a State step with 2 opens one.
+/// The number of sessions opened after this access, given the number before. A State step with 2
+/// opens one.
 fn opened_after(opened: u32, access: Access) -> u32
     requires { opened + 1 < 2 ^ 32 }
     ensures { result ≡ opened + opens access }
@@ -268,46 +288,50 @@ fn opened_after(opened: u32, access: Access) -> u32
     }
 }
 
-/// A turn that is no look and meets no number: the next step of the open call, else the first one of the call that was chosen, or the part
-/// of a doorbell that is to come. After NoMemory it was done, and its lines may be missing.
+/// Takes a turn that is no look and meets no number. The turn is the next step of the open call, or
+/// the first one of the call that was chosen, or the ring of a doorbell that is to come.
+///
+/// Returns `NoMemory` if an allocation fails. Then the turn was taken, and its lines may be
+/// missing.
 pub fn take_turn(
-    alloc: Global,
-    words: &Words,
+    context: &PeerContext<'_>,
     pass: &mut Pass,
-    me: u32,
-    routes: &[Route],
     peer: &mut AutoPeer,
     choice: Option<Choice>,
     lines: &mut Lines,
 ) -> Result<(), NoMemory>
-    requires of { IsOf words.now.shared.table_id words.now.shared.key pass.old × (me < 2) × (honest_of words.now.shared.key me ≡ true) }
-    requires routes { AreRoutes words.now.shared.key routes.now }
+    requires of { IsOf context.now.words.now.shared.table_id (setup_of context.now) pass.old }
+    requires honest { IsHonest context.now }
+    requires routes { HasRoutes context.now }
     requires few { peer.old.opened + 1 < 2 ^ 32 }
-    requires turns { (r : Runner) × Turns words.now.shared.key me routes.now r choice pass.old peer.old }
-    ensures turned { (r : Runner) → Turns words.now.shared.key me routes.now r choice pass.old peer.old →
-        (done : Done) × IsDone peer.old.ringing (is_guarded (doorbell_path_in routes.now (access_at (config_in words.now.shared.key me) (place_in (config_in words.now.shared.key me) r)))) done
-        × IsThere words.now.shared.key me routes.now (turned routes.now (config_in words.now.shared.key me) r done) pass.new peer.new.end
-        × IsAutoPeer peer.new (turned routes.now (config_in words.now.shared.key me) r done)
-        × OnOk result (lines.new ≡ lines.old ++ lines_on (config_in words.now.shared.key me) r done) }
+    requires turns { (r : Runner) × IsStepDue context.now r choice pass.old peer.old }
+    ensures turned { (r : Runner) → IsStepDue context.now r choice pass.old peer.old →
+        (done : Done) × IsDone peer.old.ringing (is_guarded_at context.now r) done
+        × IsThere (setup_of context.now) context.now.me context.now.routes.now (after_step context.now r done) pass.new peer.new.end
+        × IsAutoPeer peer.new (after_step context.now r done)
+        × OnOk result (lines.new ≡ lines.old ++ lines_on (end_config context.now) r done) }
     ensures id { pass.new.table_id ≡ pass.old.table_id }
 {
     let first = choice.is_some();
     open_call(&peer.auto, &mut peer.end, choice);
     let access = peer.end.next();
     let (ringing, auto) = (peer.ringing, &peer.auto);
-    let done = take_for(words, pass, me, routes, access, ringing, auto, choice);
-    peer.looks = 0;
+    let done = take_for(context, pass, access, ringing, auto, choice);
+    peer.looks = Some(0);
     peer.ringing = done.awaits_ring();
     if peer.ringing {
-        return record_access(me, access, 0, lines);
+        return record_access(context.me, access, 0, lines);
     }
-    let (opened, met) = (peer.opened, peer.met);
-    peer.opened = opened_after(opened, access);
+    let step = RecordedStep {
+        first,
+        opened: peer.opened,
+        met: peer.met,
+        access,
+    };
+    peer.opened = opened_after(peer.opened, access);
     peer.met = None;
     let taken = peer.end.took(done.value());
     let (end, notes) = (&peer.end, taken.as_slice());
     count_notes(&mut peer.auto, notes);
-    record_step(
-        alloc, me, first, opened, met, access, done, end, notes, lines,
-    )
+    record_step(context.alloc, context.me, step, done, end, notes, lines)
 }

@@ -1,4 +1,4 @@
-//! What a seat knows.
+//! The view of the holder of a range of peers.
 ghost use Rattle.std.specs.Prelude.{List, ℕ};
 ghost use Rattle.std.specs.Borrow.{ftrue};
 ghost use Rattle.peer_runner.specs.Actions.{Action};

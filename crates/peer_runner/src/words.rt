@@ -1,4 +1,4 @@
-//! The words, and the passes by which threads step through them.
+//! The shared words, and the passes by which threads act on them.
 ghost use Rattle.std.specs.Prelude.{◌≡◌, ◌<◌, ◌≤◌, ◌+◌, ◌++◌, ◌∷◌, [], None, IfOk, OnOk, length};
 ghost use Rattle.std.specs.Int.{bit_at};
 ghost use Rattle.scenario_text.specs.Running.{not_running};
@@ -20,10 +20,11 @@ use scenario_text::Scenario;
 use std::alloc::Global;
 use std::marker::{Brand, Model};
 
-/// The words of a region, and those for interrupts and for sessions behind them, which threads share, under the rule of running peers.
+/// The words that threads share, under the rule of running peers: those of a region, then those for
+/// interrupts, then those for sessions.
 pub type Words = Table<u8, View, RunSetup, Rule, Global>;
 
-/// A seat at the words. It is seen as its range of peers, and the list of the actions of each.
+/// A pass for the words. Its model is a range of peers, with the list of each peer's actions.
 #[derive(Drop)]
 pub struct Pass {
     pub(crate) seat: Seat<u8, View>,
@@ -40,7 +41,7 @@ impl Model for Pass {
     ghost invariant = { λ p. p.seat.me.1 ≡ [] };
 }
 
-/// Adds the words of one peer more behind those of the region.
+/// Appends the interrupt words of one more peer.
 fn push_words(words: &mut Vec<u64>, enabled: u32, peer: u32) -> Result<(), NoMemory>
     requires { peer < 32 }
     ensures { OnOk result (words.new.items ≡ words.old.items ++ 0 ∷ bit_at enabled peer ∷ []) }
@@ -50,7 +51,7 @@ fn push_words(words: &mut Vec<u64>, enabled: u32, peer: u32) -> Result<(), NoMem
     Ok(())
 }
 
-/// The words of the region, behind them those of each peer, and last the two session words.
+/// The words of the region, then the interrupt words of each peer, then the two session words.
 fn first_words(alloc: Global, key: &RunSetup) -> Result<Vec<u64>, NoMemory>
     requires { IsFit key.now }
     ensures { IfOk result (λ v. v.items ≡ words_at_start key.now) }
@@ -64,9 +65,13 @@ fn first_words(alloc: Global, key: &RunSetup) -> Result<Vec<u64>, NoMemory>
     Ok(words)
 }
 
-/// The words at their start, and one pass with all peers and empty lists. All words are 0 but those of Interrupt Control.
+/// Returns the words at their start, and one pass with all peers and empty lists. Each word is 0
+/// except the words of Interrupt Control, which are as the scenario's acts leave them.
 ///
-/// NoMemory says that memory ran out.
+/// Returns `NoMemory` if an allocation fails.
+// claim whole, unused: The words of a scenario are the region's, all 0, then each peer's interrupt
+//    word, which is 0, and its Interrupt Control, as the scenario's acts left it, then two session
+//    words, which are 0. One pass has all peers, with empty lists.
 pub fn words_for(alloc: Global, scenario: &Scenario) -> Result<(Words, Pass), NoMemory>
     requires running { not_running (world_of scenario.now) ≡ None }
     ensures whole { IfOk result (λ r. IsWhole (world_of scenario.now) r.0.shared.table_id r.0.shared.key r.1) }
@@ -79,7 +84,7 @@ pub fn words_for(alloc: Global, scenario: &Scenario) -> Result<(Words, Pass), No
     Ok((table, Pass { seat }))
 }
 
-/// Splits at the place that the caller picks by the cut.
+/// `split_pass`, by a cut that the caller picks.
 fn split_at<M: Split<View>>(words: &Words, pass: &mut Pass, from: u32) -> Pass
     requires cut { (M.left ≡ lower from) × (M.right ≡ upper from) }
     requires of { IsOf words.now.shared.table_id words.now.shared.key pass.old }
@@ -92,7 +97,10 @@ fn split_at<M: Split<View>>(words: &Words, pass: &mut Pass, from: u32) -> Pass
     }
 }
 
-/// Gives a pass with the peers of the range from `from` on, and their lists, and leaves the others in `pass`.
+/// Returns a pass with the peers of the range from `from` on, and their lists. The others stay in
+/// `pass`.
+// claim left, right with join_pass: A pass is split and joined with its lists: nothing is lost and
+//    nothing is doubled.
 pub fn split_pass(words: &Words, pass: &mut Pass, from: u32) -> Pass
     requires of { IsOf words.now.shared.table_id words.now.shared.key pass.old }
     requires inside { (pass.old.from ≤ from) × (from ≤ pass.old.from + length pass.old.lists) }
@@ -102,7 +110,7 @@ pub fn split_pass(words: &Words, pass: &mut Pass, from: u32) -> Pass
     split_at::<Brand>(words, pass, from)
 }
 
-/// Takes the other's peers and lists.
+/// Adds the peers and lists of the other pass.
 pub fn join_pass(words: &Words, pass: &mut Pass, other: Pass)
     requires own { IsOf words.now.shared.table_id words.now.shared.key pass.old }
     requires of { IsOf words.now.shared.table_id words.now.shared.key other × (other.from ≡ pass.old.from + length pass.old.lists) }
@@ -112,7 +120,7 @@ pub fn join_pass(words: &Words, pass: &mut Pass, other: Pass)
     words.shared.join_seat::<Both>(&mut pass.seat, seat);
 }
 
-/// A load that adds no action, by which the pass tells what the rule says of its lists.
+/// `learn`, by a play that the caller picks: a load that adds no action.
 fn learn_by<M: Play<u8, View>>(words: &Words, pass: &mut Pass)
     requires tells { LearnsExactly M.then (learns words.now.shared.key) }
     requires of { IsOf words.now.shared.table_id words.now.shared.key pass.old }
@@ -125,9 +133,16 @@ fn learn_by<M: Play<u8, View>>(words: &Words, pass: &mut Pass)
     words.shared.load::<M>(&mut pass.seat, 0);
 }
 
-/// What the rule says of the lists, where the pass has all of them: of two honest peers the pairing of their sessions, that neither refuses,
-/// and that a doorbell that was asked for is rung; of one beside a hostile peer that its sessions carry none; and of all that no interrupt is
-/// found that wasn't rung. The pass stays as it was.
+/// Gives what the rule says of the lists, if the pass has all peers. The pass is unchanged.
+///
+/// - Two honest peers: their sessions are paired, neither refuses, and a doorbell that was asked
+///   for is rung.
+/// - An honest peer opposite a hostile one: its sessions carry none.
+/// - All peers: each interrupt that is found was rung.
+// claim same, told: From the lists of all peers the rule follows, and the pass stays. Of two honest
+//    peers: their sessions are paired, neither refuses, and in a link with events no offer ended
+//    without a doorbell that the other asks for. Next to a hostile peer, sessions carry none. No
+//    interrupt is found that was not rung.
 pub fn learn(words: &Words, pass: &mut Pass)
     requires of { IsOf words.now.shared.table_id words.now.shared.key pass.old }
     ensures same { pass.new ≡ pass.old }

@@ -1,4 +1,5 @@
--- Rows of acts: each act form's row is an act's, and an act is allowed exactly where its row can follow.
+-- Rows of acts: each act form's row is an act's, and an act is allowed exactly if its row can
+-- follow.
 use Rattle.std.proofs.Common.{◌≡◌, ℕ, ◌+◌, ◌≤◌, true, false, List, [], get_or, Some, None, Option, refl, sym, ap}
 use Rattle.std.specs.Option.{option_map_or}
 use Rattle.line_format.specs.Forms.{Fit, FitBytes}
@@ -49,7 +50,7 @@ never : (o : Option ℕ) → option_map_or (λ p. false) o false ≡ false
 never (Some n) = refl
 never None = refl
 
--- at the acts each act is in order
+-- At the acts each act is in order.
 order_is : (d : SoFar) (a : Act) → d.position ≡ AtActs → is_out_of_order d (row_of_act a).form (fields_of_row pieces_of (row_of_act a)) ≡ false
 order_is d (acts.Publish p message) at = rw at (never _)
 order_is d (acts.Sample p from) at = rw at (never _)

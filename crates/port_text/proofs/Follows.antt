@@ -17,7 +17,7 @@ use Rattle.port_text.specs.Scenario.{is_in_range, is_its_peer, is_message_length
 use Rattle.port_text.specs.Judge.{SoFar, world_so_far, is_out_of_order, numbers_in, message_in, fits_sizes, act_of, add, turns_with, judge, step}
 use Rattle.port_text.proofs.TableLaws.{is_table}
 
--- the row can stand after what the lines so far say
+-- The row can follow the lines so far.
 pub record CanFollow (d : SoFar) (r : Row Form) : Type 0 where
   pub values : Fit (pieces_of r.form) r.numbers
   pub bytes : FitBytes (pieces_of r.form) r.frame
@@ -47,9 +47,9 @@ step-row d r can =
     let is = row_of_follows d r can in
     rw (row_printable pieces_of all_forms is_table r is, row_cut pieces_of all_forms is_table r is, finds pieces_of all_forms is_table r.form r.numbers r.frame can.values) (judge-row d r can)
 
--- ---- back
+-- ---- the converse
 
--- the row of a line that was taken
+-- The row of a line that was taken.
 pub record Taken (d : SoFar) (line : List ℕ) (e : SoFar) : Type 0 where
   pub taken : Row Form
   pub line_is_row : line ≡ bare pieces_of taken

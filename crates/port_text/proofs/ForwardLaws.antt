@@ -34,7 +34,7 @@ use Rattle.port_text.proofs.ActRowLaws.{act_of-row, follows_act}
 
 -- ---- rows that follow one another
 
--- each row can follow, and none is the end
+-- Each row can follow, and none is the end.
 abbrev Along : SoFar → List (Row Form) → SoFar → Type 0
 Along d [] e = d ≡ e
 Along d (r ∷ rs) e = CanFollow d r × (has_ended (with_row r d) ≡ false) × Along (with_row r d) rs e
@@ -47,7 +47,7 @@ leads-cons : (d now : SoFar) (line : List ℕ) (lines : List (List ℕ)) (e : So
 leads-cons d now line [] e plain is on leads = absurd leads
 leads-cons d now line (next ∷ more) e plain is on leads = (now, plain, is, on, leads)
 
--- rows up to the last are lines that lead to the end
+-- Rows up to the last are lines that lead to the end.
 leads : (d : SoFar) (rs : List (Row Form)) (e : SoFar) (r : Row Form) (f : SoFar) → Along d rs e → CanFollow e r → with_row r e ≡ f → has_ended f ≡ true → Leads machine d (map (bare pieces_of) (rs ++ r ∷ [])) f
 leads d [] e r f along can gives ended =
     let can' = subst (λ (x : SoFar). CanFollow x r) (sym along) can in
@@ -62,7 +62,7 @@ quiet : (o : Option ℕ) → option_map_or (λ p. false) o false ≡ false
 quiet (Some n) = refl
 quiet None = refl
 
--- with these first flags; where there is one for each peer, `begin` comes next
+-- With these first flags; if each peer has one, `begin` comes next.
 abbrev at_peers : (peers out most : ℕ) → List Bool → SoFar
 at_peers peers out most front = record { position = cond (eqb (length front) peers) AtBegin AtPeer; peers = peers; out = out; most = most; honest = front; acts = [] }
 
@@ -123,14 +123,14 @@ peers_along peers out most front (b ∷ rest) p same all few =
 
 -- ---- the acts
 
--- at the acts of this world, after these
+-- At the acts of this world, after these.
 abbrev pub at_acts : World → List Act → SoFar
 at_acts w front = record { position = AtActs; peers = w.geometry.peers; out = 4 * w.geometry.out; most = w.most; honest = w.honest; acts = front }
 
 quarter : (n : ℕ) → 4 * n / 4 ≡ n
 quarter n = omega arith
 
--- the sizes in bytes are those in words
+-- The sizes in bytes are those in words.
 pub world_is : (w : World) (front : List Act) → IsWorld w → world_so_far (at_acts w front) ≡ record w { acts = front }
 world_is w front is = rw (quarter w.geometry.out, is.table, is.common) refl
 
@@ -193,7 +193,7 @@ begun w = flagged w ++ row Begin [] [] ∷ []
 abbrev acted : World → List (Row Form)
 acted w = begun w ++ map row_of_act w.acts
 
--- up to `begin`
+-- Up to `begin`.
 head_along : (w : World) → IsWorld w → Along at_start (begun w) (at_acts w [])
 head_along w is =
     let g = w.geometry in
@@ -219,7 +219,7 @@ head_along w is =
     grows : (p n : ℕ) → 1 ≤ p → n ≤ p * n
     grows p n le = let one : 1 * n ≤ p * n = mul-le-mul_right n le in omega arith
 
--- the lines of a schedule's rows lead to its end
+-- The lines of a schedule's rows lead to its end.
 pub spelled_leads : (w : World) → IsWorld w → Leads machine at_start (map (bare pieces_of) (rows_of w)) (at_end w)
 spelled_leads w world =
     let acts = acts_along w [] w.acts world (recursion_from_All (IsAllowed w) w.acts world.allowed) refl in

@@ -1,4 +1,4 @@
--- What holds of the lines so far at each place, and that each row that can follow keeps it.
+-- The invariant of the lines so far at each position. Each row that can follow preserves it.
 use Rattle.std.proofs.Common.{◌≡◌, ℕ, zero, suc, ◌+◌, ◌^◌, ◌<◌, ◌≤◌, Bool, true, false, cond, eqb, ◌||◌, not, List, [], ◌∷◌, ◌++◌, length, get_or, map, refl, sym, ap, subst, ◌∙◌, append_assoc, arith, inl, inr}
 use Rattle.std.specs.Prelude.{option_and_then, slice_get, codes, All}
 use Rattle.std.specs.List.{AllByRecursion}
@@ -30,7 +30,7 @@ use Rattle.port_text.proofs.SizeLaws.{HasPort, port_of}
 use Rattle.port_text.proofs.Follows.{CanFollow, with_row}
 use Rattle.port_text.proofs.ActRowLaws.{same_row, act_row, allowed_act}
 
--- ---- the rows before a place
+-- ---- the rows before a position
 
 abbrev sizes_rows : SoFar → List (Row Form)
 sizes_rows d = row Version (1 ∷ []) [] ∷ row Peers (d.peers ∷ []) [] ∷ row Out (d.out ∷ []) [] ∷ row Longest (d.most ∷ []) [] ∷ []
@@ -51,7 +51,7 @@ before AtBegin d = head_so_far d
 before AtActs d = acts_so_far d
 before Ended d = acts_so_far d ++ row End [] [] ∷ []
 
--- ---- what holds at a place
+-- ---- the invariant of a position
 
 pub record Clean (honest : List Bool) (acts : List Act) : Type 0 where
   pub honest_none : honest ≡ []
@@ -60,7 +60,7 @@ pub record Clean (honest : List Bool) (acts : List Act) : Type 0 where
 abbrev pub IsFew : ℕ → Type 0
 IsFew peers = (2 ≤ peers) × (peers ≤ 8)
 
--- the head's sizes are right
+-- The head's sizes are right.
 pub record Measured (peers out most : ℕ) : Type 0 where
   pub few : IsFew peers
   pub region : HasRegion peers 4096 0 out
@@ -69,7 +69,7 @@ pub record Measured (peers out most : ℕ) : Type 0 where
 abbrev pub IsMeasured : SoFar → Type 0
 IsMeasured d = Measured d.peers d.out d.most
 
--- the acts so far are a schedule's
+-- The acts so far are a schedule's.
 pub record Acted (d : SoFar) : Type 0 where
   pub flags : length d.honest ≡ d.peers
   pub allowed : All (IsAllowed (world_so_far d)) d.acts
@@ -89,7 +89,7 @@ pub record Adds (d : SoFar) (r : Row Form) : Type 0 where
   pub rows : before (with_row r d).position (with_row r d) ≡ before d.position d ++ r ∷ []
   pub good : Good (with_row r d).position (with_row r d)
 
--- ---- places
+-- ---- positions
 
 position_at : ℕ → Position
 position_at zero = AtVersion
@@ -139,7 +139,7 @@ peers-push k (c ∷ bs) b = ap (λ (t : List (Row Form)). row_of_peer k c ∷ t)
 head-push : (d : SoFar) (b : Bool) → sizes_rows d ++ rows_of_peers 0 (d.honest ++ b ∷ []) ≡ head_so_far d ++ row_of_peer (length d.honest) b ∷ []
 head-push d b = rw (peers-push 0 d.honest b) (ap (λ (p : ℕ). head_so_far d ++ row_of_peer p b ∷ []) (omega arith))
 
--- a peer line has the number of the next peer
+-- A peer line has the number of the next peer.
 next_peer : (d : SoFar) (w v : List ℕ) (ns frame : List ℕ) → Fit (Word w ∷ any_number ∷ Word v ∷ []) ns
     → option_map_or (λ p. not (eqb p (length d.honest))) (option_and_then number_of (slice_get (spell (Word w ∷ any_number ∷ Word v ∷ []) ns frame) 1)) false ≡ false
     → length d.honest ∷ [] ≡ ns
@@ -171,7 +171,7 @@ peer_good d b good false is =
 
 -- ---- acts
 
--- what is allowed doesn't depend on the acts
+-- Whether an act is allowed doesn't depend on the acts.
 allowed_in : (w : World) (later : List Act) (a : Act) → IsAllowed w a → IsAllowed (record w { acts = later }) a
 allowed_in w later a is = record { values = is.values; bytes = is.bytes; range = is.range; peer = is.peer; message = is.message }
 
@@ -249,6 +249,6 @@ adds End ns frame d can good =
     record { rows = rw at (ap (λ (r : Row Form). acts_so_far d ++ r ∷ []) same); good = (g.0, record { flags = g.1.flags; allowed = g.1.allowed; turns = g.1.turns }) }
 adds form ns frame d can good = adds_act d form ns frame refl refl can good
 
--- a row that can follow keeps what holds, and adds its line
+-- A row that can follow preserves the invariant, and adds its line.
 pub row_adds : (d : SoFar) (r : Row Form) → CanFollow d r → Good d.position d → Adds d r
 row_adds d r can good = adds r.form r.numbers r.frame d can good

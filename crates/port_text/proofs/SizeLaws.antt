@@ -1,11 +1,11 @@
--- The test of a port's sizes says what a port asks for.
+-- The test of a port's sizes is the condition of a port.
 use Rattle.std.proofs.Common.{◌≡◌, ℕ, ◌*◌, ◌≤◌, true, eq-eqb}
 use Rattle.std.proofs.lemmas.Bool.{leb-true, le-leb, eqb-true}
 use Rattle.line_format.proofs.SpellLaws.{both_true}
 use Rattle.line_format.proofs.LineLaws.{are_true}
 use Rattle.port_text.specs.Sizes.{IsMessageSize, port_words, has_port}
 
--- a section of so many words has room for a port
+-- A section of this size has space for a port.
 pub record HasPort (most out : ℕ) : Type 0 where
   pub size : IsMessageSize most
   pub room : 4 * port_words most ≤ out

@@ -1,4 +1,4 @@
--- A text is read exactly where it is the spelling of what is read.
+-- A text is read exactly if it is the spelling of what is read.
 use Rattle.std.proofs.Common.{◌≡◌, ℕ, List, Result, Ok, Err, sym, ap, subst, ◌∙◌}
 use Rattle.std.specs.Result.{IsErrAnd}
 use Rattle.line_format.specs.declared.reading.TextFault.{TextFault}
@@ -16,7 +16,7 @@ use Rattle.port_text.proofs.ReadLaws.{text_fails, same_fault}
 use Rattle.port_text.proofs.ForwardLaws.{is_answered}
 use Rattle.port_text.proofs.BackLaws.{is_read, is_world}
 
--- at the end the lines say a schedule
+-- At the end the value of the lines is a schedule.
 pub is_whole : (bytes : List ℕ) (d : SoFar) → reading bytes ≡ Ok d → IsWhole d
 is_whole bytes d is =
     let r = is_read bytes d is in

@@ -6,7 +6,7 @@ use Rattle.port_text.specs.declared.acts.Act.TheVariants as acts
 use Rattle.port_text.specs.declared.forms.Form.{Form}
 use Rattle.port_text.specs.declared.forms.Form.TheVariants.{Publish, Sample, Turn, Poke}
 
--- the row whose line is the act's
+-- The row whose line is the act's.
 abbrev pub row_of_act : Act → Row Form
 row_of_act (acts.Publish peer message) = row Publish (peer ∷ []) message
 row_of_act (acts.Sample peer from) = row Sample (peer ∷ from ∷ []) []

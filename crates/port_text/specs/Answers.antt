@@ -1,4 +1,4 @@
--- What a call answers, against what the definitions say. Want of memory is the one free answer.
+-- What a call returns, against the definitions. A failed allocation is the one free answer.
 use Rattle.std.specs.Prelude.{◌≡◌, Result, Ok, Err}
 use Rattle.line_format.specs.declared.reading.TextFault.{TextFault}
 use Rattle.line_format.specs.declared.reading.TextFault.TheVariants as texts
@@ -14,16 +14,17 @@ abbrev pub Refuses : {Y : Type 0} → PortsFault → Result Y PortsFault → Typ
 Refuses faults.NoMemory said = Unit {0}
 Refuses fault said = said ≡ Err fault
 
--- what a whole text gives, seen by view, is what the definition says, unless memory ran out
+-- The value of a whole text, through a view, is that of the definition, unless an allocation
+-- failed.
 abbrev pub Reads : {X Y : Type 0} → (X → Y) → Result X PortsFault → Result Y PortsFault → Type 0
 Reads view (Ok x) said = said ≡ Ok (view x)
 Reads view (Err e) said = Refuses e said
 
--- the schedule is the one, or the fault is the one, unless memory ran out
+-- The schedule or the fault is that of the definition, unless an allocation failed.
 abbrev pub Answers : Result Scenario PortsFault → Result World PortsFault → Type 0
 Answers result said = Reads world_of result said
 
--- bytes after the end are a line that is bad
+-- Bytes after the end are a faulty line.
 abbrev pub fault_of_text : TextFault Cause → PortsFault
 fault_of_text texts.NoMemory = faults.NoMemory
 fault_of_text (texts.At cause n) = fault_at cause n

@@ -1,4 +1,4 @@
--- A draft as what its lines say.
+-- A draft as the value of its lines.
 use Rattle.std.specs.Prelude.{◌≡◌, true}
 use Rattle.scenario_text.specs.Sizes.{is_geometry}
 use Rattle.port_text.specs.declared.drafts.Draft.{Draft}
@@ -8,7 +8,7 @@ use Rattle.port_text.specs.Judge.{SoFar, world_so_far}
 abbrev pub so_far : Draft → SoFar
 so_far d = record { position = d.position; peers = d.peers; out = d.out; most = d.most; honest = d.honest; acts = d.acts }
 
--- the lines say a schedule of ports
+-- The value of the lines is a schedule of ports.
 pub record IsWhole (d : SoFar) : Type 0 where
   pub geometry : is_geometry d.peers 4096 0 d.out ≡ true
   pub world : IsWorld (world_so_far d)

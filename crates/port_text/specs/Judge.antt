@@ -1,4 +1,4 @@
--- Reading line by line: what a good line adds, and what is wrong with a bad one.
+-- Reading line by line: the effect of a line, and the fault of a faulty one.
 use Rattle.std.specs.Prelude.{ℕ, ◌+◌, ◌==◌, ◌||◌, not, nat_lt, if◌then◌else◌, Bool, true, false, List, [], ◌∷◌, ◌++◌, length, slice_index, slice_get, Option, Some, None, Result, Ok, Err, option_and_then}
 use Rattle.std.specs.List.{list_all}
 use Rattle.std.specs.Option.{option_map_or}
@@ -23,7 +23,8 @@ use Rattle.port_text.specs.Table.{pieces_of, all_forms}
 use Rattle.port_text.specs.Acts.{cost, turns_of}
 use Rattle.port_text.specs.Scenario.{World, is_in_range, is_its_peer, is_message_length}
 
--- what the lines so far say, with sizes in bytes; what no line has said yet is 0 or empty
+-- The value of the lines so far, with sizes in bytes. The default of a line that wasn't read is 0
+-- or empty.
 pub record SoFar : Type 0 where
   pub position : Position
   pub peers : ℕ
@@ -32,7 +33,7 @@ pub record SoFar : Type 0 where
   pub honest : List Bool
   pub acts : List Act
 
--- the world that they describe
+-- The world of the lines so far.
 abbrev pub world_so_far : SoFar → World
 world_so_far d = record { geometry = ports_shape d.peers d.out; most = d.most; honest = d.honest; acts = d.acts }
 
@@ -48,7 +49,7 @@ ordinal_of AtBegin = 5
 ordinal_of AtActs = 6
 ordinal_of Ended = 7
 
--- where a form can stand
+-- The position of a form.
 abbrev pub position_of : Form → Position
 position_of Version = AtVersion
 position_of Peers = AtPeers
@@ -59,13 +60,14 @@ position_of Hostile = AtPeer
 position_of Begin = AtBegin
 position_of _ = AtActs
 
--- the rule of order that speaks of P: the head's peers come in order
+-- The order rule about peer p: the head's peers come in order.
 abbrev pub is_out_of_turn : SoFar → Form → ℕ → Bool
 is_out_of_turn d Honest p = not (p == length d.honest)
 is_out_of_turn d Hostile p = not (p == length d.honest)
 is_out_of_turn d _ p = false
 
--- it is tested here only where P's field is a number
+-- The line is out of order at this position; the rule about a peer applies only if the peer's field
+-- is a number.
 abbrev pub is_out_of_order : SoFar → Form → List (List ℕ) → Bool
 is_out_of_order d form fields =
     not (ordinal_of (position_of form) == ordinal_of d.position)
@@ -86,15 +88,15 @@ message_in d form fields =
 
 -- BadGeometry
 
--- the region is judged on the `out` line, and the ports on the `message` line
+-- The region is judged on the `out` line, and the ports on the `message` line.
 abbrev pub fits_sizes : SoFar → Form → List ℕ → Bool
 fits_sizes d Out ns = is_geometry d.peers 4096 0 (slice_index ns 0)
 fits_sizes d Longest ns = has_port (slice_index ns 0) d.out
 fits_sizes d _ ns = true
 
--- What a line adds
+-- The effect of a line
 
--- the form is that of an act
+-- Whether the form is that of an act.
 abbrev pub is_act : Form → Bool
 is_act Publish = true
 is_act Sample = true
@@ -114,7 +116,7 @@ with_peer b d =
 abbrev pub with_act : Act → SoFar → SoFar
 with_act act d = record d { acts = d.acts ++ act ∷ [] }
 
--- the act of a row, where the form is that of an act
+-- The act of a row, if the form is that of an act.
 abbrev pub act_of : Form → List ℕ → List ℕ → Option Act
 act_of Publish ns bytes = Some (acts.Publish (slice_index ns 0) bytes)
 act_of Sample ns bytes = Some (acts.Sample (slice_index ns 0) (slice_index ns 1))
@@ -169,7 +171,7 @@ has_ended d = ordinal_of d.position == 7
 abbrev pub machine : Machine SoFar Cause
 machine = record { step = step; ended = has_ended }
 
--- what a text says, or what is wrong with it first
+-- The value of a text, or its first fault.
 abbrev pub reading : List ℕ → Result SoFar (Wrong Cause)
 reading bytes = read machine at_start bytes
 
@@ -184,13 +186,13 @@ fault_at BadMessage n = faults.BadMessage n
 fault_at BadGeometry n = faults.BadGeometry n
 fault_at TooManyTurns n = faults.TooManyTurns n
 
--- bytes after the end are a line that is bad
+-- Bytes after the end are a faulty line.
 abbrev pub fault_of : Wrong Cause → PortsFault
 fault_of (At cause n) = fault_at cause n
 fault_of (After n) = faults.BadLine n
 fault_of NoEnd = faults.NoEnd
 
--- the same with the fault that is answered
+-- The same with the fault that is returned.
 abbrev pub faulted : Result SoFar (Wrong Cause) → Result SoFar PortsFault
 faulted (Ok d) = Ok d
 faulted (Err wrong) = Err (fault_of wrong)
@@ -199,6 +201,6 @@ abbrev pub world_in : Result SoFar PortsFault → Result World PortsFault
 world_in (Ok d) = Ok (world_so_far d)
 world_in (Err fault) = Err fault
 
--- the schedule that a text spells, or its first fault
+-- The schedule that a text spells, or its first fault.
 abbrev pub answer : List ℕ → Result World PortsFault
 answer bytes = world_in (faulted (reading bytes))

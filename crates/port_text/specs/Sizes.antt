@@ -3,18 +3,18 @@ use Rattle.std.specs.Prelude.{ℕ, ◌≡◌, ◌+◌, ◌*◌, ◌/◌, ◌%◌
 use Rattle.section_map.specs.Geometry.{Shape}
 use Rattle.section_map.specs.Faults.{shape_of}
 
--- a message has at most so many bytes: a multiple of 4 from 4 to 65,536
+-- A message has at most `most` bytes: a multiple of 4 from 4 to 65,536.
 abbrev pub IsMessageSize : ℕ → Type 0
 IsMessageSize most = (most % 4 ≡ 0) × (4 ≤ most) × (most ≤ 65536)
 
--- the words of a port: the sequence, and two buffers of a length and the data
+-- The number of words of a port: the sequence, and two buffers of a length and the data.
 abbrev pub port_words : ℕ → ℕ
 port_words most = 3 + most / 2
 
--- the region of ports: its State Table has 4,096 bytes, and it has no common section
+-- The region of ports: its State Table has 4,096 bytes, and it has no common section.
 abbrev pub ports_shape : (peers out : ℕ) → Shape
 ports_shape peers out = shape_of peers 4096 0 out
 
--- a section of so many bytes has room for a port with messages of this size
+-- A section of `out` bytes has space for a port with messages of at most `most` bytes.
 abbrev pub has_port : (most out : ℕ) → Bool
 has_port most out = most % 4 == 0 && nat_le 4 most && nat_le most 65536 && nat_le (4 * port_words most) out

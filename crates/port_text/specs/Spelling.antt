@@ -1,4 +1,5 @@
--- Schedules of ports as texts: the rows of a schedule, one line each. So a schedule has one spelling.
+-- Schedules of ports as texts: the rows of a schedule, one line each. So a schedule has one
+-- spelling.
 use Rattle.std.specs.Prelude.{◌≡◌, ℕ, ◌+◌, ◌*◌, Bool, true, false, List, [], ◌∷◌, ◌++◌, map}
 use Rattle.line_format.specs.Rows.{Row, row, text_of}
 use Rattle.port_text.specs.declared.forms.Form.{Form}
@@ -8,7 +9,7 @@ use Rattle.port_text.specs.Table.{pieces_of}
 use Rattle.port_text.specs.ActRows.{row_of_act}
 use Rattle.port_text.specs.Scenario.{World, IsWorld}
 
--- what the value says
+-- The value of the schedule.
 abbrev pub world_of : Scenario → World
 world_of s = record { geometry = s.geometry; most = s.most; honest = s.honest; acts = s.acts }
 
@@ -16,12 +17,12 @@ abbrev pub row_of_peer : ℕ → Bool → Row Form
 row_of_peer p true = row Honest (p ∷ []) []
 row_of_peer p false = row Hostile (p ∷ []) []
 
--- the peers in their order, from p on
+-- The peers in their order, from p on.
 abbrev pub rows_of_peers : ℕ → List Bool → List (Row Form)
 rows_of_peers p [] = []
 rows_of_peers p (b ∷ bs) = row_of_peer p b ∷ rows_of_peers (p + 1) bs
 
--- the version and the sizes, in bytes
+-- The version and the sizes, in bytes.
 abbrev pub sizes_rows : World → List (Row Form)
 sizes_rows w =
     row Version (1 ∷ []) []
@@ -30,14 +31,14 @@ sizes_rows w =
     ∷ row Longest (w.most ∷ []) []
     ∷ []
 
--- the sizes, the peers, `begin`, the acts, `end`
+-- The sizes, the peers, `begin`, the acts, `end`.
 abbrev pub rows_of : World → List (Row Form)
 rows_of w = sizes_rows w ++ rows_of_peers 0 w.honest ++ row Begin [] [] ∷ [] ++ map row_of_act w.acts ++ row End [] [] ∷ []
 
--- the one text of a schedule
+-- The one text of a schedule.
 abbrev pub spelling : World → List ℕ
 spelling w = text_of pieces_of (rows_of w)
 
--- the bytes spell the schedule
+-- The bytes spell the schedule.
 abbrev pub IsSpelling : World → List ℕ → Type 0
 IsSpelling w bytes = IsWorld w × (bytes ≡ spelling w)

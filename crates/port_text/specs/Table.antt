@@ -5,7 +5,7 @@ use Rattle.scenario_text.specs.Table.{any_number, u32_number}
 use Rattle.port_text.specs.declared.forms.Form.{Form}
 use Rattle.port_text.specs.declared.forms.Form.TheVariants.{Version, Peers, Out, Longest, Honest, Hostile, Begin, Publish, Sample, Turn, Poke, End}
 
--- what stands in the fields of a line of this form
+-- The fields of a line of this form.
 abbrev pub pieces_of : Form → List Piece
 pieces_of Version = Word (codes "ports") ∷ Number 1 1 ∷ []
 pieces_of Peers = Word (codes "peers") ∷ Number 2 8 ∷ []

@@ -1,4 +1,4 @@
-//! What the lines after `begin` ask for.
+//! The acts of a schedule: the lines after `begin`.
 ghost use Rattle.std.specs.Prelude.{◌≡◌, ◌++◌, [], ◌∷◌, OnOk, OnErr};
 ghost use Rattle.port_text.specs.Acts.{cost};
 
@@ -6,7 +6,7 @@ use ivs_base::NoMemory;
 use std::alloc::Global;
 use std::marker::Model;
 
-/// A message of a port: any list of bytes.
+/// A message of a port: a list of any bytes.
 #[derive(Debug, Drop)]
 pub struct Message {
     bytes: Vec<u8>,
@@ -21,14 +21,14 @@ impl Model for Message {
 }
 
 impl Message {
-    /// A message of these bytes, which takes no further memory.
+    /// Returns a message of these bytes, without an allocation.
     pub fn of(bytes: Vec<u8>) -> Message
         ensures { result ≡ bytes.items }
     {
         Message { bytes }
     }
 
-    /// The bytes of the message, from its first.
+    /// Returns the bytes of the message, in their order.
     pub fn bytes(&self) -> &[u8]
         ensures { result.now ≡ self.now }
     {
@@ -36,21 +36,21 @@ impl Message {
     }
 }
 
-/// One line after `begin`: what happens next. `peer` is the peer that the line names.
+/// One line after `begin`: the next act. `peer` is the peer that the line names.
 #[derive(Debug, Drop)]
 pub enum Act {
-    /// Queues the publish of this message. The peer is an honest one.
+    /// Queues the publish of this message. The peer is honest.
     Publish { peer: u32, message: Message },
-    /// Queues a sample of the peer `from`, which may be the same one. The peer is an honest one.
+    /// Queues a sample of the peer `from`, which may be `peer` itself. The peer is honest.
     Sample { peer: u32, from: u32 },
-    /// This many steps of the peer, at most 4,000,000.
+    /// Takes `steps` turns of the peer, at most 4,000,000.
     Turn { peer: u32, steps: u32 },
-    /// The peer, a hostile one, writes a word of the region, or is denied.
+    /// The peer, a hostile one, writes a word of the region, or is denied the write.
     Poke { peer: u32, word: u32, value: u32 },
 }
 
 impl Act {
-    /// How many acts the line counts for: `turn P K` for K, any other for 1.
+    /// Returns the number of acts that the line counts for: `turn P K` for K, any other for 1.
     pub fn cost(&self) -> u64
         ensures { result ≡ cost self.now }
     {
@@ -77,7 +77,7 @@ impl Model for Acts {
 }
 
 impl Acts {
-    /// The empty list.
+    /// Returns the empty list.
     pub fn new(alloc: Global) -> Self
         ensures { result ≡ [] }
     {
@@ -86,7 +86,10 @@ impl Acts {
         }
     }
 
-    /// Puts the act last. After NoMemory the list is unchanged and the act is dropped.
+    /// Appends the act. After `NoMemory` the list is unchanged and the act is dropped.
+    // claim ok, err with Acts::new, Acts::items, Message::of, Message::bytes, Act::cost: A list has
+    //    the items that were appended, in order; a failed call changes nothing. A message has its
+    //    bytes, and an act its cost in steps.
     pub fn push(&mut self, item: Act) -> Result<(), NoMemory>
         ensures ok { OnOk result (self.new ≡ self.old ++ item ∷ []) }
         ensures err { OnErr result (self.new ≡ self.old) }
@@ -97,7 +100,7 @@ impl Acts {
         }
     }
 
-    /// The whole list.
+    /// Returns the whole list.
     pub fn items(&self) -> &[Act]
         ensures { result.now ≡ self.now }
     {

@@ -1,4 +1,4 @@
-//! What the lines so far say.
+//! The value of the lines so far.
 ghost use Rattle.std.specs.Prelude.{◌≡◌, ◌≤◌, ◌^◌};
 ghost use Rattle.port_text.specs.Acts.{turns_of};
 
@@ -6,7 +6,8 @@ use crate::acts::Acts;
 use crate::positions::Position;
 use scenario_text::Flags;
 
-/// A text of which some lines are read. What no line has said yet is 0 or empty; sizes are in bytes.
+/// A text of which a prefix of the lines was read. The default of a line that wasn't read is 0 or
+/// empty. Sizes are in bytes.
 #[derive(Drop)]
 pub struct Draft {
     pub(crate) position: Position,
@@ -15,7 +16,7 @@ pub struct Draft {
     pub(crate) most: u32,
     pub(crate) honest: Flags,
     pub(crate) acts: Acts,
-    /// How many acts these count for.
+    /// The number that the acts count for.
     pub(crate) turns: u64,
     ghost few: { peers ≤ 8 },
     ghost section: { out ≤ 2 ^ 24 },

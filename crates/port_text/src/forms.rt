@@ -6,7 +6,7 @@ ghost use Rattle.port_text.specs.Table.{pieces_of, all_forms};
 
 use line_format::{FieldKind, has_form};
 
-/// A form of a line. Two words at one place are two forms.
+/// A form of a line. Two words at one position make two forms.
 #[derive(Clone, Copy, Debug, PartialEq, Eq)]
 pub enum Form {
     /// `ports 1`
@@ -55,7 +55,7 @@ const ANY: FieldKind = FieldKind::Number(0, u64::MAX);
 const U32: FieldKind = FieldKind::Number(0, u32::MAX as u64);
 
 impl Form {
-    /// What stands in the fields of the form.
+    /// Returns the fields of the form.
     pub fn slots(self) -> &'static [FieldKind]
         ensures value { pieces result.now ≡ pieces_of self }
         ensures few { length result.now ≤ 6 }
@@ -81,7 +81,7 @@ impl Form {
     }
 }
 
-/// The form of a line with these fields.
+/// Returns the form of a line with these fields, if it has one.
 #[tactic(auto, unfolding(line_format::specs::Rows::find_form))]
 pub fn form_of(fields: &[&[u8]]) -> Option<Form>
     ensures { result ≡ find_form pieces_of all_forms (texts fields.now) }

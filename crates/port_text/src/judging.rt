@@ -16,20 +16,20 @@ use crate::positions::Position;
 use line_format::{number, number_at};
 use section_map::Geometry;
 
-/// The bytes of the State Table of the region.
+/// The size of the region's State Table, in bytes.
 pub const TABLE: u32 = 4_096;
 
-/// The most bytes of the longest message.
+/// The greatest size of a port's messages, in bytes.
 const LONGEST: u32 = 65_536;
 
-/// The flag of this peer, where it has one.
+/// Returns the flag of peer `p`, or false if there is none.
 fn flag(flags: &[bool], p: u64) -> bool
     ensures { result ≡ slice_index_or flags.now p false }
 {
     flags.get(p as usize).copied().unwrap_or(false)
 }
 
-/// Do the rules of order that speak of the peer forbid the line here?
+/// Whether the order rules about peer `p` forbid the line here.
 fn is_out_of_turn(draft: &Draft, form: Form, p: u64) -> bool
     ensures { result ≡ is_out_of_turn (so_far draft.now) form p }
 {
@@ -39,7 +39,7 @@ fn is_out_of_turn(draft: &Draft, form: Form, p: u64) -> bool
     }
 }
 
-/// Isn't the line allowed at this place?
+/// Whether the line is forbidden at this position.
 pub fn is_out_of_order(draft: &Draft, form: Form, fields: &[&[u8]]) -> bool
     ensures { result ≡ is_out_of_order (so_far draft.now) form (texts fields.now) }
 {
@@ -55,14 +55,14 @@ pub fn is_out_of_order(draft: &Draft, form: Form, fields: &[&[u8]]) -> bool
     }
 }
 
-/// The words of the region.
+/// Returns the number of words of the region.
 fn words(draft: &Draft) -> u64
     ensures { result ≡ word_count (ports_shape draft.now.peers draft.now.out) }
 {
     u64::from(TABLE / 4) + u64::from(draft.peers) * (draft.out / 4)
 }
 
-/// Are the numbers in the ranges that depend on the head?
+/// Whether the numbers are in the ranges that depend on the head.
 pub fn is_in_range(draft: &Draft, form: Form, numbers: &[u64]) -> bool
     ensures small { IsTrue result → IsTrue (is_sample form) → slice_index numbers.now 1 < 8 }
     ensures value { result ≡ is_in_range (world_so_far (so_far draft.now)) form numbers.now }
@@ -92,7 +92,7 @@ fn is_hostile(draft: &Draft, p: u64) -> bool
     is_peer(draft, p) && !flag(draft.honest.items(), p)
 }
 
-/// Is the peer there, and of the kind that the form asks for?
+/// Whether the region has the peer, and the peer is of the kind that the form requires.
 pub fn is_its_peer(draft: &Draft, form: Form, numbers: &[u64]) -> bool
     ensures small { IsTrue result → IsTrue (is_act form) → slice_index numbers.now 0 < 8 }
     ensures value { result ≡ is_its_peer (world_so_far (so_far draft.now)) form numbers.now }
@@ -106,7 +106,7 @@ pub fn is_its_peer(draft: &Draft, form: Form, numbers: &[u64]) -> bool
     }
 }
 
-/// Has the message of a publish 1 byte to the most bytes?
+/// Whether the message of a publish has 1 byte to the most bytes.
 pub fn is_message_length(draft: &Draft, form: Form, size: u64) -> bool
     ensures { result ≡ is_message_length (world_so_far (so_far draft.now)) form size }
 {
@@ -116,21 +116,21 @@ pub fn is_message_length(draft: &Draft, form: Form, size: u64) -> bool
     }
 }
 
-/// Do these sizes have a region?
+/// Whether a region of these sizes exists.
 fn is_geometry(peers: u32, out: u64) -> bool
     ensures { result ≡ is_geometry peers 4096 0 out }
 {
     Geometry::new(peers, TABLE, 0, out).is_ok()
 }
 
-/// Has a section of so many bytes room for a port with messages of this size?
+/// Whether a section of `out` bytes has space for a port with messages of at most `most` bytes.
 fn has_port(most: u32, out: u64) -> bool
     ensures { result ≡ has_port most out }
 {
     most % 4 == 0 && 4 <= most && most <= LONGEST && 4 * (3 + u64::from(most) / 2) <= out
 }
 
-/// On the lines `out` and `message`: do the sizes fit?
+/// Whether the sizes fit after a line `out` or `message`.
 pub fn fits_sizes(draft: &Draft, form: Form, numbers: &[u64]) -> bool
     requires { AreInRange (pieces_of form) numbers.now }
     ensures { result ≡ fits_sizes (so_far draft.now) form numbers.now }
@@ -142,7 +142,7 @@ pub fn fits_sizes(draft: &Draft, form: Form, numbers: &[u64]) -> bool
     }
 }
 
-/// The act of a line, where its form is that of an act.
+/// Returns the act of a line, if its form is that of an act.
 pub fn act_of(form: Form, numbers: &[u64], message: Message) -> Option<Act>
     requires limits { AreInRange (pieces_of form) numbers.now }
     requires peer { IsTrue (is_act form) → slice_index numbers.now 0 < 8 }

@@ -1,7 +1,9 @@
-//! Schedules of sampling ports as values and as text: a region's sizes, the most bytes of a message, the kinds of the peers, and what they
-//! do. It stands on `line_format` for lines and forms, on `scenario_text` for the sizes of a region, and on `section_map` for the region
-//! itself. Its contracts promise that a value has one spelling, that parsing answers exactly where the bytes are one, and that each fault
-//! is the first in the order of the format (docs/PORTS.md).
+//! Schedules of sampling ports as values and as text: a region's sizes, the most bytes of a
+//! message, the kinds of the peers, and their acts. The crate uses `line_format` for lines and
+//! forms, `scenario_text` for the sizes of a region, and `section_map` for the region itself. Its
+//! contracts promise that each value has one spelling. They promise that parsing succeeds exactly
+//! if the bytes are a spelling, and that each fault is the first in the order of the format
+//! (docs/COMMANDS.md).
 #![tactic(auto)]
 
 mod acts;

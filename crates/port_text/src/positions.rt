@@ -1,10 +1,10 @@
-//! Where in a text of ports the next line stands.
+//! The position of the next line in a text of ports.
 ghost use Rattle.std.specs.Prelude.{◌≡◌};
 ghost use Rattle.port_text.specs.Judge.{ordinal_of, position_of};
 
 use crate::forms::Form;
 
-/// The place of the next line.
+/// The kind of the next line.
 #[derive(Clone, Copy, Debug, PartialEq, Eq)]
 pub enum Position {
     AtVersion,
@@ -18,7 +18,7 @@ pub enum Position {
 }
 
 impl Position {
-    /// The number of the place, from 0.
+    /// Returns the number of the position, from 0.
     pub fn ordinal(self) -> u8
         ensures { result ≡ ordinal_of self }
     {
@@ -34,7 +34,7 @@ impl Position {
         }
     }
 
-    /// Where lines of the form can stand.
+    /// Returns the position at which lines of the form can be.
     pub fn of(form: Form) -> Position
         ensures { result ≡ position_of form }
     {

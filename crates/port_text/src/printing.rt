@@ -11,7 +11,7 @@ use crate::scenarios::Scenario;
 use line_format::put_line;
 use std::alloc::AllocError;
 
-/// Puts the line of a form last.
+/// Appends the line of a form.
 #[tactic(auto, unfolding(line_format::specs::Rows::line_of_row))]
 fn put(out: &mut Vec<u8>, form: Form, numbers: &[u64], bytes: &[u8]) -> Result<(), AllocError>
     ensures { OnOk result (out.new.items ≡ out.old.items ++ line_of_row pieces_of (row form numbers.now bytes.now)) }
@@ -75,7 +75,7 @@ fn put_acts(out: &mut Vec<u8>, acts: &[Act]) -> Result<(), AllocError>
     Ok(())
 }
 
-/// The lines up to the sizes.
+/// Appends the lines up to the sizes.
 fn put_sizes(out: &mut Vec<u8>, scenario: &Scenario) -> Result<(), AllocError>
     ensures { OnOk result (out.new.items ≡ out.old.items ++ text_of pieces_of (sizes_rows (world_of scenario.now))) }
 {
@@ -86,7 +86,9 @@ fn put_sizes(out: &mut Vec<u8>, scenario: &Scenario) -> Result<(), AllocError>
     put(out, Form::Longest, &[u64::from(scenario.most)], &[])
 }
 
-/// Puts the text of the schedule, which is its one spelling, last.
+/// Appends the text of the schedule, which is its one spelling.
+// claim with printed_is_read_again: `put_scenario` writes the one spelling, which is read as the
+//    same schedule.
 pub fn put_scenario(out: &mut Vec<u8>, scenario: &Scenario) -> Result<(), AllocError>
     ensures { OnOk result (out.new.items ≡ out.old.items ++ spelling (world_of scenario.now)) }
 {

@@ -19,7 +19,7 @@ use scenario_text::Flags;
 use section_map::Geometry;
 use std::alloc::Global;
 
-/// The geometry of sizes that have a region.
+/// Returns the geometry of sizes that have a region.
 fn geometry(peers: u32, out: u64) -> Geometry
     requires { is_geometry peers 4096 0 out ≡ true }
     ensures { result ≡ ports_shape peers out }
@@ -31,7 +31,7 @@ fn geometry(peers: u32, out: u64) -> Geometry
 }
 
 impl Draft {
-    /// The draft of a text of which nothing is read.
+    /// Returns the draft of a text before its first line.
     pub fn new(alloc: Global) -> Draft
         ensures { so_far result ≡ at_start }
     {
@@ -46,7 +46,7 @@ impl Draft {
         }
     }
 
-    /// What the lines up to the end say.
+    /// Returns the value of the lines up to the end.
     pub fn finish(self) -> Scenario
         requires { IsWhole (so_far self) }
         ensures { world_of result ≡ world_so_far (so_far self) }
@@ -67,13 +67,17 @@ impl Draft {
     }
 }
 
-/// The schedule that the text spells, or the first fault of the text, in one pass over it. NoMemory says that memory ran out.
+/// Returns the schedule that the text spells, or the first fault of the text, in one pass over it.
+/// Returns `NoMemory` if an allocation fails.
+// claim found, only: `parse` reads exactly what the bytes spell, or answers NoMemory. Each schedule
+//    has 2 to 8 peers with room for a port, each act allowed, and at most 4,000,000 turns.
+// claim exact with fault_is_first, Cause::at: A refusal is the first fault, in the format's order.
 pub fn parse(alloc: Global, bytes: &[u8]) -> Result<Scenario, PortsFault>
-    // What is read is spelled so.
+    // The text is a spelling of the schedule that is read.
     ensures found { IfOk result (λ scenario. IsSpelling (world_of scenario) bytes.now) }
-    // What is spelled so is read, unless memory ran out.
+    // A spelling of a schedule is read as that schedule, unless an allocation fails.
     ensures only { (w : World) → IsSpelling w bytes.now → Answers result (Ok w) }
-    // Which fault it is.
+    // The fault that is returned.
     ensures exact { Answers result (answer bytes.now) }
 {
     let mut draft = Draft::new(alloc);

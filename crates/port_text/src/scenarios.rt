@@ -6,14 +6,15 @@ use crate::acts::Acts;
 use scenario_text::Flags;
 use section_map::Geometry;
 
-/// A region, the most bytes of a message, the kinds of the peers, and what they do. There are just the values that have a spelling.
+/// A region, the most bytes of a message, the kinds of the peers, and their acts. Each value has a
+/// spelling.
 #[derive(Debug, Drop)]
 pub struct Scenario {
-    /// The sizes of the region: its table has 4,096 bytes, and it has no common section.
+    /// The sizes of the region: its State Table has 4,096 bytes, and it has no common section.
     pub geometry: Geometry,
     /// The most bytes of a message.
     pub most: u32,
-    /// For each peer, from peer 0, whether it is honest.
+    /// Whether each peer is honest, from peer 0.
     pub honest: Flags,
     /// The schedule.
     pub acts: Acts,

@@ -23,7 +23,7 @@ use std::alloc::Global;
 /// The most acts of a schedule.
 const MOST_TURNS: u64 = 4_000_000;
 
-/// The numbers of the line, if each is one and in its range.
+/// Returns the numbers of the line, if each of them is a number in its range.
 fn numbers(draft: &Draft, form: Form, fields: &[&[u8]]) -> Option<ArrayVec<u64, 6>>
     ensures value { option_map (λ v. v.items) result ≡ numbers_in (so_far draft.now) form (texts fields.now) }
     ensures limits { IfSome result (λ v. AreInRange (pieces_of form) v.items) }
@@ -36,8 +36,8 @@ fn numbers(draft: &Draft, form: Form, fields: &[&[u8]]) -> Option<ArrayVec<u64, 
     Some(numbers)
 }
 
-/// The message of the line, empty where its form has none, if its digits spell one that fits. Digits that are too many or too few are
-/// not read.
+/// Returns the message of the line, if its digits spell one that fits. The message is empty if the
+/// form has none. Digits of a wrong number are not read.
 fn message(
     alloc: Global,
     draft: &Draft,

@@ -1,4 +1,5 @@
--- The machine values of a `Loose`: taken apart into a pointer and an allocator's handle, and made of them. Assumes `Logic`.
+-- The machine values of a `Loose`: split into a pointer and an allocator's handle, and made of
+-- them. Assumes `Logic`.
 use Rattle.std.proofs.Common.{◌≡◌, ℕ, List, [], ◌∷◌, ◌++◌, refl, subst}
 use mathlib.Core.Bool.{true, ◌&&◌}
 use lib.Dec.{T}

@@ -1,5 +1,6 @@
-//! A box taken apart into its pointer and its allocator, and made again. It stands on the kit's `std_alloc`. Its contracts promise that the
-//! value stays the same both ways. It serves a handle that crosses to C, where no `Box` may cross.
+//! A box as its pointer and its allocator, and the box again. The crate uses the kit's `std_alloc`.
+//! Its contracts promise that the value is unchanged both ways. It serves a handle that crosses to
+//! C, where no `Box` can cross.
 #![tactic(auto)]
 
 ghost use Rattle.std.specs.Prelude.{◌≡◌};
@@ -8,7 +9,7 @@ ghost use Rattle.std_alloc.specs.Box.Ownership.{box_owns};
 use std::alloc::Allocator;
 use std::marker::Model;
 
-/// A box, of which the pointer and the allocator are seen. It owns what the box owned.
+/// A box with a visible pointer and allocator. It owns what the box owned.
 pub struct Loose<T, A: Allocator> {
     pub at: *mut T,
     pub alloc: A,
@@ -20,7 +21,8 @@ impl<T, A: Allocator> Model for Loose<T, A> {
 }
 
 impl<T: Drop, A: Allocator> Loose<T, A> {
-    /// Takes the box apart.
+    /// Splits the box into its pointer and its allocator.
+    // claim with Loose::into_box: A box that is taken apart and made again has the same value.
     pub fn of(value: Box<T, A>) -> Loose<T, A>
         ensures { result.value ≡ value.value }
     {
@@ -28,7 +30,7 @@ impl<T: Drop, A: Allocator> Loose<T, A> {
         Loose { at, alloc }
     }
 
-    /// Makes the box again.
+    /// Returns the box.
     pub fn into_box(self) -> Box<T, A>
         ensures { result.value ≡ self.value }
     {

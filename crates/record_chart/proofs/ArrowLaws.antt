@@ -5,7 +5,7 @@ use Rattle.lawful_history.specs.declared.line.Line.{Line}
 use Rattle.record_chart.specs.declared.arrows.Arrow.{Arrow}
 use Rattle.record_chart.specs.Arrows.{begins_session, delivers, accepted_after, acceptances, delivered_after, delivery_count, source_of, arrow_to, arrows_after}
 
--- the lines before a place, the newest first
+-- The lines before index `at`, newest first.
 abbrev pub past : ℕ → List Line → List Line
 past at lines = reverse (take at lines)
 
@@ -36,7 +36,7 @@ at_most_one false false count at le = omega arith
 pub delivered_few : (peer : ℕ) (line : Line) (count at : ℕ) → count ≤ at → delivered_after peer line count ≤ at + 1
 delivered_few peer line count at le = at_most_one (begins_session peer line) (delivers peer line) count at le
 
--- the arrows so far, with those of the lines that are left
+-- The arrows so far, with those of the rest of the lines.
 abbrev pub all_arrows : (peer first at : ℕ) → List Arrow → List Line → List Arrow
 all_arrows peer first at arrows lines = arrows ++ arrows_after peer first (past at lines) (drop at lines)
 

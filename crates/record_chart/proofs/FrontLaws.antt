@@ -1,4 +1,4 @@
--- A picture of the first lines of a record, where the others don't change it.
+-- A picture of the first lines of a record that no further line changes.
 use Rattle.std.proofs.Common.{ℕ, zero, suc, ◌≡◌, ◌+◌, ◌-◌, ◌<◌, ◌≤◌, Bool, true, false, List, [], ◌∷◌, ◌++◌, length, take, drop, refl, ap, sym, ◌∙◌, arith, subst, inl, inr, length-append, length-take, length-drop}
 use Rattle.std.proofs.lemmas.Bool.{cases_lt}
 use Rattle.std.proofs.lemmas.List.{append-nil, take_all, take-append-le, drop-append-le}
@@ -11,7 +11,7 @@ use Rattle.record_chart.specs.declared.pictures.Picture.{Picture}
 use Rattle.record_chart.specs.Rows.{goes_on, goes_on_after, row_of_one, put_before, storms_of, rows_of, lines_between}
 use Rattle.record_chart.specs.Pictures.{count_of, rows_between, pair_arrows, IsPicture, IsPictureOfFront}
 
--- ---- the first rows stay
+-- ---- the first rows don't change
 
 heads : (r s : Row) (rs ss : List Row) (j : ℕ) → take (suc j) (r ∷ rs) ≡ take (suc j) (s ∷ ss) → (r ≡ s) × (take j rs ≡ take j ss)
 heads r s rs ss j e = (cc, cc)
@@ -34,7 +34,7 @@ put_some false n (row ∷ rows) = omega arith
 some_rows : (storms : List ℕ) (n : ℕ) (line : Line) (lines : List Line) → 0 < length (rows_of storms n (line ∷ lines))
 some_rows storms n line lines = put_some (goes_on_after storms line lines) n (rows_of storms (n + 1) lines)
 
--- lines at the end change no row but the last
+-- Lines at the end change no row but the last.
 pub rows_stay : (storms : List ℕ) (n : ℕ) (lines more : List Line) (k : ℕ) → k < length (rows_of storms n lines) → take k (rows_of storms n (lines ++ more)) ≡ take k (rows_of storms n lines)
 rows_stay storms n [] more k below = absurd (omega (arith, below))
 rows_stay storms n (line ∷ []) more zero below = refl
@@ -51,7 +51,7 @@ put_counts true n (row ∷ rows) =
     omega (arith, old, new)
 put_counts false n (row ∷ rows) = sum_by-cons (λ (r : Row). r.count) (row_of_one n) (row ∷ rows)
 
--- the rows count all lines
+-- The rows count all lines.
 pub rows_count : (storms : List ℕ) (n : ℕ) (lines : List Line) → count_of (rows_of storms n lines) ≡ length lines
 rows_count storms n [] = refl
 rows_count storms n (line ∷ lines) =
@@ -62,12 +62,12 @@ rows_count storms n (line ∷ lines) =
 -- ---- the lines asked for
 
 module _ (world : World) (front : List Line) (first last : ℕ) (picture : Picture) (is : IsPicture world front first last picture) where
-  -- no line comes after them
+  -- No line comes after them.
   pub none_after : (count : ℕ) → count ≡ 0 → IsPictureOfFront world front count first last picture
   none_after count none [] number = subst (λ (ls : List Line). IsPicture world ls first last picture) (sym (append-nil front)) is
   none_after count none (line ∷ others) number = absurd (omega (arith, number, none))
 
-  -- the last line asked for is one of them
+  -- The last line asked for is one of them.
   pub none_asked : (count : ℕ) → first ≤ last → last ≤ length front → IsPictureOfFront world front count first last picture
   none_asked count some within others number =
       let same : lines_between first last (front ++ others) ≡ lines_between first last front = ap (drop (first - 1)) (take-append-le last front others within) in
@@ -81,7 +81,7 @@ module _ (world : World) (front : List Line) (first last : ℕ) (picture : Pictu
         arrows = is.arrows ∙ ap (pair_arrows world first) (sym (take-append-le (first - 1 + count_of picture.rows.items) front others drawn));
       }
 
-  -- there are more rows than are drawn
+  -- There are more rows than are drawn.
   long : 0 < picture.left_out → 2000 < length (rows_between world first last front)
   long some =
       let rows = rows_between world first last front in
@@ -93,7 +93,7 @@ module _ (world : World) (front : List Line) (first last : ℕ) (picture : Pictu
             absurd (omega (arith, all, is.left_out, some))
       ]
 
-  -- others are asked for, and left out too
+  -- Others are asked for, and left out too.
   pub more_left_out : (count left_out : ℕ) → 0 < picture.left_out → length front < last → ((others : List Line) → length others ≡ count → left_out ≡ picture.left_out + length (take (last - length front) others)) →
       IsPictureOfFront world front count first last (record picture { left_out = left_out })
   more_left_out count left_out some beyond sum others number =

@@ -1,5 +1,5 @@
--- A delivery of an honest pair has the arrow from the acceptance of the same frame: the numbers of acceptances and deliveries go with the lists of the link
--- machine.
+-- A delivery of an honest pair has the arrow from the acceptance of the same frame. The counts of
+-- acceptances and deliveries are the lengths of the lists of the link machine.
 use Rattle.std.proofs.Common.{ℕ, zero, suc, ◌≡◌, ◌==◌, ◌&&◌, ◌+◌, ◌-◌, ◌<◌, Bool, true, false, if◌then◌else◌, List, [], ◌∷◌, ◌++◌, length, reverse, Some, slice_get, refl, ap, sym, ◌∙◌, subst, arith, append_assoc}
 use Rattle.std.proofs.lemmas.Bool.{eqb-true}
 use Rattle.std.proofs.lemmas.List.{reverse-append, reverse-reverse, length-reverse, length_push}
@@ -120,7 +120,7 @@ deliveries_are p (line ∷ older) = ap (delivered_after p line) (deliveries_are 
 
 -- ---- where the frames of a side were accepted
 
--- this is the number of a line, counted from 1, at which this frame was accepted
+-- This is the number of a line, counted from 1, at which this frame was accepted.
 record IsAcceptance (q : ℕ) (before : List Line) (number : ℕ) (frame : List ℕ) : Type 0 where
   pub place : ℕ
   pub number_is : number ≡ place + 1

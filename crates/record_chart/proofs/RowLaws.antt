@@ -1,11 +1,12 @@
--- How the rows of what is left of a list go on from a row that is still growing.
+-- The rows of the rest of a list, after a row that still grows.
 use Rattle.std.proofs.Common.{ℕ, ◌≡◌, ◌==◌, ◌+◌, ◌-◌, ◌<◌, ◌≤◌, Bool, true, false, List, [], ◌∷◌, ◌++◌, length, take, drop, get_or, refl, ap, sym, ◌∙◌, arith, append_assoc}
 use Rattle.std.proofs.lemmas.List.{drop_more, drop_all, take_at, take_all, get_or_read}
 use Rattle.lawful_history.specs.declared.line.Line.{Line}
 use Rattle.record_chart.specs.declared.rows.Row.{Row}
 use Rattle.record_chart.specs.Rows.{goes_on, goes_on_after, row_of_one, put_before, rows_of}
 
--- the rows of what begins with the last line of a growing row, where the first of them counts the lines before it too
+-- The rows of a list that begins with the last line of a growing row; the first row counts the
+-- lines before it too.
 abbrev pub grown : Row → List Row → List Row
 grown growing [] = []
 grown growing (row ∷ rows) = record { first = growing.first; count = (growing.count + row.count) - 1 } ∷ rows
@@ -38,11 +39,11 @@ stops_at growing number m b [] = fresh m 1 (1 + 1 - 1) [] refl growing
 stops_at growing number m true (row ∷ rows) = fresh m (row.count + 1) (1 + (row.count + 1) - 1) rows (omega arith) growing
 stops_at growing number m false (row ∷ rows) = fresh m 1 (1 + 1 - 1) (row ∷ rows) refl growing
 
--- the rows of what is left from the line before place `at`, with the row that grows
+-- The rows of the rest from the line before index `at`, with the row that grows.
 abbrev pub rest_of : List ℕ → (first at : ℕ) → Row → List Line → List Row
 rest_of storms first at growing lines = grown growing (rows_of storms (first + (at - 1)) (drop (at - 1) lines))
 
--- what begins at the line before place `at` is that line, the next, and what is after them
+-- The list from the line before index `at` is that line, the next, and the lines after them.
 two_more : (lines : List Line) (at : ℕ) (d : Line) → 1 ≤ at → at < length lines →
     drop (at - 1) lines ≡ get_or lines (at - 1) d ∷ get_or lines at d ∷ drop (at + 1) lines
 two_more lines at d some below =
@@ -53,7 +54,7 @@ two_more lines at d some below =
 one_more : (lines : List Line) (at : ℕ) (d : Line) → at < length lines → drop at lines ≡ get_or lines at d ∷ drop (at + 1) lines
 one_more lines at d below = drop_more lines at d below
 
--- the rows from the line before `at`, by those from `at` on
+-- The rows from the line before index `at`, by those from `at` on.
 rows-two : (storms : List ℕ) (first at : ℕ) (lines : List Line) (d : Line) → 1 ≤ at → at < length lines →
     rows_of storms (first + (at - 1)) (drop (at - 1) lines) ≡ put_before (goes_on storms (get_or lines (at - 1) d) (get_or lines at d)) (first + (at - 1))
     (rows_of storms (first + (at - 1) + 1) (get_or lines at d ∷ drop (at + 1) lines))
@@ -124,7 +125,7 @@ ends storms first at growing (line ∷ lines) some all =
     drop_more whole (at - 1) line (omega arith) ∙ ap (λ (ls : List Line). get_or whole (at - 1) line ∷ ls) (drop_all (at - 1 + 1) whole (omega arith)) in
     ap (λ (ls : List Line). grown growing (rows_of storms (first + (at - 1)) ls)) one ∙ last_row growing (first + (at - 1))
 
--- as many rows as there may be
+-- The greatest number of rows.
 pub capped : (items rest all : List Row) (growing : Row) → length (items ++ growing ∷ []) ≡ 2000 → items ++ growing ∷ rest ≡ all →
     items ++ growing ∷ [] ≡ take 2000 all
 capped items rest all growing most is =

@@ -11,7 +11,7 @@ one_row storms number line = record { first = refl; count = refl; some = omega a
 renumbered : (storms : List ℕ) (rows : List Row) (lines : List Line) (a b : ℕ) → a ≡ b → AreRowsOf storms a rows lines → AreRowsOf storms b rows lines
 renumbered storms rows lines a b e are = subst (λ (n : ℕ). AreRowsOf storms n rows lines) e are
 
--- a line before the run of a row, which goes on from it
+-- A line before the run of a row that continues it.
 joined : (storms : List ℕ) (number : ℕ) (line : Line) (row : Row) (run rest : List Line) → true ≡ goes_on_after storms line (run ++ rest) →
     IsRowOf storms (number + 1) row run →
     IsRowOf storms number (record { first = number; count = row.count + 1 }) (line ∷ run)

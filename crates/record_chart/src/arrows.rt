@@ -1,4 +1,4 @@
-//! Which frame was accepted where.
+//! The lines at which frames were accepted.
 ghost use Rattle.std.specs.Prelude.{◌≡◌, ℕ, ◌+◌, ◌-◌, ◌<◌, ◌≤◌, ◌^◌, ◌++◌, ◌∷◌, if◌then◌else◌, IfOk, OnOk, length, slice_get};
 ghost use Rattle.record_chart.specs.Arrows.{begins_session, accepts, delivers, accepted_after, delivered_after, arrow_to, arrows_of};
 
@@ -6,35 +6,36 @@ use ivs_base::NoMemory;
 use lawful_history::Line;
 use std::alloc::Global;
 
-/// An arrow of a picture: from the line where a frame was accepted to the line where it was delivered, counted from 1.
+/// An arrow of a picture: from the line where a frame was accepted to the line where it was
+/// delivered. Lines count from 1.
 #[derive(Clone, Copy, Debug, PartialEq, Eq)]
 pub struct Arrow {
     pub from: u64,
     pub to: u64,
 }
 
-/// Does the peer write State 2?
+/// Whether the line is the peer's write of State 2.
 fn begins_session(peer: u32, line: &Line) -> bool
     ensures { result ≡ begins_session peer line.now }
 {
     matches!(line, Line::State { peer: writer, value } if *writer == peer && *value == 2)
 }
 
-/// Was a frame of the peer accepted?
+/// Whether the line accepts a frame of the peer.
 fn accepts(peer: u32, line: &Line) -> bool
     ensures { result ≡ accepts peer line.now }
 {
     matches!(line, Line::Accept { peer: sender, .. } if *sender == peer)
 }
 
-/// Was a frame delivered to the peer?
+/// Whether the line delivers a frame to the peer.
 fn delivers(peer: u32, line: &Line) -> bool
     ensures { result ≡ delivers peer line.now }
 {
     matches!(line, Line::Deliver { peer: receiver, .. } if *receiver == peer)
 }
 
-/// Keeps at which lines a peer accepted a frame in its session.
+/// Updates the numbers of the lines at which a peer accepted a frame in its session.
 fn put_acceptance(
     acceptances: &mut Vec<u64>,
     peer: u32,
@@ -51,7 +52,7 @@ fn put_acceptance(
     Ok(())
 }
 
-/// How many frames a peer delivered in its session, after a line.
+/// Returns the number of frames that a peer delivered in its session, after a line.
 fn delivered_after(peer: u32, line: &Line, count: usize) -> usize
     requires { count < 2 ^ 64 - 1 }
     ensures { result ≡ delivered_after peer line.now count }
@@ -65,14 +66,14 @@ fn delivered_after(peer: u32, line: &Line, count: usize) -> usize
     }
 }
 
-/// The number at a place, if there is one.
+/// Returns the number at an index, if there is one.
 fn number_at(numbers: &[u64], place: usize) -> Option<u64>
     ensures { result ≡ slice_get numbers.now place }
 {
     numbers.get(place).copied()
 }
 
-/// Puts the arrow to a line last, if there is one.
+/// Appends the arrow to a line, if there is one.
 fn put_arrow(
     arrows: &mut Vec<Arrow>,
     peer: u32,
@@ -92,7 +93,9 @@ fn put_arrow(
     Ok(())
 }
 
-/// Of these lines, the first of a history, the arrows to the deliveries of a link peer, from the line numbered `first` on.
+/// Returns the arrows to the deliveries of a link peer, from line number `first` on. `lines` is a
+/// prefix of a history.
+// claim: An arrow leads to a delivery from the other's acceptance at the same place in its session.
 pub fn arrows_of(
     alloc: Global,
     peer: u32,

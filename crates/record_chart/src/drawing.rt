@@ -14,7 +14,7 @@ use record_text::Trace;
 use scenario_text::Scenario;
 use std::alloc::{AllocError, Global};
 
-/// The colours, for light paper and for dark.
+/// The colours, for light paper and for dark paper.
 const STYLE: &str = "<style>
 text{font:11px system-ui,sans-serif;fill:#1f2328}
 .title{font-size:14px;font-weight:600}
@@ -54,7 +54,7 @@ text{fill:#e6edf3}
 </style>
 ";
 
-/// What a row is drawn as.
+/// The shape of a row.
 #[derive(Clone, Copy, Debug, PartialEq, Eq)]
 enum Shape {
     Read,
@@ -70,7 +70,7 @@ enum Shape {
     Mark,
 }
 
-/// What a row is drawn as, whose first line this is.
+/// Returns the shape of a row, by its first line.
 fn shape_of(storms: &[u32], line: &Line, row: &Row) -> Shape {
     match line {
         Line::Read { .. }
@@ -93,7 +93,7 @@ fn shape_of(storms: &[u32], line: &Line, row: &Row) -> Shape {
     }
 }
 
-/// The class of a row's words.
+/// Returns the class of a row's words.
 fn words_class(shape: Shape) -> &'static str {
     match shape {
         Shape::Warning | Shape::Lost | Shape::Reset => "warn",
@@ -148,7 +148,7 @@ fn put_mark(
     }
 }
 
-/// Draws a row: its number, its mark and its words.
+/// Draws a row: its number, its mark and its label.
 fn put_row(
     alloc: Global,
     sheet: &mut Sheet,
@@ -181,7 +181,7 @@ fn put_row(
     )
 }
 
-/// The row of the line of this number, or the first or the last row.
+/// Returns the index of the row of this line, or of the first or the last row.
 fn row_of(rows: &[Row], number: u64) -> usize {
     let mut found = 0;
     for (at, row) in rows.iter().enumerate() {
@@ -226,14 +226,14 @@ fn put_arrow(
     }
 }
 
-/// Draws what the colour of a state, 0 to 3, is.
+/// Draws the legend of the colour of a state, 0 to 3.
 fn put_state(sheet: &mut Sheet, state: u32) -> Result<(), NoMemory> {
     let x = 16 + 66 * u64::from(state.min(3));
     sheet.rect(state_class(state), x, 38, 10, 10)?;
     sheet.words("soft", x + 14, 47, state_name(state))
 }
 
-/// Draws what stands over the rows: what the colours and marks are, and the columns' heads.
+/// Draws the part above the rows: the legend of colours and marks, and the heads of the columns.
 fn put_heads(alloc: Global, sheet: &mut Sheet, scenario: &Scenario) -> Result<(), NoMemory> {
     sheet.words("number", 48, TOP - 14, "line")?;
     for state in 0..4 {
@@ -258,7 +258,7 @@ fn put_heads(alloc: Global, sheet: &mut Sheet, scenario: &Scenario) -> Result<()
     Ok(())
 }
 
-/// Which lines of a history of so many are shown: so many, from this one on.
+/// Returns the title: the numbers of the lines shown, `shown` of `total` lines from `first` on.
 fn title_of(alloc: Global, first: u64, shown: u64, total: u64) -> Result<String, AllocError> {
     if shown == 0 {
         return format!(in alloc; "No history lines from {first} on: there are {total}");
@@ -267,7 +267,7 @@ fn title_of(alloc: Global, first: u64, shown: u64, total: u64) -> Result<String,
     format!(in alloc; "History lines {first} to {last} of {total}")
 }
 
-/// Writes the head of the file: its size, its title and what it shows.
+/// Writes the head of the file: its size, its title and its description.
 fn put_start(
     alloc: Global,
     sheet: &mut Sheet,
@@ -300,7 +300,7 @@ fn put_start(
     sheet.words("title", 16, 24, title.as_str())
 }
 
-/// Draws faint stripes, by which the eye keeps to a row.
+/// Draws faint stripes that help the eye to follow a row.
 fn put_stripes(sheet: &mut Sheet, peers: u32, rows: usize) -> Result<(), NoMemory> {
     let width = column_x(peers) - GUTTER;
     for at in 0..rows.min(4000) {
@@ -311,7 +311,7 @@ fn put_stripes(sheet: &mut Sheet, peers: u32, rows: usize) -> Result<(), NoMemor
     Ok(())
 }
 
-/// Draws what stands under the rows.
+/// Draws the part below the rows.
 fn put_end(alloc: Global, sheet: &mut Sheet, picture: &Picture) -> Result<(), NoMemory> {
     let base = row_y(picture.rows.len()) + 20;
     if picture.left_out > 0 {
@@ -322,8 +322,8 @@ fn put_end(alloc: Global, sheet: &mut Sheet, picture: &Picture) -> Result<(), No
     sheet.raw("</svg>\n")
 }
 
-/// The SVG file of a picture of the lines of a record from this number on. The record has so many lines, of which the trace has all that are
-/// shown and those before them.
+/// Returns the SVG file of a picture of the lines of a record from line `first` on. The record has
+/// `total` lines. The trace has all lines that are shown, and those before them.
 pub fn draw(
     alloc: Global,
     trace: &Trace,

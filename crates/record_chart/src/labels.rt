@@ -1,4 +1,4 @@
-//! What stands beside the mark of a row.
+//! The label of a row, next to its mark.
 
 use crate::rows::Row;
 use crate::words::{value_text, word_name};
@@ -8,10 +8,10 @@ use scenario_text::Scenario;
 use split_ring::{FieldName, Refused};
 use std::alloc::{AllocError, Global};
 
-/// How many bytes of a frame are shown.
+/// The number of bytes of a frame that are shown.
 const FIRST_BYTES: usize = 6;
 
-/// The name of a state. Every state above 3 counts as RUN.
+/// Returns the name of a state. Every state above 3 counts as RUN.
 pub fn state_name(state: u32) -> &'static str {
     match state {
         0 => "RESET",
@@ -22,7 +22,7 @@ pub fn state_name(state: u32) -> &'static str {
     }
 }
 
-/// A count with a comma before each three digits.
+/// Returns a count with a comma before each three digits.
 pub fn grouped(alloc: Global, count: u64) -> Result<String, AllocError> {
     let thousands = count / 1000;
     let rest = count % 1000;
@@ -37,7 +37,7 @@ pub fn grouped(alloc: Global, count: u64) -> Result<String, AllocError> {
     }
 }
 
-/// `3 turns`, or `1 turn`.
+/// Returns `3 turns`, or `1 turn`.
 fn counted(alloc: Global, count: u64, one: &str, many: &str) -> Result<String, AllocError> {
     if count == 1 {
         return format!(in alloc; "1 {one}");
@@ -46,7 +46,7 @@ fn counted(alloc: Global, count: u64, one: &str, many: &str) -> Result<String, A
     format!(in alloc; "{count} {many}")
 }
 
-/// The length of a frame and its first bytes.
+/// Returns the length of a frame and its first bytes.
 fn frame_text(alloc: Global, verb: &str, frame: &Frame) -> Result<String, AllocError> {
     let bytes = frame.bytes();
     let size = bytes.len();
@@ -55,7 +55,7 @@ fn frame_text(alloc: Global, verb: &str, frame: &Frame) -> Result<String, AllocE
     format!(in alloc; "{verb} {size} bytes {first}{more}")
 }
 
-/// The field of a refusal, as the record names it.
+/// Returns the name of a refusal's field, as in a record.
 fn field_text(field: FieldName) -> &'static str {
     match field {
         FieldName::AvailIndex => "AvailIndex",
@@ -68,14 +68,14 @@ fn field_text(field: FieldName) -> &'static str {
     }
 }
 
-/// A field and the value that was refused.
+/// Returns a field and the value that was refused.
 fn refusal_text(alloc: Global, refused: &Refused) -> Result<String, AllocError> {
     let field = field_text(refused.field);
     let value = refused.value;
     format!(in alloc; "refuses {field} {value}")
 }
 
-/// A write.
+/// Returns the label of a write.
 fn one_write_text(
     alloc: Global,
     scenario: &Scenario,
@@ -88,7 +88,7 @@ fn one_write_text(
     format!(in alloc; "{name} = {value}")
 }
 
-/// What the lines of a row are together.
+/// How the lines of a row belong together.
 #[derive(Clone, Copy, Debug, PartialEq, Eq)]
 pub enum Folded {
     One,
@@ -96,7 +96,7 @@ pub enum Folded {
     Clear(u64),
 }
 
-/// What the writes of a row are together, in which this peer stands first.
+/// Returns how the writes of a row belong together. `peer` makes the first of them.
 pub fn folded_of(storms: &[u32], peer: u32, row: &Row) -> Folded {
     if row.count == 1 {
         Folded::One
@@ -107,7 +107,7 @@ pub fn folded_of(storms: &[u32], peer: u32, row: &Row) -> Folded {
     }
 }
 
-/// A write, or the writes that share a row.
+/// Returns the label of a write, or of the writes that share a row.
 fn write_text(
     alloc: Global,
     scenario: &Scenario,
@@ -128,7 +128,7 @@ fn write_text(
         Folded::One => one_write_text(alloc, scenario, peer, word, value),
     }
 }
-/// What a step on the device is called.
+/// Returns the label of a device access.
 fn device_text(alloc: Global, line: &Line) -> Result<String, AllocError> {
     match line {
         Line::ConfigRead {
@@ -163,7 +163,7 @@ fn device_text(alloc: Global, line: &Line) -> Result<String, AllocError> {
     }
 }
 
-/// The name of a register, by its byte.
+/// Returns the name of a register, by its byte offset.
 fn register_name(offset: u32) -> &'static str {
     match offset {
         0 => " ID",
@@ -175,7 +175,7 @@ fn register_name(offset: u32) -> &'static str {
     }
 }
 
-/// What a mark says.
+/// Returns the label of a mark.
 fn mark_text(alloc: Global, line: &Line) -> Result<String, AllocError> {
     match line {
         Line::Saw { value, .. } => {
@@ -199,7 +199,7 @@ fn mark_text(alloc: Global, line: &Line) -> Result<String, AllocError> {
     }
 }
 
-/// A write of the Doorbell register.
+/// Returns the label of a write of the Doorbell register.
 fn bell_text(alloc: Global, peer: u32, target: u32, vector: u32) -> Result<String, AllocError> {
     if target == peer {
         return format!(in alloc; "rings itself, vector {vector}");
@@ -207,7 +207,7 @@ fn bell_text(alloc: Global, peer: u32, target: u32, vector: u32) -> Result<Strin
     format!(in alloc; "rings {target}, vector {vector}")
 }
 
-/// What stands beside the mark of a row, whose first line this is.
+/// Returns the label of a row, by its first line.
 pub fn label_of(
     alloc: Global,
     scenario: &Scenario,

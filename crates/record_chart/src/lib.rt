@@ -1,17 +1,26 @@
-//! A picture of a record: which lines of a history share a row, which arrows lead from a frame's acceptance to its delivery, and the
-//! SVG file that shows them. It stands on `record_text` for records. Its contracts promise that the rows are the lines of the
-//! record, each once and in order, and that a delivered frame of an honest pair has the arrow from its own acceptance.
+//! A picture of a record: the lines of a history that share a row, the arrows from a frame's
+//! acceptance to its delivery, and the SVG file that shows them. The crate uses `record_text` for
+//! records. Its contracts promise that the rows are the lines of the record, each once and in
+//! order. They promise that a delivered frame of an honest pair has the arrow from its own
+//! acceptance.
 //!
 //! # Design
 //!
-//! - A picture needs the first lines of a record. A line at the end changes no row but the last, so once there are more rows than are drawn
-//!   the rest changes only how many lines are left out; and lines after the last one asked for change nothing. `picture_of_front` says so,
-//!   and tells where more lines have to be known. So `ivshm_chart` reads the rest of a large record, judges and forgets it.
-//! - The rows are defined from the end: a line is put before the rows of the lines after it, into the first of them where that goes on from
-//!   it. The code goes the other way, with the row that grows; `rows_are_the_lines` is a law on the definition.
-//! - Writes of a peer that storms are folded, and not those that a scenario's `poke` asks for: they are what an attack shows.
-//! - An arrow goes by places since the two State writes of 2, and not by the frames' bytes, of which two may be alike. That both ends of an
-//!   arrow have the same frame follows from the rows of the link machine.
+//! - A picture needs only the first lines of a record. A line at the end changes no row but the
+//!   last one. So once there are more rows than are drawn, further lines change only the number of
+//!   lines that are left out. Lines after the last one asked for change nothing. `picture_of_front`
+//!   promises this, and returns nothing if more lines are needed. So `ivshm_chart` reads the rest
+//!   of a large record, judges it and drops it.
+//! - The rows are defined from the end: a line is put before the rows of the lines after it, into
+//!   the first of them if that row continues it. The code goes the other way, with the row that
+//!   grows. `rows_are_the_lines` is a law on the definition.
+//! - Writes of a storm are folded, and those of a scenario's `poke` lines are not, since they are
+//!   what an attack shows.
+//! - An arrow is found by counts since each peer's write of State 2, and not by the frames' bytes,
+//!   since two frames may be equal. That both ends of an arrow have the same frame follows from the
+//!   rows of the link machine.
+// tested: The SVG file around the rows and arrows, by `checks/pictures`, which also reads it as
+//    XML.
 #![tactic(auto)]
 
 mod arrows;

@@ -2,12 +2,12 @@
 
 use lawful_history::Line;
 
-/// The line of this number, counted from 1, if there is one.
+/// Returns the line of this number, counted from 1, if there is one.
 pub fn line_at(lines: &[Line], number: u64) -> Option<&Line> {
     lines.get(number.checked_sub(1)? as usize)
 }
 
-/// The peer of a line: whose access or mark it is, or to whom it came.
+/// Returns the peer of a line: the peer of its access or mark, or the target of its interrupt.
 pub fn peer_of(line: &Line) -> u32 {
     match line {
         Line::Read { peer, .. }

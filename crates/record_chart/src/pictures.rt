@@ -1,4 +1,4 @@
-//! What a picture shows of a record.
+//! The content of a picture.
 ghost use Rattle.std.specs.Prelude.{◌≡◌, ℕ, ◌+◌, ◌-◌, ◌<◌, ◌≤◌, ◌^◌, ◌++◌, IfOk, IfSome, OnOk, length};
 ghost use Rattle.scenario_text.specs.Spelling.{world_of};
 ghost use Rattle.scenario_text.specs.Scenario.{is_link};
@@ -13,12 +13,12 @@ use record_text::Trace;
 use scenario_text::Scenario;
 use std::alloc::Global;
 
-/// What a picture shows of a history.
+/// The content of a picture of a history.
 #[derive(Debug, Drop)]
 pub struct Picture {
-    /// The rows, 2,000 at most.
+    /// The rows, at most 2,000.
     pub rows: Vec<Row>,
-    /// How many lines that were asked for come after the rows.
+    /// The number of lines that were asked for and come after the rows.
     pub left_out: u64,
     /// The peers that storm.
     pub storms: Vec<u32>,
@@ -26,7 +26,7 @@ pub struct Picture {
     pub arrows: Vec<Arrow>,
 }
 
-/// The lines from one number to another, counted from 1.
+/// Returns the lines from number `first` to number `last`, counted from 1.
 fn lines_between(lines: &[Line], first: u64, last: u64) -> &[Line]
     requires { 1 ≤ first }
     ensures between { result.now ≡ lines_between first last lines.now }
@@ -38,7 +38,7 @@ fn lines_between(lines: &[Line], first: u64, last: u64) -> &[Line]
     &front[start..]
 }
 
-/// Is it an honest link peer?
+/// Whether the peer is an honest link peer.
 pub fn is_link(scenario: &Scenario, peer: u32) -> bool
     ensures { result ≡ is_link (world_of scenario.now) peer }
 {
@@ -51,7 +51,8 @@ pub fn is_link(scenario: &Scenario, peer: u32) -> bool
             .unwrap_or(false)
 }
 
-/// The arrows to the deliveries of an honest pair in these lines, the first of a history, from the line numbered `first` on.
+/// Returns the arrows to the deliveries of an honest pair, from line number `first` on. The lines
+/// are a prefix of a history.
 fn pair_arrows(
     alloc: Global,
     scenario: &Scenario,
@@ -69,7 +70,10 @@ fn pair_arrows(
     Ok(arrows)
 }
 
-/// What a picture of these lines of a record shows: from one number to another, counted from 1. NoMemory says that memory ran out.
+/// Returns the picture of the lines of a record from number `first` to number `last`, counted from
+/// 1. Returns `NoMemory` if an allocation fails.
+// claim: A picture has the first 2,000 rows of the lines asked for, and the lines after them are
+//    counted. A frame that a hostile peer sent has no arrow.
 pub fn picture_of(alloc: Global, trace: &Trace, first: u64, last: u64) -> Result<Picture, NoMemory>
     requires { 1 ≤ first }
     ensures { IfOk result (IsPicture (world_of trace.now.scenario) trace.now.lines first last) }
@@ -92,8 +96,11 @@ pub fn picture_of(alloc: Global, trace: &Trace, first: u64, last: u64) -> Result
     })
 }
 
-/// What a picture shows of a record of which the trace has the first lines, and so many others come after them: the same whatever those are.
-/// There is none where more lines have to be known. NoMemory says that memory ran out.
+/// Returns the picture of a record of which `trace` has the first lines, and `others` lines follow.
+/// The picture is the same for all lines that follow. Returns nothing if more lines are needed.
+/// Returns `NoMemory` if an allocation fails.
+// claim: A picture of the first lines of a record is that of the whole, if the other lines change
+//    only how many are left out.
 pub fn picture_of_front(
     alloc: Global,
     trace: &Trace,

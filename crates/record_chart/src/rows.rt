@@ -1,4 +1,4 @@
-//! Which lines share a row.
+//! The lines that share a row.
 ghost use Rattle.std.specs.Prelude.{◌≡◌, ℕ, ◌+◌, ◌<◌, ◌^◌, IfOk, length, take, sum_by};
 ghost use Rattle.record_chart.specs.Rows.{goes_on, storms_of, rows_of};
 
@@ -10,21 +10,21 @@ use std::alloc::Global;
 /// The most rows of a picture.
 pub const MOST_ROWS: usize = 2000;
 
-/// A row of a picture: so many lines of the history from this one on, counted from 1.
+/// A row of a picture: `count` lines of the history from line `first` on, counted from 1.
 #[derive(Clone, Copy, Debug, PartialEq, Eq)]
 pub struct Row {
     pub first: u64,
     pub count: u64,
 }
 
-/// The rows of a picture, and how many lines after them have no row.
+/// The rows of a picture, and the number of lines after them that have no row.
 #[derive(Debug, Drop)]
 pub struct Rows {
     pub items: Vec<Row>,
     pub left_out: u64,
 }
 
-/// The peers that storm in a schedule, which have generated writes.
+/// Returns the peers of a schedule that storm: their writes are generated.
 pub fn storms_of(alloc: Global, acts: &[Act]) -> Result<Vec<u32>, NoMemory>
     ensures { IfOk result (λ peers. peers.items ≡ storms_of acts.now) }
 {
@@ -38,7 +38,7 @@ pub fn storms_of(alloc: Global, acts: &[Act]) -> Result<Vec<u32>, NoMemory>
     Ok(peers)
 }
 
-/// Does the line go on in the row of the line before it?
+/// Whether the line continues the row of the line before it.
 pub fn goes_on(storms: &[u32], before: &Line, line: &Line) -> bool
     ensures { result ≡ goes_on storms.now before.now line.now }
 {
@@ -60,7 +60,11 @@ pub fn goes_on(storms: &[u32], before: &Line, line: &Line) -> bool
     }
 }
 
-/// The rows of these lines, of which the first has this number, 2,000 at most, in one pass over the lines that get a row.
+/// Returns the rows of these lines, at most 2,000, in one pass over the lines that get a row.
+/// `first` is the number of the first line.
+// claim rows, counted with storms_of, rows_are_the_lines: The rows of all lines, unfolded, are
+//    these lines, each once and in order. A line joins the row before it exactly if both are idle
+//    lines of one peer, writes of one storming peer, or writes of 0 to one word after the other.
 pub fn rows_of(alloc: Global, storms: &[u32], lines: &[Line], first: u64) -> Result<Rows, NoMemory>
     requires { first + length lines.now < 2 ^ 64 }
     ensures rows { IfOk result (λ rows. rows.items.items ≡ take 2000 (rows_of storms.now first lines.now)) }

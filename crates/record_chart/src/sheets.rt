@@ -3,27 +3,27 @@
 use ivs_base::NoMemory;
 use std::alloc::Global;
 
-/// The text of an SVG file that is being written. Places are in pixels from the left upper corner.
+/// The text of an SVG file while it is written. Places are in pixels from the upper left corner.
 #[derive(Drop)]
 pub struct Sheet {
     text: String,
 }
 
 impl Sheet {
-    /// A file without a byte.
+    /// Returns an empty file.
     pub fn new(alloc: Global) -> Sheet {
         Sheet {
             text: String::new(alloc),
         }
     }
 
-    /// Puts text as it is.
+    /// Appends text without a change.
     pub fn raw(&mut self, text: &str) -> Result<(), NoMemory> {
         self.text.push_str(text)?;
         Ok(())
     }
 
-    /// A rectangle.
+    /// Appends a rectangle.
     pub fn rect(
         &mut self,
         class: &str,
@@ -39,7 +39,7 @@ impl Sheet {
         Ok(())
     }
 
-    /// A circle.
+    /// Appends a circle.
     pub fn circle(&mut self, class: &str, x: u64, y: u64) -> Result<(), NoMemory> {
         write!(
             self.text,
@@ -48,13 +48,13 @@ impl Sheet {
         Ok(())
     }
 
-    /// A level line.
+    /// Appends a horizontal line.
     pub fn level(&mut self, class: &str, from: u64, to: u64, y: u64) -> Result<(), NoMemory> {
         write!(self.text, "<path class='{class}' d='M{from} {y}H{to}'/>\n")?;
         Ok(())
     }
 
-    /// A line in three parts: level, upright, level.
+    /// Appends a line in three parts: horizontal, vertical, horizontal.
     pub fn step(
         &mut self,
         class: &str,
@@ -71,7 +71,7 @@ impl Sheet {
         Ok(())
     }
 
-    /// The head of an arrow that points to the right, or to the left, with its tip here.
+    /// Appends an arrow head that points to the right or to the left, with its tip at `x`, `y`.
     pub fn head(&mut self, class: &str, x: u64, y: u64, is_right: bool) -> Result<(), NoMemory> {
         if is_right {
             write!(self.text, "<path class='{class}' d='M{x} {y}l-7 -4v8z'/>\n")?;
@@ -81,7 +81,7 @@ impl Sheet {
         Ok(())
     }
 
-    /// Words, from this place on. They have none of the signs that XML keeps for itself.
+    /// Appends words from `x`, `y` on. They contain no character that XML reserves.
     pub fn words(&mut self, class: &str, x: u64, y: u64, words: &str) -> Result<(), NoMemory> {
         write!(
             self.text,
@@ -90,7 +90,7 @@ impl Sheet {
         Ok(())
     }
 
-    /// Words that run down from this place.
+    /// Appends words that run down from `x`, `y`.
     pub fn words_down(&mut self, class: &str, x: u64, y: u64, words: &str) -> Result<(), NoMemory> {
         write!(
             self.text,
@@ -99,7 +99,7 @@ impl Sheet {
         Ok(())
     }
 
-    /// The bytes of the file.
+    /// Returns the bytes of the file.
     pub fn into_bytes(self) -> Vec<u8> {
         let Sheet { text } = self;
         text.into_bytes()

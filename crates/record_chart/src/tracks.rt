@@ -1,4 +1,4 @@
-//! What runs down a peer's column: the band of its state, and the brackets of its calls.
+//! The tracks of a peer's column: the band of its state, and the brackets of its calls.
 
 use crate::labels::state_name;
 use crate::lines::{line_at, peer_of};
@@ -9,14 +9,14 @@ use ivs_base::NoMemory;
 use lawful_history::Line;
 use split_ring::FieldName;
 
-/// A call that is going on: the row of its first step, and its name as far as it is known.
+/// An open call: the row of its first step, and its name as far as it is known.
 #[derive(Clone, Copy, Debug, PartialEq, Eq)]
 struct Call {
     from: usize,
     name: &'static str,
 }
 
-/// The state that a line sets the peer to, if it does.
+/// Returns the state that a line sets the peer to, if it sets one.
 fn state_set(line: &Line, peer: u32) -> Option<u32> {
     match line {
         Line::State {
@@ -28,7 +28,7 @@ fn state_set(line: &Line, peer: u32) -> Option<u32> {
     }
 }
 
-/// The state of the peer after these lines, the first of a history.
+/// Returns the state of the peer after these lines, a prefix of a history.
 fn state_after(lines: &[Line], peer: u32) -> u32 {
     let mut state = 0;
     for line in lines {
@@ -39,7 +39,7 @@ fn state_after(lines: &[Line], peer: u32) -> u32 {
     state
 }
 
-/// The name of the class of a state.
+/// Returns the name of the class of a state.
 pub fn state_class(state: u32) -> &'static str {
     match state {
         0 => "s0",
@@ -93,7 +93,8 @@ pub fn put_bands(
     put_band(sheet, peer, state, from, rows.len())
 }
 
-/// The name of the call that a line is a part of, as far as the line tells; None where it is no part of one.
+/// Returns the name of the call that a line belongs to, as far as the line shows it, or `None` if
+/// it belongs to no call.
 fn call_of(line: &Line) -> Option<&'static str> {
     match line {
         Line::Saw { .. } => Some("tick"),
@@ -113,7 +114,7 @@ fn call_of(line: &Line) -> Option<&'static str> {
     }
 }
 
-/// Is the call over after this line?
+/// Whether the line ends the call.
 fn ends_call(line: &Line) -> bool {
     matches!(
         line,
@@ -121,7 +122,7 @@ fn ends_call(line: &Line) -> bool {
     )
 }
 
-/// The name of a call after one line more, which tells this.
+/// Returns the name of a call after one more line, which shows the second name.
 fn name_after(name: &'static str, told: &'static str) -> &'static str {
     match (name, told) {
         (_, "call") => name,

@@ -1,11 +1,11 @@
-//! What a word of the region is called, and how its value is shown.
+//! The names of the region's words, and the texts of their values.
 
 use scenario_text::Scenario;
 use section_map::Section;
 use split_ring::Queue;
 use std::alloc::{AllocError, Global};
 
-/// What a word holds: one number, a number in its high half beside flags, or two numbers.
+/// The contents of a word: one number, a number in the high half next to flags, or two numbers.
 #[derive(Clone, Copy, Debug, PartialEq, Eq)]
 enum Halves {
     Whole,
@@ -13,7 +13,7 @@ enum Halves {
     Two,
 }
 
-/// What the word of a section holds.
+/// Returns the contents of the word of a section.
 fn halves_of(queue: &Queue, word: u32) -> Halves {
     let index = queue.avail_word();
     if word == index || word == queue.used_word() {
@@ -25,7 +25,8 @@ fn halves_of(queue: &Queue, word: u32) -> Halves {
     }
 }
 
-/// The value of a word of a section as a reader sees it: an index without the flags beside it where they are 0.
+/// Returns the text of the value of a word of a section. An index is shown without its flags if
+/// they are 0.
 fn halves_text(alloc: Global, halves: Halves, value: u32) -> Result<String, AllocError> {
     let low = value % 65_536;
     let high = value / 65_536;
@@ -37,7 +38,7 @@ fn halves_text(alloc: Global, halves: Halves, value: u32) -> Result<String, Allo
     }
 }
 
-/// The word of a descriptor.
+/// Returns the name of a word of a descriptor.
 fn descriptor_name(alloc: Global, word: u32) -> Result<String, AllocError> {
     let descriptor = word / 4;
     let field = match word % 4 {
@@ -49,14 +50,14 @@ fn descriptor_name(alloc: Global, word: u32) -> Result<String, AllocError> {
     format!(in alloc; "descriptor {descriptor} {field}")
 }
 
-/// The word of a used element, where `word` counts from the first of them.
+/// Returns the name of a word of a used element. `word` counts from the first element.
 fn element_name(alloc: Global, word: u32) -> Result<String, AllocError> {
     let element = word / 2;
     let field = if word % 2 == 0 { "id" } else { "length" };
     format!(in alloc; "used element {element} {field}")
 }
 
-/// The word of the data area, where `word` counts from its first.
+/// Returns the name of a word of the data area. `word` counts from its first word.
 fn data_name(alloc: Global, queue: &Queue, word: u32) -> Result<String, AllocError> {
     let words = (queue.slot() / 4).max(1);
     let slot = word / words;
@@ -68,7 +69,7 @@ fn data_name(alloc: Global, queue: &Queue, word: u32) -> Result<String, AllocErr
     }
 }
 
-/// The word of an available entry, or of the rings' other words.
+/// Returns the name of a word of an available entry, or of another word of the rings.
 fn ring_name(alloc: Global, queue: &Queue, word: u32) -> Result<String, AllocError> {
     let index = queue.avail_word();
     let used = queue.used_word();
@@ -91,7 +92,7 @@ fn ring_name(alloc: Global, queue: &Queue, word: u32) -> Result<String, AllocErr
     }
 }
 
-/// The name of a word of an output section, counted from its start.
+/// Returns the name of a word of an output section, counted from its start.
 fn field_name(alloc: Global, queue: &Queue, word: u32) -> Result<String, AllocError> {
     let payload = queue.payload() / 4;
     if word < queue.avail_word() {
@@ -103,7 +104,8 @@ fn field_name(alloc: Global, queue: &Queue, word: u32) -> Result<String, AllocEr
     }
 }
 
-/// The word of a section, from the section's start, and whose section it is; None where it is in none.
+/// Returns the offset of a word in its output section, in words, and the section's peer. Returns
+/// `None` if the word is in no output section.
 fn place_in_section(scenario: &Scenario, word: u32) -> Option<(u32, u32)> {
     let geometry = &scenario.geometry;
     if word >= geometry.words() {
@@ -118,7 +120,7 @@ fn place_in_section(scenario: &Scenario, word: u32) -> Option<(u32, u32)> {
     Some((owner, word.saturating_sub(geometry.section_start(owner))))
 }
 
-/// The name of a word outside of the output sections.
+/// Returns the name of a word outside of the output sections.
 fn common_name(alloc: Global, scenario: &Scenario, word: u32) -> Result<String, AllocError> {
     let geometry = &scenario.geometry;
     let table = geometry.table_words();
@@ -134,7 +136,8 @@ fn common_name(alloc: Global, scenario: &Scenario, word: u32) -> Result<String, 
     }
 }
 
-/// The name of a word of the region as this peer would say it: of its own section without its number.
+/// Returns the name of a word of the region for a peer. The name of a word of the peer's own
+/// section has no peer number.
 pub fn word_name(
     alloc: Global,
     scenario: &Scenario,
@@ -151,7 +154,7 @@ pub fn word_name(
     format!(in alloc; "{name} of {owner}")
 }
 
-/// The value of a word of the region as a reader sees it.
+/// Returns the text of the value of a word of the region.
 pub fn value_text(
     alloc: Global,
     scenario: &Scenario,

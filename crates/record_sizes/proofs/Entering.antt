@@ -1,4 +1,5 @@
--- Each entry pays for its lines: what a peer's entries cost is at most 200 bytes for each, and what the frame in hand of its open call has paid for is left.
+-- Each event record pays for its lines. A peer's event records cost at most 200 bytes each, and the
+-- credit of its open call's frame is left.
 use Rattle.std.proofs.Common.{◌≡◌, ℕ, suc, ◌+◌, ◌*◌, ◌<◌, ◌≤◌, inl, inr, Bool, true, false, List, [], ◌∷◌, ◌++◌, length, Option, Some, None, refl, sym, ap, subst, ◌∙◌, arith, decimal}
 use Rattle.std.specs.Prelude.{if◌then◌else◌, map, reverse, slice_get}
 use Rattle.std.specs.List.{AllByRecursion}
@@ -44,7 +45,7 @@ all_priced : (lines : List Line) → AreFitting lines → lines_cost lines ≤ p
 all_priced [] fits = omega arith
 all_priced (told ∷ lines) fits = omega (arith, priced told fits.0, all_priced lines fits.1)
 
--- the lines of a step, whose device's lines have their room
+-- The lines of a step, if its device's lines have their room.
 step_bytes : (peer : ℕ) (step : Step) (device : List Line) → AreFitting (step_lines peer step device) → lines_cost device ≤ interrupts_price step.access →
     lines_cost (step_lines peer step device) ≤ prices (access_lines peer step.access step.value) + interrupts_price step.access + marks_price peer step.marks
 step_bytes peer step device fits few =
@@ -52,7 +53,7 @@ step_bytes peer step device fits few =
     let first = parts_fit own (device ++ marks) fits in let later = parts_fit device marks first.1 in
     omega (arith, cost-append own (device ++ marks), cost-append device marks, all_priced own first.0, all_priced marks later.1, few)
 
--- the device's lines are among those of an entry
+-- The device's lines are among those of an event record.
 device_fits : (event : Event) (went : Option Step) (device : List Line) → AreFitting (lines_by event went device) → AreFitting device
 device_fits (CallQueued peer call) went device fits = fits
 device_fits (AutoStarted peer expected) went device fits = fits
@@ -68,7 +69,7 @@ device_fits (DeviceAccessed peer a) went device fits = fits
 device_fits (InterruptDropped peer) went device fits = fits
 device_fits (InterruptRepeated peer vector) went device fits = fits
 
--- An entry of a peer of one digit whose lines fit, and whose device's lines have their room
+-- An event record of a peer of one digit whose lines fit, and whose device's lines have their room
 
 pub record IsRoomy (entry : EventRecord) : Type 0 where
   pub one : length (decimal (owner entry)) ≤ 1
@@ -87,14 +88,14 @@ all_roomy world few older losses (entry ∷ entries) rules owners fits =
       all_roomy world few (reverse (lines_of entry) ++ older) (losses_with entry.event losses) entries rules.1 owners.1 fits.1,
     )
 
--- What a peer has spent: it is at a place of its open call
+-- The bytes that a peer has spent, at a place of its open call
 
 pub record Owes (config : EndConfig) (peer : Progress) (spent count : ℕ) : Type 0 where
   pub place : Place
   pub at : peer.left ≡ remaining config place
   pub paid : spent + credit place ≤ 200 * count
 
--- The call that a turn begins has paid for nothing yet
+-- The call that a turn begins has no credit yet
 
 record StandsAt (config : EndConfig) (peer : Progress) (most : ℕ) : Type 0 where
   place : Place
@@ -164,9 +165,10 @@ denied_bytes peer a device fits few =
     denied_price peer (access.Ring target vector) = omega arith
     denied_price peer access.Nothing = omega arith
 
--- An entry pays
+-- An event record pays
 
--- the peer is at this place then, and the lines cost no more than what the place before has paid for and 200
+-- The peer is at this place then, and the lines cost at most the credit of the place before and
+-- 200.
 owes_then : (config : EndConfig) (peer : Progress) (place : Place) (spent bytes before count : ℕ) → peer.left ≡ remaining config place → spent + before ≤ 200 * count → bytes + credit place ≤ before + 200 →
     Owes config peer (spent + bytes) (suc count)
 owes_then config peer place spent bytes before count at paid few = record { place = place; at = at; paid = omega (arith, paid, few) }
@@ -192,7 +194,7 @@ module _ (world : World) (p : ℕ) where
       let bytes = subst (λ (w : Option Step). lines_cost (turn_lines peer w device) ≤ 200) (sym idles.0) (bare_bytes peer one step.access 0 device its room) in
       owes_then (config_of world p) new at.place spent _ before count (ap (λ (x : Progress). x.left) idles.1 ∙ at.at) paid (omega (arith, bytes, at.few))
 
-  -- a step of the open call
+  -- A step of the open call.
   step_owes : (peer : ℕ) → length (decimal peer) ≤ 1 → (old new : Progress) (call : CallTree) (went : Option Step) (device : List Line) (spent before count : ℕ) → old.left ≡ call → GoesOn old call went new → AreFitting (turn_lines peer went device) → lines_cost device ≤ step_room went →
       spent + before ≤ 200 * count → StandsAt (config_of world p) old before → Owes (config_of world p) new (spent + lines_cost (turn_lines peer went device)) (suc count)
   step_owes peer one old new call went device spent before count is (step, left, made, goes, comes) fits few paid at =
@@ -219,18 +221,18 @@ module _ (world : World) (p : ℕ) where
       let at = begins_at (config_of world p) old (credit owes.place) old.left (record { place = owes.place; at = owes.at; few = omega arith }) in
       moves_owes peer one (begins (config_of world p) old) new (begins (config_of world p) old).left went device spent (credit owes.place) count refl turns fits few owes.paid at
 
-  -- an event that leaves the open call as it is
+  -- An event that doesn't change the open call.
   stays_owes : (old new : Progress) (spent bytes count : ℕ) → new.left ≡ old.left → bytes ≤ 200 → Owes (config_of world p) old spent count → Owes (config_of world p) new (spent + bytes) (suc count)
   stays_owes old new spent bytes count same few owes = owes_then (config_of world p) new owes.place spent bytes (credit owes.place) count (same ∙ owes.at) owes.paid (omega (arith, few))
 
-  -- the step that was made is this one
+  -- The step is this one.
   made_bytes : (peer : ℕ) → length (decimal peer) ≤ 1 → (a step : Access) (value : ℕ) (went : Option Step) (device : List Line) → went ≡ Some (step_of step value []) → AreFitting (region_access_lines peer a went device) → lines_cost device ≤ step_room went → lines_cost (region_access_lines peer a went device) ≤ 200
   made_bytes peer one a step value went device made fits few =
       let its = subst (λ (w : Option Step). AreFitting (region_access_lines peer a w device)) made fits in
       let room = subst (λ (w : Option Step). lines_cost device ≤ step_room w) made few in
       subst (λ (w : Option Step). lines_cost (region_access_lines peer a w device) ≤ 200) (sym made) (bare_bytes peer one step value device its room)
 
-  -- an access of its own
+  -- An access outside a call.
   acted_bytes : (peer : ℕ) → length (decimal peer) ≤ 1 → (a : Access) (went : Option Step) (device : List Line) → IsMade a went → AreFitting (region_access_lines peer a went device) → lines_cost device ≤ step_room went → lines_cost (region_access_lines peer a went device) ≤ 200
   acted_bytes peer one (access.Read word) went device made fits few = made_bytes peer one (access.Read word) (access.Read word) made.0 went device made.1 fits few
   acted_bytes peer one (access.Write word written) went device (inl made) fits few = made_bytes peer one (access.Write word written) (access.Write word written) 0 went device made fits few
@@ -256,7 +258,7 @@ module _ (world : World) (p : ℕ) where
   event_owes old new (InterruptDropped peer) one went device spent count acts fits few owes = stays_owes old new spent _ count (ap (λ (x : Progress). x.left) acts.1) (omega (arith, few)) owes
   event_owes old new (InterruptRepeated peer vector) one went device spent count acts fits few owes = stays_owes old new spent _ count (ap (λ (x : Progress). x.left) acts.1) (omega (arith, few)) owes
 
--- The entries of a peer
+-- The event records of a peer
 
 abbrev pub entries_cost : List EventRecord → ℕ
 entries_cost [] = 0

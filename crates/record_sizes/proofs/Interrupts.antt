@@ -1,4 +1,5 @@
--- What the lines of the devices cost: eight interrupts at most for an access, each of a peer of one digit.
+-- The cost of the devices' lines: at most eight interrupts for an access, each of a peer of one
+-- digit.
 use Rattle.std.proofs.Common.{ℕ, zero, suc, ◌*◌, ◌<◌, ◌≤◌, Bool, true, false, List, [], ◌∷◌, ◌++◌, length, Option, Some, None, arith, length-append}
 use Rattle.std.specs.Prelude.{if◌then◌else◌, nat_lt}
 use Rattle.std.specs.List.{AllByRecursion}
@@ -19,7 +20,7 @@ use Rattle.record_text.specs.Spelling.{Fits}
 use Rattle.record_sizes.proofs.LineBytes.{line_cost, lines_cost, price, priced}
 use Rattle.record_sizes.proofs.Paying.{interrupts_price}
 
--- The deliveries of an effect: one at most for each peer
+-- The deliveries of an effect: at most one for each peer
 
 abbrev AreBelow : ℕ → List Delivery → Type 0
 AreBelow most deliveries = AllByRecursion (λ (delivery : Delivery). delivery.peer < most) deliveries
@@ -78,7 +79,7 @@ module _ (world : World) (few : world.geometry.peers ≤ 8) where
   access_bytes older losses peer (access.Ring target vector) value fits = event_bytes older losses (line.Doorbell peer target vector) (device_event_of (line.Doorbell peer target vector)) fits
   access_bytes older losses peer access.Nothing value fits = omega arith
 
-  -- an access to a part of the device
+  -- A device access.
   reached_price : (older : List Line) (peer : ℕ) (a : DeviceAccess) → price (device_access_line world older peer a) ≤ 47
   reached_price older peer (ReadsConfig offset width) = omega arith
   reached_price older peer (WritesConfig offset width value) = omega arith

@@ -1,4 +1,4 @@
--- How long a line is, by the room of its form, and what it costs.
+-- The length of a line, by the room of its form, and its cost.
 use Rattle.std.proofs.Common.{◌≡◌, ℕ, suc, ◌+◌, ◌*◌, ◌^◌, ◌<◌, ◌≤◌, Bool, true, false, leb, ltb, List, [], ◌∷◌, ◌++◌, length, refl, ap, arith, length-append, decimal}
 use Rattle.std.specs.Prelude.{◌==◌, nat_le, if◌then◌else◌, map}
 use Rattle.std.specs.List.{list_all, AllByRecursion}
@@ -27,7 +27,7 @@ joined : (field : List ℕ) (fields : List (List ℕ)) → length (line_of (fiel
 joined field [] = omega arith
 joined field (next ∷ fields) = let later = joined next fields in omega (arith, length-append field (32 ∷ line_of (next ∷ fields)), later)
 
--- The room of a form: a word, and as many digits as its numbers have at most
+-- The room of a form: a word, and the greatest number of digits of its numbers
 
 abbrev pub digits_by : Bool → ℕ
 digits_by true = 10
@@ -66,7 +66,8 @@ abbrev pub lines_bytes : List Line → ℕ
 lines_bytes [] = 0
 lines_bytes (told ∷ lines) = line_bytes told + lines_bytes lines
 
--- What a line costs: its bytes, and where it is a write of State 3, the room of the mark of a session that may come after it
+-- The cost of a line: its bytes and, for a write of State 3, the room of the mark of a session that
+-- can follow it
 
 abbrev pub mark_room : Line → ℕ
 mark_room (line.State peer value) = if value == 3 then 31 + length (decimal peer) else 0
@@ -79,7 +80,7 @@ abbrev pub lines_cost : List Line → ℕ
 lines_cost [] = 0
 lines_cost (told ∷ lines) = line_cost told + lines_cost lines
 
--- such a mark has its room
+-- The mark has its room.
 pub mark_bytes : (peer opened other : ℕ) → Fits (line.Session peer opened other) → line_bytes (line.Session peer opened other) ≤ 31 + length (decimal peer)
 mark_bytes peer opened other fits =
     let values = fits.values in let most = values.2.1 in let most' = values.2.2.1 in
@@ -87,7 +88,7 @@ mark_bytes peer opened other fits =
     let its = length-decimal-le 10 other (omega arith) (omega (arith, most')) (omega (arith, most')) in
     omega (arith, own, its)
 
--- as many fields as pieces
+-- The number of fields is the number of pieces.
 counted : (pieces : List Piece) (ns bytes : List ℕ) → Fit pieces ns → length (spell pieces ns bytes) ≡ length pieces
 counted [] ns bytes fit = refl
 counted (Word w ∷ pieces) ns bytes fit = ap suc (counted pieces ns bytes fit)
@@ -102,7 +103,7 @@ whole (field ∷ fields) some = joined field fields
 pub row_bytes : (r : Row LineForm) → Fit (pieces_of r.form) r.numbers → length (bare pieces_of r) + 1 ≡ widths (fields_of_row pieces_of r)
 row_bytes r fit = whole (fields_of_row pieces_of r) (omega (arith, counted (pieces_of r.form) r.numbers r.frame fit, some r.form))
 
--- the bytes of the lines of a history, and of what comes after them
+-- The bytes of the lines of a history, and of the rows after them.
 pub text_bytes : (lines : List Line) (rows : List (Row LineForm)) → AllByRecursion Fits lines → length (text_of pieces_of (map row_of_line lines ++ rows)) ≡ lines_bytes lines + length (text_of pieces_of rows)
 text_bytes [] rows fits = omega arith
 text_bytes (told ∷ lines) rows fits =
@@ -110,7 +111,7 @@ text_bytes (told ∷ lines) rows fits =
     let is = ap (λ (t : List ℕ). length t) (text-cons pieces_of r others) in
     omega (arith, is, length-append (bare pieces_of r) (10 ∷ text_of pieces_of others), row_bytes r fit.values, text_bytes lines rows fits.1)
 
--- What a line costs at most, whatever its numbers are: a frame two digits for each byte
+-- The greatest cost of a line, for all its numbers: a frame has two digits for each byte
 
 abbrev pub price : Line → ℕ
 price (line.Read peer word value) = 35
@@ -151,7 +152,7 @@ roomy told = room (pieces_of (row_of_line told).form) + 2 * length (row_of_line 
 formed : (told : Line) → Fits told → line_bytes told ≤ roomy told
 formed told fits = let r = row_of_line told in spelled (pieces_of r.form) r.numbers r.frame (good r.form) fits.values fits.bytes
 
--- the digit of State 3, or ten digits and no mark
+-- The digit of State 3, or ten digits and no mark.
 state_price : (peer value : ℕ) (b : Bool) → value == 3 ≡ b → value < 2 ^ 32 →
     length (decimal value) + (if b then 31 + length (decimal peer) else 0) ≤ 32 + length (decimal peer)
 state_price peer value true is small =

@@ -1,4 +1,4 @@
--- The marks of sessions are paid for: each by the write of State 3 that it comes after.
+-- The marks of sessions are paid for, each by the write of State 3 before it.
 use Rattle.std.proofs.Common.{◌≡◌, ℕ, ◌+◌, ◌≤◌, Bool, true, false, List, [], ◌∷◌, ◌++◌, length, refl, ap, ◌∙◌, arith, decimal}
 use Rattle.std.specs.Prelude.{◌==◌, ◌&&◌, if◌then◌else◌}
 use Rattle.std.proofs.lemmas.Bool.{eqb-true}
@@ -11,12 +11,12 @@ use Rattle.lawful_history.specs.Sessions.{opened_in, is_interrupt, enters_run, s
 use Rattle.record_sizes.proofs.LineBytes.{lines_bytes, mark_room, mark_bytes, lines_cost}
 use Rattle.record_sizes.proofs.Entering.{AreFitting, parts_fit}
 
--- what the newest line, but for interrupts, has paid for
+-- The credit of the newest line, except interrupts.
 abbrev paid_by : List Line → ℕ
 paid_by [] = 0
 paid_by (told ∷ older) = if is_interrupt told then paid_by older else mark_room told
 
--- a mark that stands here has its room
+-- A mark at this position has its room.
 state_pays : (p value peer : ℕ) → (p == peer && value == 3) ≡ true → mark_room (line.State p value) ≡ 31 + length (decimal peer)
 state_pays p value peer is =
     let both = both_true (p == peer) (value == 3) is in
@@ -64,14 +64,14 @@ without_paid : (lines : List Line) → lines_bytes lines ≤ lines_cost lines
 without_paid [] = omega arith
 without_paid (told ∷ lines) = let later = without_paid lines in omega arith
 
--- the lines are those between the marks
+-- The lines are those between the marks.
 between_fit : (world : World) (older lines : List Line) → AreFitting (with_sessions world older lines) → AreFitting lines
 between_fit world older [] fits = tt
 between_fit world older (told ∷ lines) fits =
     let parts = parts_fit (marks_before world older told) (told ∷ with_sessions world (told ∷ older) lines) fits in
     (parts.1.0, between_fit world (told ∷ older) lines parts.1.1)
 
--- what a record tells of a history costs no more than the history
+-- A record's lines of a history cost at most as much as the history.
 pub record IsPaid (lines told : List Line) : Type 0 where
   pub fits : AreFitting lines
   pub few : lines_bytes told ≤ lines_cost lines

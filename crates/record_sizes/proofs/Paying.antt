@@ -1,4 +1,5 @@
--- Each step of a call pays for its lines: with what the frame in hand has paid for its digits it costs at most 200 bytes.
+-- Each step of a call pays for its lines: with the credit of the current frame for its digits it
+-- costs at most 200 bytes.
 use Rattle.std.proofs.Common.{◌≡◌, ℕ, zero, suc, ◌+◌, ◌-◌, ◌*◌, ◌≤◌, Bool, true, false, List, [], ◌∷◌, ◌++◌, length, refl, ap, arith, length-take, length-append, decimal, ne_eqb}
 use Rattle.std.specs.Prelude.{◌==◌, nat_le, if◌then◌else◌, map}
 use Rattle.std.specs.List.{flat_map}
@@ -20,7 +21,7 @@ use Rattle.lawful_history.specs.declared.line.Line.{Line}
 use Rattle.lawful_history.specs.EventRecords.{access_lines, mark_line}
 use Rattle.record_sizes.proofs.LineBytes.{price}
 
--- What lines cost at most
+-- The greatest cost of lines
 
 abbrev pub prices : List Line → ℕ
 prices [] = 0
@@ -29,7 +30,7 @@ prices (line ∷ lines) = price line + prices lines
 abbrev pub marks_price : ℕ → List Mark → ℕ
 marks_price peer marks = prices (map (mark_line peer) marks)
 
--- an access that may interrupt others has room for eight interrupts of 18 bytes
+-- An access that may interrupt others has room for eight interrupts of 18 bytes.
 abbrev pub interrupts_price : Access → ℕ
 interrupts_price (access.Read word) = 0
 interrupts_price (access.Write word value) = 0
@@ -37,7 +38,7 @@ interrupts_price (access.State value) = 144
 interrupts_price (access.Ring target vector) = 144
 interrupts_price access.Nothing = 0
 
--- What the frame in hand has paid for: 8 digits for each of its words that was written or read
+-- The credit of the current frame: 8 digits for each of its words that was written or read
 
 abbrev pub credit : Place → ℕ
 credit (WritingFrameWord pending at more) = 8 * (words_for (length pending.frame) - suc more)
@@ -104,7 +105,7 @@ length_price peer config address value = either (marks_price peer) (is_length co
 flags_price : (peer value : ℕ) → marks_price peer (flags_marks value) ≤ 51
 flags_price peer value = either (marks_price peer) (low_half value == 0) [] _ 51 (omega arith) (omega arith)
 
--- What is paid for at the next place
+-- The credit at the next place
 
 clear_credit : (at count state : ℕ) → credit (clear_place at count state) ≡ 0
 clear_credit at zero state = refl
@@ -142,7 +143,7 @@ words_credit : (number more entry address bytes : ℕ) (read : List ℕ) (words 
 words_credit number more entry address bytes read zero = omega arith
 words_credit number more entry address bytes read (suc words) = omega arith
 
--- a delivered frame has at most four bytes for each word that was read
+-- A delivered frame has at most four bytes for each word that was read.
 
 all_bytes : (words : List ℕ) → length (flat_map word_bytes words) ≡ 4 * length words
 all_bytes [] = refl

@@ -1,4 +1,4 @@
--- The entries of all peers are those of each one.
+-- The event records of all peers are those of each peer.
 use Rattle.std.proofs.Common.{◌≡◌, ◌≢◌, ℕ, zero, suc, ◌+◌, ◌*◌, ◌<◌, ◌≤◌, List, [], ◌∷◌, length, refl, sym, ap, arith, eq-eqb, ne_eqb}
 use Rattle.std.specs.Prelude.{◌==◌}
 use Rattle.std.specs.List.{AllByRecursion}
@@ -8,7 +8,7 @@ use Rattle.call_grammar.proofs.OfferLists.{yes, no}
 use Rattle.lawful_history.specs.EventRecords.{EventRecord, owner, own}
 use Rattle.record_sizes.proofs.Entering.{entries_cost}
 
--- a sum over entries, and the sums over those of each peer below n
+-- A sum over event records, and the sums over those of each peer below n.
 abbrev total : (EventRecord → ℕ) → List EventRecord → ℕ
 total cost [] = 0
 total cost (entry ∷ entries) = cost entry + total cost entries
@@ -58,7 +58,7 @@ each_pays (suc peer) entries pays =
     let others = each_pays peer entries (λ p below. pays p (omega (arith, below))) in let last = pays peer (omega arith) in
     omega (arith, others, last, bytes (own peer entries), counts (own peer entries))
 
--- where each peer pays for its entries, all are paid for
+-- If each peer pays for its event records, all are paid for.
 pub all_pay : (n : ℕ) (entries : List EventRecord) → AllByRecursion (λ entry. owner entry < n) entries → ((peer : ℕ) → peer < n → entries_cost (own peer entries) ≤ 200 * length (own peer entries)) →
     entries_cost entries ≤ 200 * length entries
 all_pay n entries below pays =

@@ -1,4 +1,4 @@
--- A record whose history is lawful is short.
+-- A record with a lawful history is short.
 use Rattle.std.proofs.Common.{◌≡◌, ℕ, ◌*◌, ◌^◌, ◌<◌, ◌≤◌, Bool, true, false, List, [], ◌∷◌, ◌++◌, length, refl, sym, ap, subst, ◌∙◌, arith, length-append}
 use Rattle.std.specs.Prelude.{◌==◌, if◌then◌else◌, All}
 use Rattle.std.specs.List.{AllByRecursion, flat_map}
@@ -28,7 +28,7 @@ use Rattle.record_sizes.proofs.Entering.{AreFitting, parts_fit, cost-append, IsR
 use Rattle.record_sizes.proofs.Marking.{told_paid}
 use Rattle.record_sizes.proofs.Sharing.{all_pay}
 
--- The acts of a scenario count for as many as its events
+-- An act counts for the number of its events
 
 act_events : (a : Act) → length (events_of a) ≡ cost a
 act_events (act.Turn peer steps) = length-replicate steps (TurnTaken peer)
@@ -41,7 +41,7 @@ all_events (a ∷ acts) =
     let events = ap (λ (es : List Event). length es) (flat_map-cons events_of a acts) in
     omega (arith, events, sum_by-cons cost a acts, length-append (events_of a) (schedule acts), act_events a, all_events acts)
 
--- The entries of a history whose lines fit
+-- The event records of a history whose lines fit
 
 by_recursion : {X : Type 0} (P : X → Type 0) (xs : List X) → All P xs → AllByRecursion P xs
 by_recursion P [] all = tt

@@ -62,7 +62,7 @@ history-row lines r said is framed puts =
 row_fits : (line : Line) → Fits line → IsRow pieces_of (row_of_line line)
 row_fits line fits = record { values = fits.values; hex = fits.bytes }
 
--- a line in its one spelling tells itself
+-- A line in its one spelling is read as itself.
 pub line_is_told : (lines : List Line) (line : Line) → Fits line → has_frame line ≡ true → history_step lines (bare pieces_of (row_of_line line)) ≡ Ok (Longer (lines ++ line ∷ []))
 line_is_told lines line fits framed =
     let puts : put lines (row_of_line line).numbers (entry_of (row_of_line line).form (row_of_line line).numbers (row_of_line line).frame) ≡ Ok (Longer (lines ++ line ∷ [])) = rw (entry_of-row line) refl in

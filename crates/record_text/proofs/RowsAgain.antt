@@ -1,4 +1,4 @@
--- A text of rows tells the rows.
+-- A text of rows determines the rows.
 use Rattle.std.proofs.Common.{◌≡◌, ◌≢◌, ℕ, suc, List, [], ◌∷◌, length, refl, sym, ap, ◌∙◌, arith, length-append}
 use Rattle.std.specs.Prelude.{All}
 use Rattle.std.specs.List.{join_with_byte}
@@ -11,7 +11,7 @@ use Rattle.line_format.proofs.TableLaws.{IsTable, finds}
 use Rattle.line_format.proofs.RowLaws.{IsRow, bare, row_printable, row_cut, hex_of-spell, text-cons}
 use Rattle.line_format.proofs.StepLaws.{same_some}
 
--- a row's line tells the row
+-- A row's line determines the row.
 row_same : {F : Type 0} (pieces_of : F → List Piece) (forms : List F) → IsTable pieces_of forms → (r s : Row F) → IsRow pieces_of r → IsRow pieces_of s → bare pieces_of r ≡ bare pieces_of s → r ≡ s
 row_same pieces_of forms table r s is is' e =
     let fields : fields_of_row pieces_of r ≡ fields_of_row pieces_of s = sym (row_cut pieces_of forms table r is) ∙ (ap fields_of e ∙ row_cut pieces_of forms table s is') in
@@ -38,7 +38,7 @@ cut_same xs ys e = sym (join_with_byte-slice_split 10 xs) ∙ (ap (λ ps. join_w
 some_text : {F : Type 0} (pieces_of : F → List Piece) (r : Row F) (rs : List (Row F)) → [] ≢ text_of pieces_of (r ∷ rs)
 some_text pieces_of r rs e = let text = ap length (e ∙ text-cons pieces_of r rs) in absurd (omega (arith, text, length-append (bare pieces_of r) (10 ∷ text_of pieces_of rs)))
 
--- the text of rows tells the rows
+-- The text of rows determines the rows.
 pub rows_same : {F : Type 0} (pieces_of : F → List Piece) (forms : List F) → IsTable pieces_of forms → (rs ss : List (Row F)) → All (IsRow pieces_of) rs → All (IsRow pieces_of) ss → text_of pieces_of rs ≡ text_of pieces_of ss → rs ≡ ss
 rows_same pieces_of forms table [] [] all all' e = refl
 rows_same pieces_of forms table [] (s ∷ ss) all all' e = absurd (some_text pieces_of s ss e)

@@ -1,4 +1,4 @@
--- The text of a running record tells the record.
+-- The text of a running record determines the record.
 use Rattle.std.proofs.Common.{◌≡◌, ℕ, suc, ◌^◌, ◌<◌, Bool, true, false, List, [], ◌∷◌, ◌++◌, length, get_or, take, drop, map, None, Ok, Err, refl, sym, ap, subst, ◌∙◌, append_assoc, arith}
 use mathlib.Core.Logic.{dite}
 use native.Mathlib.Decide.{ℕ_discrete, dec_lt}
@@ -55,7 +55,7 @@ scenario_same w v s t is is' e = let a = scenario.spelling w in let b = scenario
     (ok_same w v (sym (scenario_laws.is_answered w a (is, refl)) ∙ (ap scenario_judge.answer cut ∙ scenario_laws.is_answered v b (is', refl))), rest))
     (λ differ. dite (dec_lt (length a) (length b)) (λ lt. absurd (no_beginning w v s t is is' e lt)) (λ ge. absurd (no_beginning v w t s is' is (sym e) (omega arith))))
 
--- ---- rows tell parts
+-- ---- Rows determine parts
 
 -- what stands after a part's own lines
 abbrev rest_of : ℕ → Bool → List (Row RunForm)
@@ -89,7 +89,7 @@ entry_in r = entry_at r.form r.numbers r.frame
     entry_at (Own form) ns frame = entry_of form ns frame
     entry_at _ ns frame = None
 
--- a line's row tells the line
+-- A line's row determines the line.
 line_same : (l m : Line) → own_row l ≡ own_row m → l ≡ m
 line_same l m e = same_some l m (sym (entry_of-row l) ∙ (ap entry_in e ∙ entry_of-row m))
 
@@ -126,7 +126,7 @@ opened : (p : Part) (ps : List Part) (end : List (Row RunForm)) → rows_of_part
 opened p ps end = let own = map own_row p.lines in let rest = rest_of p.turns p.finished in
     ap (λ rs. rs ++ end) (flat_map-cons rows_of_part p ps) ∙ (append_assoc (row Peer (p.peer ∷ []) [] ∷ own ++ rest) (rows_of_parts ps) end ∙ ap (λ rs. row Peer (p.peer ∷ []) [] ∷ rs) (append_assoc own rest (rows_of_parts ps ++ end)))
 
--- the rows of parts, with the count after them, tell the parts
+-- The rows of parts, with the count after them, determine the parts.
 parts_same : (ps qs : List Part) (m n : ℕ) → rows_of_parts ps ++ row (Own Count) (m ∷ []) [] ∷ [] ≡ rows_of_parts qs ++ row (Own Count) (n ∷ []) [] ∷ [] → ps ≡ qs
 parts_same [] [] m n e = refl
 parts_same [] (q ∷ qs) m n e = absurd (clash (sym (ap (λ (r : Row RunForm). is_count r.form) (head_row _ _ _ _ (e ∙ opened q qs (row (Own Count) (n ∷ []) [] ∷ []))))))

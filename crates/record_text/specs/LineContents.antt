@@ -1,4 +1,4 @@
--- What one line tells, whatever the lines before it are.
+-- The content of one line, whatever the lines before it are.
 use Rattle.std.specs.Prelude.{◌≡◌, ◌==◌, if◌then◌else◌, true, List, [], ◌∷◌, ◌++◌, length, Result, Ok, Err}
 use Rattle.line_format.specs.declared.reading.LineFault.{LineFault}
 use Rattle.line_format.specs.Reading.{Fails}
@@ -15,7 +15,7 @@ abbrev pub history_after : LineContent → List lines.Line → Result History Re
 history_after (Line line) before = Ok (Longer (before ++ line ∷ []))
 history_after (Count kept) before = if kept == length before then Ok (Counted before) else Err (BadCount kept (length before))
 
--- after each history the line tells this, or it is wrong, unless memory ran out
+-- After each history the line has this content, or the line is wrong, unless memory ran out.
 abbrev pub HasContent : Result LineContent (LineFault RecordCause) → (List lines.Line → Result History RecordCause) → Type 0
 HasContent (Ok told) said = (before : List lines.Line) → said before ≡ history_after told before
 HasContent (Err fault) said = (before : List lines.Line) → Fails fault (said before)

@@ -1,4 +1,4 @@
--- What an own trace tells.
+-- The content of an own trace.
 use Rattle.record_text.specs.declared.own_trace.OwnTrace.{OwnTrace}
 use Rattle.record_text.specs.Parts.{Part}
 

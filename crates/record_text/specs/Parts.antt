@@ -7,7 +7,8 @@ use Rattle.lawful_history.specs.declared.line.Line.{Line}
 use Rattle.scenario_text.specs.Scenario.{World}
 use Rattle.scenario_text.specs.Running.{has_turn}
 
--- what one running peer did: its number, its lines, how many turns it took, and whether it was finished after the last one
+-- what one running peer did: its number, its lines, how many turns it took, and whether it was
+-- finished after the last one
 pub record Part : Type 0 where
   pub peer : ℕ
   pub lines : List Line

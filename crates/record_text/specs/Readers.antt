@@ -1,4 +1,4 @@
--- A record's text that is read line by line.
+-- Reading a record's text line by line.
 use Rattle.std.specs.Prelude.{◌≡◌, ℕ, Bool, true, false, List, [], ◌∷◌, ◌++◌, length, Option, Some, None, Result, Ok, Err}
 use Rattle.line_format.specs.Forms.{cuts}
 use Rattle.line_format.specs.Machine.{read_pieces}
@@ -8,20 +8,26 @@ use Rattle.lawful_history.specs.Frames.{has_frame}
 use Rattle.record_text.specs.declared.faults.RecordFault.{RecordFault}
 use Rattle.record_text.specs.declared.reader.Reader.{Reader}
 use Rattle.record_text.specs.Spelling.{IsSpelling}
+use Rattle.record_text.specs.Growing.{history_text}
 use Rattle.record_text.specs.Judge.{InHistory, machine, reading, answer}
 use Rattle.record_text.specs.Answers.{Refuses}
 
--- of this text the front says this version and this scenario, and these lines of the history were read and counted; what is still to come decides what the
--- text says
+-- the text is of this version and this scenario, and these lines of its history were read and
+-- counted: the bytes that are left decide whether the text is a record
 pub record IsReading (bytes : List ℕ) (version : ℕ) (world : World) (lines : List Line) (reader : Reader) : Type 0 where
   pub comes : read_pieces machine (InHistory version world lines) reader.number (cuts 10 reader.rest.now) ≡ reading bytes
   pub count : reader.count ≡ length lines
 
--- the next line was read; or the text is the record of the lines that were; or this is its first fault, unless memory ran out
+-- the next line was read; or the text is the record of the lines that were read; or the error is
+-- the text's first fault, unless memory ran out
 abbrev pub ReadsOn : (bytes : List ℕ) (version : ℕ) (world : World) (lines : List Line) → Result (Option Line) RecordFault → Reader → Type 0
 ReadsOn bytes version world lines (Ok (Some line)) now = IsReading bytes version world (lines ++ line ∷ []) now × (has_frame line ≡ true)
 ReadsOn bytes version world lines (Ok None) now = IsSpelling (record { version = version; world = world; lines = lines }) bytes × (now.count ≡ length lines)
 ReadsOn bytes version world lines (Err fault) now = Refuses fault (answer bytes)
+
+-- the bytes begin with the text of these lines
+abbrev pub BeginWith : List ℕ → List Line → Type 0
+BeginWith bytes lines = (rest : List ℕ) × (bytes ≡ history_text lines ++ rest)
 
 -- these lines were read, or none
 abbrev pub GoesPast : (bytes : List ℕ) (version : ℕ) (world : World) (before lines : List Line) → (is : Bool) → Reader → Type 0

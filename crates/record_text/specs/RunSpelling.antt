@@ -1,4 +1,5 @@
--- Running records as texts: the scenario's text after `run 2`, then what each running peer did, and last the number of those lines.
+-- Running records as texts: the scenario's text after `run 2`, then what each running peer did, and
+-- last the number of those lines.
 use Rattle.std.specs.Prelude.{◌≡◌, ℕ, ◌^◌, ◌<◌, if◌then◌else◌, All, List, [], ◌∷◌, ◌++◌, length, map, codes}
 use Rattle.std.specs.List.{flat_map}
 use Rattle.line_format.specs.Rows.{Row, row, text_of}

@@ -1,4 +1,5 @@
--- Records as texts: the scenario's text between `record V` and the history, and last the number of history lines.
+-- Records as texts: the scenario's text between `record V` and the history, and last the number of
+-- history lines.
 use Rattle.std.specs.Prelude.{◌≡◌, ℕ, ◌^◌, ◌<◌, true, All, List, [], ◌∷◌, ◌++◌, length, map}
 use Rattle.line_format.specs.Forms.{Fit, FitBytes}
 use Rattle.line_format.specs.Rows.{Row, row, text_of}

@@ -1,4 +1,5 @@
-//! A record's text, put together part by part: what stands before the history, the lines of the history, and their count.
+//! A record's text, put together part by part: what stands before the history, the lines of the
+//! history, and their count.
 ghost use Rattle.std.specs.Prelude.{◌≡◌, ◌++◌, OnOk, map, true};
 ghost use Rattle.scenario_text.specs.Spelling.{world_of};
 ghost use Rattle.lawful_history.specs.Versions.{is_version};
@@ -13,7 +14,11 @@ use line_format::put_line;
 use scenario_text::{Scenario, put_scenario};
 use std::alloc::AllocError;
 
-/// Puts what stands before the history of a record of this version last: its first line and the scenario.
+/// Puts what stands before the history of a record of this version last: its first line and the
+/// scenario.
+// claim with put_lines.put, put_lines.fits, put_count, parts_are_the_record.parts,
+//    parts_are_the_record.lines: The text put together in parts (what precedes the history, its
+//    lines, their count) is the one spelling.
 pub fn put_front(out: &mut Vec<u8>, version: u32, scenario: &Scenario) -> Result<(), AllocError>
     requires { is_version version ≡ true }
     ensures { OnOk result (out.new.items ≡ out.old.items ++ front_text version (world_of scenario.now)) }

@@ -3,9 +3,9 @@ ghost use Rattle.record_text.specs.OwnLines.{AreOwn};
 
 use lawful_history::Lines;
 
-/// What one running peer did, in its own order. There are just the traces that have a spelling: the lines are accesses,
-/// doorbells, interrupts, resets and marks of this peer, those of its sessions among them, and every frame has at least one
-/// byte.
+/// What one running peer did, in its own order. There are just the traces that have a spelling: the
+/// lines are accesses, doorbells, interrupts, resets and marks of this peer, those of its sessions
+/// among them, and every frame has at least one byte.
 #[derive(Debug, Drop)]
 pub struct OwnTrace {
     /// The peer's number.
@@ -14,7 +14,8 @@ pub struct OwnTrace {
     pub lines: Lines,
     /// How many steps it made, those of quiet calls among them.
     pub turns: u64,
-    /// Whether after its last turn no call was open and it had nothing left to do; else it took all its turns.
+    /// Whether after its last turn no call was open and it had nothing left to do; else it took all
+    /// its turns.
     pub finished: bool,
     pub ghost own: { AreOwn peer lines },
 }

@@ -149,6 +149,8 @@ fn put_record(out: &mut Vec<u8>, trace: &Trace) -> Result<(), AllocError>
 }
 
 /// The text of the record, which is its one spelling. NoMemory says that memory ran out.
+// claim text, again: `print` writes the one spelling, which names the version, and it is read as
+//    the record. A record holds only values that have a spelling.
 pub fn print(alloc: Global, trace: &Trace) -> Result<Vec<u8>, NoMemory>
     ensures text { IfOk result (λ text. text.items ≡ spelling (record_of trace.now)) }
     // What is written is read as the record.

@@ -1,12 +1,13 @@
-//! Lines in their common spelling: a word and numbers of 32 bits, each read once from left to right, without the table of forms. What isn't
-//! found here is read by the table.
+//! Lines in their common spelling: a word and numbers of 32 bits, each read once from left to
+//! right, without the table of forms. What isn't found here is read by the table.
 ghost use Rattle.std.specs.Prelude.{◌≡◌, ◌<◌, ◌^◌, ◌∷◌, ◌++◌, [], IfSome, decimal};
 ghost use Rattle.line_format.specs.Forms.{line_of};
 ghost use Rattle.record_text.specs.Quick.{IsLineOf};
 
 use lawful_history::Line;
 
-/// The number of 32 bits in front of these bytes, and the bytes after its digits. There is none where it isn't in its one spelling.
+/// The number of 32 bits in front of these bytes, and the bytes after its digits. There is none
+/// where it isn't in its one spelling.
 fn number_in_front(bytes: &[u8]) -> Option<(u32, &[u8])>
     ensures { IfSome result (λ p. bytes.now ≡ decimal p.0 ++ p.1.now) }
 {

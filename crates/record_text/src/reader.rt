@@ -1,5 +1,5 @@
-//! A record's text that is read line by line, of which nothing is kept but what is still to come.
-ghost use Rattle.std.specs.Prelude.{◌≡◌, ◌++◌, ◌+◌, ◌≤◌, ◌<◌, ◌^◌, IfSome, length};
+//! Reads a record's text line by line. A reader keeps only the bytes that it hasn't read.
+ghost use Rattle.std.specs.Prelude.{◌≡◌, ◌≢◌, ◌++◌, ◌+◌, ◌≤◌, ◌<◌, ◌^◌, ℕ, List, IfSome, IsNone, length};
 
 use crate::drafts::{RecordDraft, RecordPosition};
 use crate::faults::RecordFault;
@@ -11,24 +11,25 @@ use line_format::{LineFault, TakeLines, cut};
 use scenario_text::Scenario;
 use std::alloc::Global;
 
-/// A record's text of which what stands before the history was read, and some lines of it.
+/// A record's text, read up to a line of its history.
 #[derive(Drop)]
 pub struct Reader<'a> {
     /// The bytes after the last line that was read.
     pub rest: &'a [u8],
-    /// The number of that line, with lines from the record's first, which is line 1.
+    /// The number of that line. The record's first line is line 1.
     pub number: u64,
-    /// How many lines of the history were read.
+    /// The number of lines of the history that were read.
     pub count: u64,
-    /// Room to write lines.
+    /// The text of the lines that `pass` compares.
     pub part: Vec<u8>,
     pub ghost few: { number + length rest.now < 2 ^ 63 },
     pub ghost counted: { count ≤ number },
 }
 
-/// The bytes after a part, where they begin with it.
+/// Returns the bytes after `part`, or `None` if `bytes` doesn't begin with it.
 fn after_part<'a>(part: &[u8], bytes: &'a [u8]) -> Option<&'a [u8]>
-    ensures { IfSome result (λ rest. bytes.now ≡ part.now ++ rest.now) }
+    ensures rest { IfSome result (λ rest. bytes.now ≡ part.now ++ rest.now) }
+    ensures none { IsNone result → (rest : List ℕ) → bytes.now ≢ part.now ++ rest }
 {
     if bytes.len() < part.len() {
         return None;
@@ -41,7 +42,7 @@ fn after_part<'a>(part: &[u8], bytes: &'a [u8]) -> Option<&'a [u8]>
 }
 
 impl<'a> Reader<'a> {
-    ghost use Rattle.std.specs.Prelude.{◌≡◌, ◌++◌, [], ℕ, List, IfOk, IfErr, true};
+    ghost use Rattle.std.specs.Prelude.{◌≡◌, ◌↔◌, ◌++◌, [], ℕ, List, IfOk, IfErr, true};
     ghost use Rattle.scenario_text.specs.Scenario.{World};
     ghost use Rattle.scenario_text.specs.Spelling.{world_of};
     ghost use Rattle.lawful_history.specs.declared.line.Line.{Line as HistoryLine};
@@ -49,9 +50,10 @@ impl<'a> Reader<'a> {
     ghost use Rattle.lawful_history.specs.Versions.{is_version};
     ghost use Rattle.record_text.specs.Judge.{answer};
     ghost use Rattle.record_text.specs.Answers.{Refuses};
-    ghost use Rattle.record_text.specs.Readers.{IsReading, ReadsOn, GoesPast};
+    ghost use Rattle.record_text.specs.Readers.{IsReading, BeginWith, ReadsOn, GoesPast};
 
-    /// Reads what stands before the history of a record: its version and its scenario. NoMemory says that memory ran out.
+    /// Reads the record's version and its scenario, up to the history. Returns the text's first
+    /// fault if it is before the history, and `NoMemory` if memory ran out.
     pub fn begin(alloc: Global, bytes: &'a [u8]) -> Result<(u32, Scenario, Reader<'a>), RecordFault>
         ensures begun { IfOk result (λ front. IsReading bytes.now front.0 (world_of front.1) [] front.2) }
         ensures known { IfOk result (λ front. is_version front.0 ≡ true) }
@@ -82,8 +84,12 @@ impl<'a> Reader<'a> {
         Ok((version, head.finish(), reader))
     }
 
-    /// Reads the next line of the history. None comes at the end of the text, where the count agrees. After a fault the reader is of no more
-    /// use. NoMemory says that memory ran out.
+    /// Reads the next line of the history. Returns `None` at the end of the text, if the count of
+    /// lines is right. After a fault no clause says what the reader is. Returns `NoMemory` if
+    /// memory ran out.
+    // claim reads, shorter with Reader::begin.begun, Reader::begin.known, Reader::begin.refused: A
+    //    reader returns the lines of a record one at a time, and keeps none. After them the text is
+    //    the record of these lines, or has the fault that `parse` names.
     pub fn next(&mut self, alloc: Global) -> Result<Option<Line>, RecordFault>
         ensures shorter { IfOk result (λ found. IfSome found (λ _. length self.new.rest.now < length self.old.rest.now)) }
         ensures reads { (bytes : List ℕ) (version : ℕ) (world : World) (lines : List HistoryLine) → IsReading bytes version world lines self.old → ReadsOn bytes version world lines result self.new }
@@ -113,10 +119,14 @@ impl<'a> Reader<'a> {
         }
     }
 
-    /// Goes past these lines, if the bytes that come next are theirs: they are written and compared, and no line is read. Else nothing is read.
-    /// NoMemory says that memory ran out.
+    /// Reads these lines and returns true, exactly if the text goes on with them. Otherwise reads
+    /// no line. The lines are written and their bytes are compared, so no line is parsed. Returns
+    /// `NoMemory` if memory ran out.
+    // claim past, exact, shorter: Lines may be skipped by their bytes, as if they had been read,
+    //    exactly if the text continues with them.
     pub fn pass(&mut self, lines: &[Line]) -> Result<bool, NoMemory>
         requires { HaveFrames lines.now }
+        ensures exact { IfOk result (λ is. (is ≡ true) ↔ BeginWith self.old.rest.now lines.now) }
         ensures shorter { IfOk result (λ is. is ≡ true → length self.new.rest.now + length lines.now ≤ length self.old.rest.now) }
         ensures past { (bytes : List ℕ) (version : ℕ) (world : World) (before : List HistoryLine) → IsReading bytes version world before self.old → IfOk result (λ is. GoesPast bytes version world before lines.now is self.new) }
     {

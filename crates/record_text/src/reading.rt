@@ -50,8 +50,12 @@ impl RecordDraft {
     }
 }
 
-/// The record that the text spells, or the first fault of the text, in one pass over it. NoMemory says that memory
-/// ran out.
+/// The record that the text spells, or the first fault of the text, in one pass over it. NoMemory
+/// says that memory ran out.
+// claim found, only: `parse` reads exactly what the bytes spell, in version 1 or 2, or answers
+//    NoMemory.
+// claim exact with fault_is_first, RecordCause::at: A refusal is the first fault, with lines
+//    counted from the record's first.
 pub fn parse(alloc: Global, bytes: &[u8]) -> Result<Trace, RecordFault>
     // What is read is spelled so.
     ensures found { IfOk result (λ trace. IsSpelling (record_of trace) bytes.now) }

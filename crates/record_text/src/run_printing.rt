@@ -61,7 +61,7 @@ fn put_part(out: &mut Vec<u8>, trace: &OwnTrace) -> Result<(), AllocError>
     Ok(())
 }
 
-/// Puts what each peer did last, and tells how many lines that is.
+/// Appends the part of each peer, and returns the number of lines.
 fn put_parts(out: &mut Vec<u8>, traces: &[OwnTrace]) -> Result<u64, AllocError>
     ensures put { OnOk result (out.new.items ≡ out.old.items ++ text_of run_pieces_of (rows_of_parts (map part_of traces.now))) }
     ensures are { OnOk result (All IsPart (map part_of traces.now)) }
@@ -87,6 +87,8 @@ fn put_run(out: &mut Vec<u8>, trace: &RunTrace) -> Result<(), AllocError>
 }
 
 /// The text of the running record, which is its one spelling. NoMemory says that memory ran out.
+// claim text, alone: `print_run` writes the one spelling of what each running peer did, and no
+//    other running record has that text.
 pub fn print_run(alloc: Global, trace: &RunTrace) -> Result<Vec<u8>, NoMemory>
     ensures text { IfOk result (λ text. IsRunSpelling (run_of trace.now) text.items) }
     // No other running record has this text.

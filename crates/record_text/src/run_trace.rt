@@ -6,8 +6,8 @@ ghost use Rattle.scenario_text.specs.Spelling.{world_of};
 use crate::own_traces::OwnTraces;
 use scenario_text::Scenario;
 
-/// A scenario and what each peer of it did that ran in a thread. There are just the ones that have a spelling: there is
-/// one trace for each peer with a turn line, ascending.
+/// A scenario and what each peer of it did that ran in a thread. There are just the ones that have
+/// a spelling: there is one trace for each peer with a turn line, ascending.
 #[derive(Debug, Drop)]
 pub struct RunTrace {
     /// What was to happen.

@@ -1,4 +1,4 @@
--- Steps along places, and along what is left of a call there.
+-- Steps from place to place, and along the rest of a call.
 use Rattle.std.proofs.Common.{rules, ◌≡◌, ℕ, Bool, true, false, List, [], ◌∷◌, ◌++◌, refl, sym, ap, ◌∙◌, subst}
 use Rattle.call_grammar.specs.Steps.{Step, value_given}
 use Rattle.call_grammar.specs.Trees.{CallTree, Goes, GoesAlong}
@@ -33,7 +33,7 @@ goes_lem config place to (step ∷ steps) a = (
   goes_lem config (next_place config place step.value) to steps a.2,
 )
 
--- a step that gives no value goes on in one way
+-- A step without a read has one next place.
 given : (config : EndConfig) (place : Place) (v : ℕ) → (step_at config place (value_given (access_at config place) v) ≡ step_at config place v) × (next_place config place (value_given (access_at config place) v) ≡ next_place config place v)
 given config Closed v = (refl, refl)
 given config place v = (refl, refl)
@@ -61,7 +61,7 @@ joined_lem : (config : EndConfig) (place to new : Place) (steps : List Step) (st
 joined_lem config place to new [] step a b = subst (λ (p : Place). Along config p (step ∷ []) new) a b
 joined_lem config place to new (first ∷ steps) step a b = (a.0, a.1, joined_lem config (next_place config place first.value) to new steps step a.2 b)
 
--- which of the places is closed
+-- A place without an open call is `Closed`.
 pub closed : (place : Place) → is_open place ≡ false → place ≡ Closed
 closed Closed e = refl
 closed place e = absurd (let t : true ≡ false = e in cc)
@@ -74,7 +74,7 @@ prefix : (config : EndConfig) (place new : Place) (steps : List Step) (step : St
 prefix config place new [] step a = (place, refl)
 prefix config place new (first ∷ steps) step a = let rest = prefix config (next_place config place first.value) new steps step a.2 in (rest.0, (a.0, a.1, rest.1))
 
--- the steps are played to the end where no call is open after them
+-- The steps replay the call to its end exactly if no call is open after them.
 pub whole : (config : EndConfig) (begun : Begun) (first : Place) (steps : List Step) (place : plain.Place) (b : Bool) → IsAfter config begun first steps (Some place) → b ≡ is_open (place_seen begun place) →
     (IsTrue (not b) → IsReplayed config first steps) × (IsReplayed config first steps → IsTrue (not b))
 whole config begun first steps place true after e = (
@@ -89,13 +89,13 @@ whole config begun first steps place false after e = (
 from_tree : (config : EndConfig) (end : End) (call : Call) (first : Place) (steps : List Step) (left : CallTree) → first ≡ first_place config end call → GoesAlong (tree_of config end call) steps left → GoesAlong (remaining config first) steps left
 from_tree config end call first steps left e g = subst (λ (t : CallTree). GoesAlong t steps left) (sym (ap (remaining config) e ∙ following.begins config end call)) g
 
--- no step goes on after steps that aren't played
+-- No step is next after steps that don't replay.
 pub none_unplayed : (config : EndConfig) (end : End) (call : Call) (steps : List Step) (value : ℕ) (begun : Begun) (first : Place) → first ≡ first_place config end call → IsAfter config begun first steps None → IsNext config end call steps value None
 none_unplayed config end call steps value begun first e after = λ step left g.
     let a = along_lem config first (steps ++ step ∷ []) left (from_tree config end call first (steps ++ step ∷ []) left e g) in
     let p = prefix config first a.0 steps step a.1 in after p.0 p.1
 
--- nor after the end of the call
+-- No step is next after the end of the call.
 pub none_closed : (config : EndConfig) (end : End) (call : Call) (steps : List Step) (value : ℕ) (begun : Begun) (first : Place) (place : plain.Place) → first ≡ first_place config end call → IsAfter config begun first steps (Some place) →
     is_open (place_seen begun place) ≡ false → IsNext config end call steps value None
 none_closed config end call steps value begun first place e after shut = λ step left g.
@@ -103,7 +103,7 @@ none_closed config end call steps value begun first place e after shut = λ step
     let m = more_lem config first (place_seen begun place) a.0 steps step after.0 a.1 in
     let o : is_open (place_seen begun place) ≡ true = m.0 in cc
 
--- the step at the place after the steps goes on with the call
+-- The step at the place after the steps is the next step of the call.
 pub some_next : (config : EndConfig) (end : End) (call : Call) (steps : List Step) (value : ℕ) (begun : Begun) (first : Place) (place : plain.Place) (next : plain_step.Step) → first ≡ first_place config end call →
     IsAfter config begun first steps (Some place) → is_open (place_seen begun place) ≡ true → access_seen next.access ≡ access_at config (place_seen begun place) → next.value ≡ value_given (access_seen next.access) value →
     marks_seen next.marks.items ≡ marks_at config (place_seen begun place) value → IsNext config end call steps value (Some next)
@@ -119,6 +119,6 @@ some_next config end call steps value begun first place next e after shown acces
     let tree : remaining config first ≡ tree_of config end call = ap (remaining config) e ∙ following.begins config end call in
     ((remaining config (next_place config to next.value), subst (λ (t : CallTree). GoesAlong t (steps ++ step_seen next ∷ []) (remaining config (next_place config to next.value))) tree goes), gives)
 
--- steps that aren't played to any place aren't played to the end
+-- Steps that lead to no place don't replay to the end.
 pub unplayed : (config : EndConfig) (begun : Begun) (first : Place) (steps : List Step) → IsAfter config begun first steps None → IsReplayed config first steps → ⊥
 unplayed config begun first steps after p = after Closed (from_played config first steps p)

@@ -14,7 +14,8 @@ use Rattle.reference_calls.specs.declared.frames.Blocks.{Blocks}
 use Rattle.reference_calls.specs.Begun.{length_at}
 use Rattle.reference_calls.specs.Blocks.{RefinesBlocks, are_apart_blocks}
 
--- the blocks of the next frame begin behind those of this one where they end inside the ring, and at its first block where they don't
+-- The blocks of the next frame follow those of this one if they end inside the ring. If they don't,
+-- they begin at its first block.
 behind : (room : ℕ) (length_of : ℕ → ℕ) (k first count next : ℕ) → 64 * first ≡ ring_start room length_of k → 64 * count ≡ up64 (length_of k) →
     64 * next ≡ up64 (length_of (suc k)) → first + count + next ≤ room / 64 → 64 * (first + count) ≡ ring_start room length_of (suc k)
 unfolding ring_start
@@ -53,7 +54,7 @@ pub stands_first : (config : EndConfig) (begun : Begun) (length count : ℕ) →
 unfolding ring_start
 stands_first config begun length count long takes few = record { first = refl; count = takes ∙ ap up64 long; near = omega arith; few = few }
 
--- in a ring of bytes, blocks are apart where the bytes of their frames are
+-- In a byte ring, blocks are apart exactly if the bytes of their frames are.
 pub starts_in_ring : (q : Sizes) (length_of : ℕ → ℕ) (k : ℕ) → is_byte_ring q ≡ true → start_of q length_of k ≡ data_area_start q + ring_start (data_area_len q) length_of k
 unfolding start_of
 starts_in_ring q length_of k ring = ap (λ b. cond b (data_area_start q + ring_start (data_area_len q) length_of k) (offset_of q (FrameSlot (k % limit_of q)))) ring
@@ -66,7 +67,7 @@ takes_in_ring : (q : Sizes) (bytes : ℕ) → is_byte_ring q ≡ true → footpr
 unfolding footprint_of
 takes_in_ring q bytes ring = ap (λ b. cond b (up64 bytes) (slot_of q)) ring
 
--- the bytes of the frames with these two numbers
+-- The bytes of the frames with these two numbers are apart.
 abbrev pub AreApartFrames : EndConfig → Begun → ℕ → ℕ → Type 0
 AreApartFrames config begun k number =
     AreApart (start_of config.queue (length_at begun) k) (footprint_of config.queue (length_at begun k)) (start_of config.queue (length_at begun) number) (footprint_of config.queue (length_at begun number))
@@ -113,20 +114,20 @@ apart_blocks config begun k number these those ring here there apart =
     by_case (inl h) s t s' t' f c f' c' = inl (omega arith)
     by_case (inr h) s t s' t' f c f' c' = inr (omega arith)
 
--- one frame more is apart
+-- One frame more is apart.
 pub apart_more : (config : EndConfig) (begun : Begun) (freed k number : ℕ) → ((j : ℕ) → freed ≤ j → j < k → AreApartFrames config begun j number) → AreApartFrames config begun k number →
     (j : ℕ) → freed ≤ j → j < k + 1 → AreApartFrames config begun j number
 apart_more config begun freed k number before here j least most = dite (ℕ_discrete j k)
     (λ e. subst (λ n. AreApartFrames config begun n number) (sym e) here)
     (λ ne. before j least (omega arith))
 
--- a frame that isn't apart is found
+-- A frame that isn't apart is found.
 pub found_near : (q : Sizes) (length_of : ℕ → ℕ) (number freed k : ℕ) (b : Bool) → is_apart_from q length_of number freed (number - freed) ≡ b → freed ≤ k → k < number →
     (AreApart (start_of q length_of k) (footprint_of q (length_of k)) (start_of q length_of number) (footprint_of q (length_of number)) → ⊥) → b ≡ false
 found_near q length_of number freed k true e least most near = absurd (near (each_apart q length_of number freed (number - freed) e k least (omega arith)))
 found_near q length_of number freed k false e least most near = refl
 
--- the two tests of room
+-- The two tests of whether a frame fits.
 few_test : (a b : ℕ) → a < b → nat_lt a b ≡ true
 few_test a b h = grind (arith, nat_tests)
 

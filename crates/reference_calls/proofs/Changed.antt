@@ -1,4 +1,4 @@
--- The changed lists are no calls.
+-- The changed lists aren't calls.
 use Rattle.std.proofs.Common.{List, [], ◌∷◌, ◌++◌, ap, arith, ℕ, ◌+◌, ◌*◌}
 use Rattle.std.specs.Prelude.{replicate, sum}
 use Rattle.link_handshake.specs.declared.Phase.TheVariants.{Reset, Init, Ready, Run}
@@ -12,7 +12,7 @@ use Rattle.call_grammar.specs.Calls.{Tick, Stop, Offer, Poll, IsCall}
 use Rattle.reference_calls.specs.WorkedCalls.{peer_0, peer_1, small_peer_0, end_at, end_full, frame, r, s, refuse, offer_begun, offer_ended, item_read, item_returned, full_offer, offer_46, address_refused, length_refused, clear_short, byte_changed, never_accepted, other_entry, published_early, length_read_twice, word_changed, wrong_used_length, index_passed, id_passed, event_peer_0, event_peer_1, avail_event_read, end_taken, armed_poll, end_armed, event_unheeded, rings_at_every_frame, event_after_the_look, armed_anew, byte_peer_0, long_frame, next_published, ChangedRowsAreNone}
 use Rattle.call_grammar.proofs.Playing.{playing}
 
--- numbers that tell accesses and marks apart
+-- Numbers that distinguish accesses and marks.
 abbrev access_code : Access → ℕ
 access_code (Read word) = word
 access_code (Write word value) = 1000000 + word * 10000000000 + value

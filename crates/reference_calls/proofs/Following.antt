@@ -1,4 +1,4 @@
--- One mark more of those of a step.
+-- One more mark of a step.
 use Rattle.std.proofs.Common.{◌≡◌, ℕ, zero, suc, ◌+◌, ◌<◌, ◌≤◌, List, [], ◌∷◌, ◌++◌, length, take, get_or, refl, sym, ap, ◌∙◌, arith, length-append}
 use Rattle.std.proofs.lemmas.List.{take_more, map-append}
 use Rattle.call_grammar.specs.Steps as laws
@@ -9,7 +9,7 @@ use Rattle.reference_calls.specs.declared.ends.End.{End}
 use Rattle.reference_calls.specs.Seen.{mark_seen, marks_seen}
 use Rattle.reference_calls.specs.Following.{freed_by, freed_in, HasRoom, HasCounted}
 
--- the marks up to this one
+-- The marks up to this one.
 pub marks_more : (marks : List Mark) (i : ℕ) (mark : Mark) → i < length marks → mark ≡ get_or marks i mark → marks_seen (take (i + 1) marks) ≡ marks_seen (take i marks) ++ mark_seen mark ∷ []
 marks_more marks i mark inside is =
     ap (λ (ms : List Mark). marks_seen ms) (take_more marks i mark inside ∙ ap (λ (m : Mark). take i marks ++ m ∷ []) (sym is)) ∙ map-append mark_seen (take i marks) (mark ∷ [])
@@ -34,7 +34,7 @@ few_among [] (suc i) = omega arith
 few_among (x ∷ marks) zero = omega arith
 few_among (x ∷ marks) (suc i) = let rest = few_among marks i in omega arith
 
--- there is room for one more of them
+-- The counts don't overflow at one more mark.
 pub room_more : (old now : End) (marks : List Mark) (i : ℕ) (mark : Mark) → i < length marks → mark ≡ get_or marks i mark → HasRoom old (marks_seen marks) → HasCounted old (marks_seen (take i marks)) now →
     HasRoom now (mark_seen mark ∷ [])
 room_more old now marks i mark inside is room counts =
@@ -51,7 +51,7 @@ room_more old now marks i mark inside is room counts =
     let d' = counts.delivered in
     record { accepted = omega arith; freed = omega arith; delivered = omega arith }
 
--- and the counts after it
+-- The counts after it.
 pub counted_more : (old now new : End) (marks : List laws.Mark) (mark : laws.Mark) → HasCounted old marks now → HasCounted now (mark ∷ []) new → HasCounted old (marks ++ mark ∷ []) new
 counted_more old now new marks mark counts here =
     let few = length-append marks (mark ∷ []) in

@@ -1,4 +1,4 @@
--- Accesses and marks that are seen alike are the same.
+-- Accesses and marks that represent the same are equal.
 use Rattle.std.proofs.Common.{◌≡◌, Bool, IsTrue, List, [], ◌∷◌, refl, sym, ap, ◌∙◌}
 use Rattle.split_ring.specs.declared.steps.Access as ring
 use Rattle.split_ring.specs.declared.steps.Access.TheVariants as access
@@ -64,7 +64,8 @@ marks_there (mark ∷ marks) = let e = mark_there mark in let f = marks_there ma
 pub same_marks : (a b : List Mark) → marks_seen a ≡ marks_seen b → a ≡ b
 same_marks a b e = sym (marks_there a) ∙ (ap marks_back e ∙ marks_there b)
 
--- a step is the one of this access and these marks where its access and its value are those and its marks are these
+-- A step is the step of this access and these marks if its access, its value and its marks are the
+-- same.
 pub step_is : (step : Step) (a : ring.Access) (own : List Mark) (marks : List laws.Mark) (b : Bool) → access_seen step.access ≡ a → step.value ≡ laws.value_given a step.value →
     marks_seen own ≡ marks → (IsTrue b → step.marks.items ≡ own) → (step.marks.items ≡ own → IsTrue b) →
     (IsTrue b → step_seen step ≡ laws.step_of a step.value marks) × (step_seen step ≡ laws.step_of a step.value marks → IsTrue b)

@@ -1,4 +1,4 @@
--- Steps that are played one after the other from a place, and what a call goes on with after them.
+-- Steps that replay from a place, and the next step of a call after them.
 use Rattle.std.specs.Prelude.{ℕ, ◌≡◌, true, Option, Some, None, List, [], ◌∷◌, ◌++◌}
 use Rattle.call_grammar.specs.Steps.{Step, value_given}
 use Rattle.call_grammar.specs.Trees.{CallTree, GoesAlong}
@@ -12,17 +12,19 @@ use Rattle.reference_calls.specs.declared.steps.Step as plain_step
 use Rattle.reference_calls.specs.Seen.{step_seen}
 use Rattle.reference_calls.specs.Begun.{place_seen, IsSmall}
 
--- from the first place the steps are played to the second one: each is the step at its place for the value that it met
+-- The steps lead from the first place to the second one: each is the step at its place for the
+-- value that it met.
 abbrev pub Along : EndConfig → Place → List Step → Place → Type 0
 Along config place [] to = to ≡ place
 Along config place (step ∷ steps) to = (is_open place ≡ true) × (step ≡ step_at config place step.value) × Along config (next_place config place step.value) steps to
 
--- the place after the steps, or none where they aren't played
+-- The place after the steps, or none if they don't replay.
 abbrev pub IsAfter : EndConfig → Begun → Place → List Step → Option plain.Place → Type 0
 IsAfter config begun from steps None = (to : Place) → ¬ Along config from steps to
 IsAfter config begun from steps (Some to) = Along config from steps (place_seen begun to) × IsSmall to
 
--- the call goes on after these steps by this one, which met this value if it is a read; or no step goes on with it there
+-- The next step of the call after these steps is this one, which met `value` if it is a read; or
+-- the call has no next step there.
 abbrev pub IsNext : EndConfig → End → Call → List Step → ℕ → Option plain_step.Step → Type 0
 IsNext config end call steps value None = (step : Step) (left : CallTree) → ¬ GoesAlong (tree_of config end call) (steps ++ step ∷ []) left
 IsNext config end call steps value (Some next) =

@@ -1,4 +1,5 @@
--- What a call of this crate holds from its beginning, and its place, as a place of the call grammar.
+-- The data that a call of this crate has from its start on, and its place, as a place of the call
+-- grammar.
 use Rattle.std.specs.Prelude.{ℕ, ◌≡◌, List, [], ◌∷◌, ◌++◌, length, get_or, ◌+◌, ◌<◌, ◌^◌}
 use Rattle.call_grammar.specs.Offers.{PendingOffer}
 use Rattle.call_grammar.specs.Places as laws
@@ -14,11 +15,11 @@ use Rattle.reference_calls.specs.declared.places.Begun.{Begun}
 use Rattle.reference_calls.specs.declared.places.Place.{Place}
 use Rattle.reference_calls.specs.declared.places.Place.TheVariants.{Closed, ReadingOtherState, Clearing, WritingState, Refusing, NotInRun, ReadingUsedIndex, ReadingUsedId, WritingFrameWord, WritingDescAddressLow, WritingDescAddressHigh, WritingDescLength, WritingDescFlags, WritingAvailEntry, WritingAvailIndex, ReadingAvailEvent, RingingOffer, ReadingAvailIndex, WritingAvailEvent, ReadingAvailEntry, ReadingDescAddressLow, ReadingDescAddressHigh, ReadingDescLength, ReadingDescFlags, ReadingFrameWord, WritingUsedId, WritingUsedLength, WritingUsedIndex, RingingPoll}
 
--- the lengths of the session's frames up to the one that is offered, by their numbers
+-- The lengths of the session's frames up to the offered one, by their numbers.
 abbrev pub length_at : Begun → ℕ → ℕ
 length_at begun k = get_or begun.lengths.items k 0
 
--- what the call is to publish, where it is an offer
+-- The pending offer, if the call is an offer.
 abbrev pub pending_of : Begun → PendingOffer
 pending_of begun = record { frame = begun.frame.items; number = begun.number; lengths = length_at begun; neighbour_word = begun.neighbour_word }
 
@@ -53,14 +54,15 @@ place_seen begun (WritingUsedLength number more) = laws.WritingUsedLength number
 place_seen begun (WritingUsedIndex number more) = laws.WritingUsedIndex number more
 place_seen begun RingingPoll = laws.RingingPoll
 
--- an open call of this crate, by what it holds from its beginning and its place; and that place in the call grammar
+-- The view of an open call of this crate: its data from its start, and its place. Its place in the
+-- call grammar follows.
 abbrev pub Open : Type 0
 Open = Begun × Place
 
 abbrev pub place_of : Open → laws.Place
 place_of call = place_seen call.0 call.1
 
--- the numbers at a place that count on are so small that no count is too large for 64 bits
+-- The numbers at a place are so small that no sum overflows 64 bits.
 abbrev pub IsSmall : Place → Type 0
 IsSmall (Clearing at more state) = at + more + 1 < 2 ^ 33
 IsSmall (ReadingUsedId freed more) = freed + more + 1 < 2 ^ 33
@@ -76,12 +78,12 @@ IsSmall (WritingUsedLength number more) = number + more + 1 < 2 ^ 33
 IsSmall (WritingUsedIndex number more) = number + more + 1 < 2 ^ 33
 IsSmall _ = Unit {0}
 
--- the frame of a call that offers one
+-- The offered frame of a call.
 abbrev pub frame_of : Call → List ℕ
 frame_of (Offer frame) = frame
 frame_of _ = []
 
--- this is what the call holds of its end from its beginning
+-- The data that the call has of its end from its start on.
 pub record IsBegun (config : EndConfig) (end : End) (call : Call) (begun : Begun) : Type 0 where
   pub handshake : begun.handshake ≡ end.handshake
   pub frame : begun.frame.items ≡ frame_of call

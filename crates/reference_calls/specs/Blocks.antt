@@ -1,4 +1,4 @@
--- The blocks of 64 bytes in which the frames of a session stand, in a ring of bytes.
+-- The blocks of 64 bytes of a session's frames, in a byte ring.
 use Rattle.std.specs.Prelude.{ℕ, ◌≡◌, ◌+◌, ◌*◌, ◌<◌, ◌≤◌, ◌^◌, Bool, ◌||◌, nat_le}
 use Rattle.ivs_base.specs.Numbers.{up64}
 use Rattle.split_ring.specs.Layout.{data_area_len}
@@ -8,13 +8,14 @@ use Rattle.reference_calls.specs.declared.places.Begun.{Begun}
 use Rattle.reference_calls.specs.declared.frames.Blocks.{Blocks}
 use Rattle.reference_calls.specs.Begun.{length_at}
 
--- these are the blocks of the frame with this number, and so few that no sum of them is too large for 64 bits
+-- These are the blocks of the frame with this number, and so few that no sum of them overflows 64
+-- bits.
 pub record RefinesBlocks (config : EndConfig) (begun : Begun) (number : ℕ) (blocks : Blocks) : Type 0 where
   pub first : 64 * blocks.first ≡ ring_start (data_area_len config.queue) (length_at begun) number
   pub count : 64 * blocks.count ≡ up64 (length_at begun number)
   pub near : blocks.first < 2 ^ 24
   pub few : blocks.count ≤ 2 ^ 58
 
--- these and those have no block in common
+-- These and those blocks have none in common.
 abbrev pub are_apart_blocks : (these those : Blocks) → Bool
 are_apart_blocks these those = nat_le (these.first + these.count) those.first || nat_le (those.first + those.count) these.first

@@ -1,4 +1,4 @@
--- How the types of this crate are seen: as those of the call grammar.
+-- The records of the call grammar that the types of this crate represent.
 use Rattle.std.specs.Prelude.{ℕ, ◌≡◌, ◌==◌, if◌then◌else◌, List, [], ◌∷◌, length, map}
 use Rattle.split_ring.specs.declared.steps.Access as ring
 use Rattle.split_ring.specs.declared.steps.Access.TheVariants as access
@@ -19,13 +19,13 @@ use Rattle.reference_calls.specs.declared.steps.Step.{Step}
 abbrev pub config_seen : EndConfig → calls.EndConfig
 config_seen config = record { me = config.me; other = config.other; own = config.own; theirs = config.theirs; words = config.words; sizes = config.queue; vector = config.vector }
 
--- what these stores, of which the newest is the first, left in a word, or 0
+-- The value that these writes, listed newest first, left in a word, or 0.
 abbrev pub stored : List Store → ℕ → ℕ
 stored [] word = 0
 stored (store ∷ older) word = if store.word == word then store.value else stored older word
 
--- the end of the grammar stands where this one stands: its frames are counted and those that it accepted are as long, its last look found none
--- where this one's did, and its words are those that were stored
+-- The end represents this end of the grammar. Its numbers of frames and their lengths are the same,
+-- its last read of the available index found the same, and its words are those that were written.
 pub record IsSeenAs (seen : End) (end : ends.End) : Type 0 where
   pub handshake : end.handshake ≡ seen.handshake
   pub accepted : length end.accepted ≡ seen.accepted

@@ -1,4 +1,5 @@
--- Worked examples of calls, line by line: a link of two peers with sections of 16,384 bytes at words 1,024 and 5,120 and an MTU of 256.
+-- Worked examples of calls, line by line: a link of two peers with sections of 16,384 bytes at
+-- words 1,024 and 5,120 and an MTU of 256.
 use Rattle.std.specs.Prelude.{ℕ, if◌then◌else◌, ◌==◌, ◌*◌, ◌+◌, suc, zero, true, false, List, [], ◌∷◌, ◌++◌, replicate}
 use Rattle.link_handshake.specs.declared.Phase.{Phase}
 use Rattle.link_handshake.specs.declared.Phase.TheVariants.{Reset, Init, Ready, Run}
@@ -11,7 +12,7 @@ use Rattle.call_grammar.specs.Ticks.{EndConfig}
 use Rattle.call_grammar.specs.Trees.{CallTree, GoesAlong}
 use Rattle.call_grammar.specs.Calls.{Tick, Stop, Offer, Poll, tree_of, IsCall}
 
--- peer 0 and peer 1 of the link, and peer 0 of a link whose sections have three words
+-- Peer 0 and peer 1 of the link, and peer 0 of a link whose sections have three words.
 abbrev pub peer_0 : EndConfig
 peer_0 = record { me = 0; other = 1; own = 1024; theirs = 5120; words = 4096; sizes = record { version = 1; out = 16384; mtu = 256 }; vector = 1 }
 
@@ -21,26 +22,28 @@ peer_1 = record { me = 1; other = 0; own = 5120; theirs = 1024; words = 4096; si
 abbrev pub small_peer_0 : EndConfig
 small_peer_0 = record { me = 0; other = 1; own = 1024; theirs = 5120; words = 3; sizes = record { version = 1; out = 16384; mtu = 256 }; vector = 1 }
 
--- peer 0 and peer 1 of the same link with events: the word with the event of peer 1 is 5,553
+-- Peer 0 and peer 1 of the same link with events: the word with the avail_event of peer 1 is 5,553.
 abbrev pub event_peer_0 : EndConfig
 event_peer_0 = record peer_0 { sizes = record { version = 2; out = 16384; mtu = 256 } }
 
 abbrev pub event_peer_1 : EndConfig
 event_peer_1 = record peer_1 { sizes = record { version = 2; out = 16384; mtu = 256 } }
 
--- peer 0 of the same link with a ring of bytes, which has 14,592 bytes from byte 1,792 of its section on
+-- Peer 0 of the same link with a byte ring, which has 14,592 bytes from byte 1,792 of its section
+-- on.
 abbrev pub byte_peer_0 : EndConfig
 byte_peer_0 = record peer_0 { sizes = record { version = 3; out = 16384; mtu = 256 } }
 
--- the frame of 14 bytes
+-- The frame of 14 bytes.
 abbrev pub frame : List ℕ
 frame = 255 ∷ 255 ∷ 255 ∷ 255 ∷ 255 ∷ 255 ∷ 2 ∷ 0 ∷ 0 ∷ 0 ∷ 0 ∷ 1 ∷ 8 ∷ 0 ∷ []
 
--- an end in this phase, which accepted these frames and freed none
+-- An end in this phase that accepted these frames and freed none.
 abbrev pub end_at : Phase → List (List ℕ) → End
 end_at phase accepted = record fresh { handshake = record { phase = phase; mark = false }; accepted = accepted }
 
--- the lines of a history, without their peer: a read, a write, a State step and a doorbell, each with its marks
+-- The lines of a history without their peer: a read, a write, a State step and a doorbell, each
+-- with its marks.
 abbrev pub r : (word value : ℕ) → List Mark → Step
 r word value marks = step_of (Read word) value marks
 
@@ -56,7 +59,7 @@ d target vector marks = step_of (Ring target vector) 0 marks
 abbrev pub refuse : FieldName → ℕ → List Mark
 refuse field value = Refuse record { field = field; value = value } ∷ []
 
--- The shortest handshake: INIT, the clear of a section (here of three words) and READY, RUN
+-- The shortest handshake: INIT, the clear of a section (here of three words) and READY, RUN.
 abbrev pub to_init : List Step
 to_init = r 1 0 (Saw 0 ∷ []) ∷ s 1 (Over ∷ []) ∷ []
 
@@ -66,7 +69,7 @@ to_ready = r 1 1 (Saw 1 ∷ []) ∷ w 1024 0 [] ∷ w 1025 0 [] ∷ w 1026 0 [] 
 abbrev pub to_run : List Step
 to_run = r 1 2 (Saw 2 ∷ []) ∷ s 3 (Over ∷ []) ∷ []
 
--- One frame: the offer of peer 0, and the poll of peer 1
+-- One frame: the offer of peer 0, and the poll of peer 1.
 abbrev pub offer_begun : List Step
 offer_begun = r 5424 0 (Reclaim 0 ∷ []) ∷ w 1472 4294967295 [] ∷ w 1473 196607 [] ∷ w 1474 16777216 [] ∷ w 1475 8 [] ∷ []
 
@@ -81,11 +84,12 @@ item_read =
 abbrev pub item_returned : List Step
 item_returned = w 5425 0 [] ∷ w 5426 1 [] ∷ w 5424 65536 (Return ∷ []) ∷ d 0 1 (Done ∷ []) ∷ []
 
--- Full: 45 frames are in flight
+-- Full: 45 frames are in flight.
 abbrev pub full_offer : List Step
 full_offer = r 5424 0 (Reclaim 0 ∷ Full ∷ []) ∷ []
 
--- and once all 45 are returned the next offer reads their ids in order, and takes descriptor 0 and entry 45, which shares its word with entry 44
+-- After all 45 are returned the next offer reads their ids in order, and uses descriptor 0 and
+-- entry 45, which shares its word with entry 44.
 abbrev pub end_full : End
 end_full = record (end_at Run (replicate 45 frame)) { written = λ word. if word == 1303 then 44 else 0 }
 
@@ -98,11 +102,11 @@ offer_46 entry_word = r 5424 2949120 (Reclaim 45 ∷ []) ∷ (returned_ids 0 45 
     w 1472 4294967295 [] ∷ w 1473 196607 [] ∷ w 1474 16777216 [] ∷ w 1475 8 [] ∷ w 1024 1792 [] ∷ w 1025 0 [] ∷ w 1026 14 [] ∷ w 1027 0 [] ∷
     w 1303 entry_word [] ∷ w 1280 3014656 (Accept frame ∷ []) ∷ d 1 1 (Over ∷ []) ∷ []))
 
--- The bound of the available index
+-- The bound of the available index.
 abbrev pub index_refused : List Step
 index_refused = r 5376 4259840 (refuse AvailIndex 65) ∷ s 0 (Over ∷ []) ∷ []
 
--- Each field of a descriptor, after a look at one frame
+-- Each field of a descriptor, after a read of the available index that found one frame.
 abbrev pub entry_refused : List Step
 entry_refused = r 5376 65536 (Look 1 ∷ []) ∷ r 5377 64 (refuse AvailEntry 64) ∷ s 0 (Over ∷ []) ∷ []
 
@@ -116,58 +120,62 @@ length_refused length =
 abbrev pub flags_refused : List Step
 flags_refused = r 5376 65536 (Look 1 ∷ []) ∷ r 5377 0 [] ∷ r 5120 1792 [] ∷ r 5121 0 [] ∷ r 5122 14 [] ∷ r 5123 1 (refuse DescFlags 1) ∷ s 0 (Over ∷ []) ∷ []
 
--- Hostile returns: a wrong id, and an index past those in flight
+-- Hostile returns: a wrong id, and an index past the frames in flight.
 abbrev pub id_refused : List Step
 id_refused = r 5424 65536 (Reclaim 1 ∷ []) ∷ r 5425 7 (refuse UsedId 7) ∷ s 0 (Over ∷ []) ∷ []
 
 abbrev pub used_refused : List Step
 used_refused = r 5424 131072 (refuse UsedIndex 2) ∷ s 0 (Over ∷ []) ∷ []
 
--- In a link with events: the offer of frame 0 hears an event that asks for it, whatever stands in the other half of the word
+-- In a link with events: the offer of frame 0 reads an avail_event that wants a doorbell for it,
+-- for all values of the other half of the word.
 abbrev pub offer_published : List Step
 offer_published = w 1024 1792 [] ∷ w 1025 0 [] ∷ w 1026 14 [] ∷ w 1027 0 [] ∷ w 1281 0 [] ∷ w 1280 65536 (Accept frame ∷ []) ∷ []
 
 abbrev pub avail_event_read : ℕ → List Step
 avail_event_read avail_event_word = offer_begun ++ (offer_published ++ (r 5553 avail_event_word [] ∷ d 1 1 (Over ∷ []) ∷ []))
 
--- the offer of frame 1, by descriptor 1 and entry 1, which shares its word with entry 0, hears one that stands at frame 0
+-- The offer of frame 1, with descriptor 1 and entry 1, which shares its word with entry 0, reads an
+-- avail_event of 0.
 abbrev pub next_published : List Step
 next_published =
     r 5424 0 (Reclaim 0 ∷ []) ∷ w 1552 4294967295 [] ∷ w 1553 196607 [] ∷ w 1554 16777216 [] ∷ w 1555 8 [] ∷
     w 1028 2112 [] ∷ w 1029 0 [] ∷ w 1030 14 [] ∷ w 1031 0 [] ∷ w 1281 65536 [] ∷ w 1280 131072 (Accept frame ∷ []) ∷ []
 
--- and the offer of frame 2, once both are returned, one that asks for it
+-- The offer of frame 2, after both are returned, reads an avail_event that wants a doorbell for it.
 abbrev pub later_event_read : List Step
 later_event_read =
     r 5424 131072 (Reclaim 2 ∷ []) ∷ r 5425 0 [] ∷ r 5427 1 [] ∷ w 1632 4294967295 [] ∷ w 1633 196607 [] ∷ w 1634 16777216 [] ∷ w 1635 8 [] ∷
     w 1032 2432 [] ∷ w 1033 0 [] ∷ w 1034 14 [] ∷ w 1035 0 [] ∷ w 1282 2 [] ∷ w 1280 196608 (Accept frame ∷ []) ∷ r 5553 2 [] ∷ d 1 1 (Over ∷ []) ∷ []
 
--- a poll after two frames finds nothing, asks for a doorbell at frame 2, and finds nothing again
+-- A poll after two frames finds none, sets avail_event to 2, and finds none again.
 abbrev pub end_taken : End
 end_taken = record (end_at Run []) { delivered = frame ∷ frame ∷ [] }
 
 abbrev pub armed_poll : ℕ → List Step
 armed_poll event = r 1280 131072 (Look 0 ∷ []) ∷ w 5553 event [] ∷ r 1280 131072 (Look 0 ∷ Done ∷ []) ∷ []
 
--- the end of a session whose last look found nothing
+-- The end of a session whose last read of the available index found no frame.
 abbrev pub end_armed : End
 end_armed = record (end_at Run []) { found_none = true }
 
--- a frame is published between the two looks; an index out of range stands there at the second one
+-- A frame is published between the two reads of the available index; an index out of range is there
+-- at the second one.
 abbrev pub found_between : List Step
 found_between = r 1280 0 (Look 0 ∷ []) ∷ w 5553 0 [] ∷ (item_read ++ item_returned)
 
 abbrev pub second_refused : List Step
 second_refused = r 1280 0 (Look 0 ∷ []) ∷ w 5553 0 [] ∷ r 1280 4259840 (refuse AvailIndex 65) ∷ s 0 (Over ∷ []) ∷ []
 
--- In a ring of bytes: the offer of frame 1, which starts 64 bytes behind frame 0
+-- In a byte ring: the offer of frame 1, which starts 64 bytes after frame 0.
 abbrev pub after_publish : List Step
 after_publish =
     r 5424 0 (Reclaim 0 ∷ []) ∷ w 1488 4294967295 [] ∷ w 1489 196607 [] ∷ w 1490 16777216 [] ∷ w 1491 8 [] ∷
     w 1028 1856 [] ∷ w 1029 0 [] ∷ w 1030 14 [] ∷ w 1031 0 [] ∷ w 1281 65536 [] ∷ w 1280 131072 (Accept frame ∷ []) ∷ r 5553 0 (Over ∷ []) ∷ []
 
--- the longest frame of the link, which takes 320 bytes: there is room for 45 of them and 192 bytes, so for three frames of 14 bytes, and the
--- offer of the one after these starts at the first byte once the 45 are returned
+-- The longest frame of the link, which occupies 320 bytes. The area fits 45 of them and 192 bytes
+-- more, so three frames of 14 bytes. The offer of the next frame starts at byte 0 after the 45 are
+-- returned.
 abbrev pub long_frame : List ℕ
 long_frame = replicate 274 0
 
@@ -179,7 +187,7 @@ wrapped =
     r 5424 2949120 (Reclaim 0 ∷ []) ∷ w 1472 4294967295 [] ∷ w 1473 196607 [] ∷ w 1474 16777216 [] ∷ w 1475 8 [] ∷
     w 1216 1792 [] ∷ w 1217 0 [] ∷ w 1218 14 [] ∷ w 1219 0 [] ∷ w 1305 48 [] ∷ w 1280 3211264 (Accept frame ∷ []) ∷ r 5553 0 (Over ∷ []) ∷ []
 
--- these lists are calls, and the five steps before a reset in the middle of an offer begin one
+-- These lists are calls, and the five steps before a reset in an offer begin one.
 pub record RowsAreCalls : Type 0 where
   pub shortest_handshake_init : IsCall peer_0 (end_at Reset []) Tick to_init
   pub shortest_handshake_ready : IsCall small_peer_0 (end_at Init []) Tick to_ready
@@ -224,9 +232,16 @@ pub record RowsAreCalls : Type 0 where
 
 -- The same lists with one line changed
 
--- a clear that leaves out a word; a wrong byte; no accept; another descriptor in the entry; a length of the used element that is wrong;
--- a word of the frame that changed after its delivery; a length that is read twice; a value refused that is in range; a refusal that is
--- left out
+-- The changes:
+-- - a clear without one of the words;
+-- - a wrong byte;
+-- - no accept;
+-- - another descriptor in the entry;
+-- - a wrong length of the used element;
+-- - a word of the frame that changed after its delivery;
+-- - a length that is read twice;
+-- - a refused value that is in range;
+-- - a refusal that is left out.
 abbrev pub clear_short : List Step
 clear_short = r 1 1 (Saw 1 ∷ []) ∷ w 1024 0 [] ∷ w 1025 0 [] ∷ s 2 (Over ∷ []) ∷ []
 
@@ -261,21 +276,23 @@ index_passed = r 5376 4259840 (Look 65 ∷ []) ∷ s 0 (Over ∷ []) ∷ []
 abbrev pub id_passed : List Step
 id_passed = r 5424 65536 (Reclaim 1 ∷ []) ∷ r 5425 7 [] ∷ s 0 (Over ∷ []) ∷ []
 
--- in a link with events a doorbell that is left out or too many; an event that isn't heard, and one that is heard in a link without events
+-- In a link with events: a doorbell too few or too many; an avail_event that isn't read, and one
+-- that is read in a link without events.
 abbrev pub event_unheeded : List Step
 event_unheeded = offer_begun ++ (offer_published ++ (r 5553 0 (Over ∷ []) ∷ []))
 
 abbrev pub rings_at_every_frame : List Step
 rings_at_every_frame = next_published ++ (r 5553 0 [] ∷ d 1 1 (Over ∷ []) ∷ [])
 
--- an event that is written after the second look; one that is written anew where it stands, and none where it doesn't
+-- An avail_event that is written after the second read of the available index; one that is written
+-- although it is set, and none although it isn't.
 abbrev pub event_after_the_look : List Step
 event_after_the_look = r 1280 131072 (Look 0 ∷ []) ∷ r 1280 131072 (Look 0 ∷ []) ∷ w 5553 2 (Done ∷ []) ∷ []
 
 abbrev pub armed_anew : List Step
 armed_anew = r 1280 0 (Look 0 ∷ []) ∷ w 5553 0 [] ∷ r 1280 0 (Look 0 ∷ Done ∷ []) ∷ []
 
--- none of these is a call
+-- None of these is a call.
 pub record ChangedRowsAreNone : Type 0 where
   pub shortest_handshake_init : ¬ IsCall peer_0 (end_at Reset []) Tick (r 1 0 (Saw 0 ∷ []) ∷ s 2 (Over ∷ []) ∷ [])
   pub shortest_handshake_ready : ¬ IsCall small_peer_0 (end_at Init []) Tick clear_short

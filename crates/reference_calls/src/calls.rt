@@ -16,14 +16,14 @@ use call_grammar::played_are_calls;
 use ivs_base::NoMemory;
 use std::alloc::Global;
 
-/// Is a call open at the place?
+/// Whether a call is open at the place.
 fn is_open(place: &Place) -> bool
     ensures { (begun : Begun) → result ≡ is_open (place_seen begun place.now) }
 {
     !matches!(place, Place::Closed)
 }
 
-/// What an access gives that met this value: the value where it is a read, else 0.
+/// Returns the value of an access that met `value`: `value` if the access is a read, else 0.
 pub fn given(access: Access, value: u32) -> u32
     ensures { result ≡ value_given (access_seen access) value }
 {
@@ -33,7 +33,7 @@ pub fn given(access: Access, value: u32) -> u32
     }
 }
 
-/// Is this the step at the place, for the value that it met?
+/// Whether this is the step at the place, for the value that it met.
 fn is_step_at(
     alloc: Global,
     config: &EndConfig,
@@ -56,7 +56,7 @@ fn is_step_at(
     Ok(same_marks(step.marks.as_slice(), marks.as_slice()))
 }
 
-/// The place after these steps, where each is the step at its place; else None.
+/// Returns the place after these steps, or `None` if one of them isn't the step at its place.
 fn place_after(
     alloc: Global,
     config: &EndConfig,
@@ -77,7 +77,10 @@ fn place_after(
     Ok(Some(place))
 }
 
-/// Are these steps a call that the end makes, from its first step to its last? NoMemory says that memory ran out.
+/// Whether these steps are a whole call of the end. Returns `Err(NoMemory)` if an allocation fails.
+// claim: `is_call` answers yes exactly if a list of steps is a call that the end makes. That
+//    includes when doorbells ring in a link with events, and where frames are placed in a byte
+//    ring.
 pub fn is_call(
     alloc: Global,
     config: &EndConfig,
@@ -98,8 +101,11 @@ pub fn is_call(
     Ok(!is_open(&place))
 }
 
-/// The step with which the call goes on after these steps, where a read gives this value; None where the call is over, or these
-/// steps don't begin it. NoMemory says that memory ran out.
+/// Returns the next step of the call after these steps, in which a read meets `value`. Returns
+/// `None` if the call is over or these steps don't begin it, and `Err(NoMemory)` if an allocation
+/// fails.
+// claim: The next step is one with which the call continues after the steps, for the value read;
+//    None is returned only if there is none.
 pub fn next_step(
     alloc: Global,
     config: &EndConfig,

@@ -1,4 +1,4 @@
-//! Who makes a call, where its end of the link stands, and the calls.
+//! The configuration of an end, its state, and the calls.
 ghost use Rattle.std.specs.Prelude.{◌≡◌};
 ghost use Rattle.reference_calls.specs.Seen.{stored};
 
@@ -6,68 +6,68 @@ use ivs_base::Frame;
 use link_handshake::Handshake;
 use split_ring::Queue;
 
-/// Who makes a call. Words are numbered from the base of the region.
+/// The configuration of an end. Words are numbered from the base of the region.
 #[derive(Clone, Copy, Debug)]
 pub struct EndConfig {
     /// The peer itself.
     pub me: u32,
-    /// Its partner.
+    /// The other peer.
     pub other: u32,
     /// The first word of its own section.
     pub own: u32,
-    /// The first word of its partner's section.
+    /// The first word of the other's section.
     pub theirs: u32,
-    /// The words of each section.
+    /// The number of words of each section.
     pub words: u32,
     /// The queue of both sections.
     pub queue: Queue,
-    /// The vector by which it rings its partner.
+    /// The vector of its doorbells to the other.
     pub vector: u32,
 }
 
-/// What an end wrote to a word of the region.
+/// A write of an end to a word of the region.
 #[derive(Clone, Copy, Debug)]
 pub struct Store {
     /// The number of the word.
     pub word: u32,
-    /// What was written to it.
+    /// The value that was written.
     pub value: u32,
 }
 
-/// Where an end of the link stands.
+/// The state of an end of the link.
 #[derive(Debug, Drop)]
 pub struct End {
-    /// Its phase, and whether it refused the link.
+    /// Its phase, and the mark of a refused link.
     pub handshake: Handshake,
-    /// How many frames of its session it accepted.
+    /// The number of frames that it accepted in its session.
     pub accepted: u32,
-    /// How long each of these is, in order.
+    /// The length in bytes of each of these frames, in order.
     pub lengths: Vec<u64>,
-    /// How many of these were freed.
+    /// The number of these frames that were freed.
     pub freed: u32,
-    /// How many frames of its session it delivered.
+    /// The number of frames that it delivered in its session.
     pub delivered: u32,
-    /// Whether its last look for new frames in its session found none.
+    /// Whether its session's last read of the available index found no frame.
     pub found_none: bool,
-    /// What it wrote, the newest first.
+    /// Its writes, newest first.
     pub stores: Vec<Store>,
 }
 
-/// What an end may be told to do.
+/// A call of an end.
 #[derive(Debug, Drop)]
 pub enum Call {
-    /// Looks at the other's state, and moves on.
+    /// Reads the other's State, and follows the handshake.
     Tick,
     /// Leaves the link.
     Stop,
     /// Publishes this frame.
     Offer(Frame),
-    /// Takes the frames that the other published.
+    /// Delivers the frames that the other published.
     Poll,
 }
 
 impl End {
-    /// What the end wrote last to a word, or 0.
+    /// Returns the last value that the end wrote to a word, or 0.
     pub(crate) fn written(&self, word: u64) -> u32
         ensures { result ≡ stored self.now.stores.items word }
     {

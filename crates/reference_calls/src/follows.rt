@@ -12,7 +12,7 @@ use link_handshake::{Handshake, phase_of};
 use std::alloc::Global;
 
 impl End {
-    /// An end at its start.
+    /// Returns the initial end.
     pub fn fresh(alloc: Global) -> End
         ensures seen { IsSeenAs result fresh }
         ensures accepted { result.accepted ≡ 0 }
@@ -30,7 +30,7 @@ impl End {
         }
     }
 
-    /// The device of the end was reset.
+    /// Resets the end after a reset of its device.
     pub fn reset(&mut self)
         ensures seen { (seen : ends.End) → IsSeenAs self.old seen → IsSeenAs self.new (after_reset seen) }
         ensures counts { HasCounted self.old [] self.new }
@@ -38,7 +38,7 @@ impl End {
         self.handshake.reset();
     }
 
-    /// A write of State.
+    /// Writes State.
     fn set_state(&mut self, state: u32)
         ensures seen { (seen : ends.End) → IsSeenAs self.old seen → IsSeenAs self.new (with_state seen state) }
         ensures counts { HasCounted self.old [] self.new }
@@ -53,7 +53,7 @@ impl End {
         }
     }
 
-    /// A write of a word.
+    /// Writes a word.
     fn store(&mut self, word: u32, value: u32) -> Result<(), NoMemory>
         ensures seen { OnOk result ((seen : ends.End) → IsSeenAs self.old seen → IsSeenAs self.new (with_access seen (Write word value))) }
         ensures counts { OnOk result (HasCounted self.old [] self.new) }
@@ -62,7 +62,7 @@ impl End {
         Ok(())
     }
 
-    /// What an access changes.
+    /// Makes the changes of an access.
     fn change(&mut self, access: Access) -> Result<(), NoMemory>
         requires { IsStorable (access_seen access) }
         ensures seen { OnOk result ((seen : ends.End) → IsSeenAs self.old seen → IsSeenAs self.new (with_access seen (access_seen access))) }
@@ -78,7 +78,7 @@ impl End {
         }
     }
 
-    /// What a mark counts.
+    /// Counts a mark.
     fn note(&mut self, mark: &Mark) -> Result<(), NoMemory>
         requires { HasRoom self.old (mark_seen mark.now ∷ []) }
         ensures seen { OnOk result ((seen : ends.End) → IsSeenAs self.old seen → IsSeenAs self.new (with_mark seen (mark_seen mark.now))) }
@@ -102,7 +102,7 @@ impl End {
         Ok(())
     }
 
-    /// What these marks count.
+    /// Counts these marks.
     fn note_all(&mut self, marks: &[Mark]) -> Result<(), NoMemory>
         requires { HasRoom self.old (marks_seen marks.now) }
         ensures seen { OnOk result ((seen : ends.End) → IsSeenAs self.old seen → IsSeenAs self.new (with_marks seen (marks_seen marks.now))) }
@@ -114,7 +114,10 @@ impl End {
         Ok(())
     }
 
-    /// The end takes a step. NoMemory says that memory ran out.
+    /// Makes a step. Returns `Err(NoMemory)` if an allocation fails.
+    // claim seen, counts with End::fresh.seen, End::fresh.accepted, End::fresh.freed,
+    //    End::fresh.delivered, End::reset.seen, End::reset.counts: An end after a step is that of
+    //    the call grammar, and its counts rise by at most the step's marks.
     pub fn follow(&mut self, step: &Step) -> Result<(), NoMemory>
         requires storable { IsStorable (step_seen step.now).access }
         requires room { HasRoom self.old (step_seen step.now).marks }

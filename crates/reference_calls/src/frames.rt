@@ -1,5 +1,5 @@
-//! Where the frames of a session start in the data area, and whether one more has room. A frame of a ring of bytes takes whole blocks of
-//! 64 bytes, and its blocks are found by going over the frames before it.
+//! The places of a session's frames in the data area, and whether another frame fits. A frame in a
+//! byte ring occupies whole blocks of 64 bytes. Its blocks are computed from the frames before it.
 ghost use Rattle.std.specs.Prelude.{◌≡◌, true, ◌+◌, ◌-◌, ◌*◌, ◌<◌, ◌≤◌, ◌^◌};
 ghost use Rattle.ivs_base.specs.Numbers.{up64};
 ghost use Rattle.split_ring.specs.Layout.{is_byte_ring};
@@ -13,16 +13,16 @@ use crate::EndConfig;
 use crate::places::Begun;
 use crate::words::{descriptor_of, slot_start};
 
-/// The blocks of 64 bytes that a frame takes in a ring of bytes: the first of them, and how many they are.
+/// The blocks of 64 bytes that a frame occupies in a byte ring: the first block, and their number.
 #[derive(Clone, Copy)]
 pub struct Blocks {
     /// The number of the first block.
     pub first: u64,
-    /// How many blocks there are.
+    /// The number of blocks.
     pub count: u64,
 }
 
-/// The length of the frame of the session with this number.
+/// Returns the length in bytes of the session's frame with this number.
 fn length_of(begun: &Begun, number: u64) -> u64
     ensures { result ≡ length_at begun.now number }
 {
@@ -32,7 +32,7 @@ fn length_of(begun: &Begun, number: u64) -> u64
     }
 }
 
-/// How many blocks so many bytes take.
+/// Returns the number of blocks for `bytes` bytes.
 fn blocks_for(bytes: u64) -> u64
     ensures bytes { 64 * result ≡ up64 bytes }
     ensures few { result ≤ 2 ^ 58 }
@@ -40,7 +40,8 @@ fn blocks_for(bytes: u64) -> u64
     bytes.div_ceil(64)
 }
 
-/// The blocks of the next frame after the one with this number: those behind its blocks, or from the first block on where they would pass the end.
+/// Returns the blocks of the frame after the one with this number, whose blocks are `blocks`. They
+/// follow these, or begin at the first block if they would pass the end.
 fn next_blocks(config: &EndConfig, begun: &Begun, number: u64, blocks: Blocks) -> Blocks
     requires small { number < 2 ^ 34 }
     requires here { RefinesBlocks config.now begun.now number blocks }
@@ -55,7 +56,7 @@ fn next_blocks(config: &EndConfig, begun: &Begun, number: u64, blocks: Blocks) -
     }
 }
 
-/// The blocks of the frame with this number.
+/// Returns the blocks of the frame with this number.
 fn blocks_of(config: &EndConfig, begun: &Begun, number: u64) -> Blocks
     requires { number < 2 ^ 34 }
     ensures { RefinesBlocks config.now begun.now number result }
@@ -70,7 +71,7 @@ fn blocks_of(config: &EndConfig, begun: &Begun, number: u64) -> Blocks
     blocks
 }
 
-/// Have these and those no block in common?
+/// Whether these and those blocks have none in common.
 fn are_apart(these: Blocks, those: Blocks) -> bool
     requires { (these.first + these.count < 2 ^ 60) × (those.first + those.count < 2 ^ 60) }
     ensures { result ≡ are_apart_blocks these those }
@@ -78,7 +79,8 @@ fn are_apart(these: Blocks, those: Blocks) -> bool
     these.first + these.count <= those.first || those.first + those.count <= these.first
 }
 
-/// Is none of the blocks of the offered frame one of a frame in flight, where so many were freed?
+/// Whether the blocks of the offered frame are apart from all frames in flight, after `freed`
+/// frames were freed.
 fn is_apart(config: &EndConfig, begun: &Begun, freed: u64) -> bool
     requires ring { is_byte_ring config.now.queue ≡ true }
     requires small { freed < 2 ^ 34 }
@@ -97,7 +99,7 @@ fn is_apart(config: &EndConfig, begun: &Begun, freed: u64) -> bool
     true
 }
 
-/// Has the offered frame room, where so many frames were freed?
+/// Whether the offered frame fits after `freed` frames were freed.
 pub fn frame_fits(config: &EndConfig, begun: &Begun, freed: u64) -> bool
     requires { freed < 2 ^ 34 }
     ensures { result ≡ frame_fits (config_seen config.now) (pending_of begun.now) freed }
@@ -108,7 +110,7 @@ pub fn frame_fits(config: &EndConfig, begun: &Begun, freed: u64) -> bool
     !config.queue.is_byte_ring() || is_apart(config, begun, freed)
 }
 
-/// The byte of the section at which the offered frame starts.
+/// Returns the byte of the section at which the offered frame starts.
 pub fn start_at(config: &EndConfig, begun: &Begun) -> u64
     ensures { result ≡ start_at (config_seen config.now) (pending_of begun.now) }
 {

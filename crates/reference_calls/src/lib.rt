@@ -1,19 +1,23 @@
-//! The plain program of the link: slow functions that compute the next step of a call, and whether a list of steps is a call, by
-//! going from place to place. It stands on the definitions of `call_grammar`, and shares no code with an engine.
-//! Its contracts promise an answer of yes exactly where the definition holds. Worked examples of calls, which are calls by the same
-//! definition, and the same with one line changed, which are none, show what it says yes and no to.
+//! The reference program of calls: slow functions that compute the next step of a call, and whether
+//! a list of steps is a call, from place to place. The crate uses the definitions of
+//! `call_grammar`, and shares no code with an engine. Its contracts promise the answer yes exactly
+//! if the definition holds. Worked examples show the answers: calls, and the same lists with one
+//! line changed, which aren't calls.
 //!
 //! # Design
 //!
-//! - An end counts its frames and keeps how long those are that it accepted, in place of keeping them, and it keeps what it wrote as a
-//!   list. A contract speaks of every end of `call_grammar` that is seen as it (`IsSeenAs`). `OpenCall` alone has a `Model`: of the other
-//!   types `specs/Seen` says as which record of the grammar each is seen.
-//! - An open call (`OpenCall`) is seen as what it holds from its beginning and its place, and `place_of` says which place of the grammar
-//!   that is: a place of the grammar has a function, the lengths by their numbers, and no value of a `Model` can have one. A step of it
-//!   costs the same wherever in its call it stands, where `next_step` goes over all steps so far.
-//! - In a ring of bytes a frame is found by going over the lengths of the session's frames up to its own, each time that it is needed, and
-//!   its room by going on over those in flight. So a step of an offer costs more the later in the session it is. The ring is counted in
-//!   blocks of 64 bytes, so that no sum is too large, however long a frame is (`specs/Blocks`).
+//! - An end counts its frames and stores the lengths of the accepted ones instead of the frames,
+//!   and it stores its writes as a list. A contract is about every end of `call_grammar` that it
+//!   represents (`IsSeenAs`). Only `OpenCall` has a `Model`. For the other types `specs/Seen` gives
+//!   the record of the grammar that each represents.
+//! - The view of an open call (`OpenCall`) is its data from its start and its place, and `place_of`
+//!   gives the place of the grammar. A place of the grammar has a function, the lengths by their
+//!   numbers, which no value of a `Model` can have. Its step costs the same at every place, but
+//!   `next_step` repeats all earlier steps.
+//! - In a byte ring the place of a frame is computed at each use, from the lengths of all frames of
+//!   the session up to its own. Whether the frame fits is computed from the frames in flight. So a
+//!   step of an offer costs more later in the session. The ring is counted in blocks of 64 bytes,
+//!   so that no sum overflows, for all frame lengths (`specs/Blocks`).
 #![tactic(auto)]
 
 mod calls;

@@ -20,7 +20,7 @@ use link_handshake::Move;
 use split_ring::{FieldName, Refused};
 use std::alloc::Global;
 
-/// This mark alone.
+/// Returns a list of this mark.
 fn only(alloc: Global, mark: Mark) -> Result<Vec<Mark>, NoMemory>
     ensures { IfOk result (λ marks. marks.items ≡ mark ∷ []) }
 {
@@ -29,7 +29,7 @@ fn only(alloc: Global, mark: Mark) -> Result<Vec<Mark>, NoMemory>
     Ok(marks)
 }
 
-/// These two marks.
+/// Returns a list of these two marks.
 fn both(alloc: Global, first: Mark, second: Mark) -> Result<Vec<Mark>, NoMemory>
     ensures { IfOk result (λ marks. marks.items ≡ first ∷ second ∷ []) }
 {
@@ -38,14 +38,14 @@ fn both(alloc: Global, first: Mark, second: Mark) -> Result<Vec<Mark>, NoMemory>
     Ok(marks)
 }
 
-/// The mark of a value that its field refuses.
+/// Returns the mark of a refused value.
 fn refuse(alloc: Global, field: FieldName, value: u64) -> Result<Vec<Mark>, NoMemory>
     ensures { IfOk result (λ marks. marks_seen marks.items ≡ refusal field value) }
 {
     only(alloc, Mark::Refuse(Refused { field, value }))
 }
 
-/// The marks of a Tick's read.
+/// Returns the marks of a Tick's read.
 fn tick_marks(alloc: Global, value: u32, found: Move) -> Result<Vec<Mark>, NoMemory>
     ensures { IfOk result (λ marks. marks_seen marks.items ≡ tick_marks value found) }
 {
@@ -55,7 +55,7 @@ fn tick_marks(alloc: Global, value: u32, found: Move) -> Result<Vec<Mark>, NoMem
     }
 }
 
-/// The marks of an offer's read of the used index.
+/// Returns the marks of an offer's read of the used index.
 fn used_index_marks(
     alloc: Global,
     config: &EndConfig,
@@ -77,7 +77,7 @@ fn used_index_marks(
     }
 }
 
-/// The marks of a poll's read of the available index.
+/// Returns the marks of a poll's read of the available index.
 fn avail_index_marks(
     alloc: Global,
     config: &EndConfig,
@@ -99,7 +99,7 @@ fn avail_index_marks(
     }
 }
 
-/// The marks of the read of a frame's word, with so many words after it.
+/// Returns the marks of the read of a frame's word, with `more` words after it.
 fn word_marks(
     alloc: Global,
     bytes: u32,
@@ -120,7 +120,7 @@ fn word_marks(
     only(alloc, Mark::Deliver(frame))
 }
 
-/// The marks of the step at a place, where its read gave this value.
+/// Returns the marks of the step at a place, if its read met `value`.
 pub fn marks_at(
     alloc: Global,
     config: &EndConfig,

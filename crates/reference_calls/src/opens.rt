@@ -1,4 +1,5 @@
-//! An open call: where it is, its next step, and where it goes on. A step costs the same wherever in its call it stands.
+//! An open call: its place, its next step, and the place after it. A step costs the same at every
+//! place.
 ghost use Rattle.std.specs.Prelude.{◌≡◌, IfOk};
 ghost use Rattle.call_grammar.specs.Ends as ends;
 ghost use Rattle.call_grammar.specs.Places.{Closed, first_place, access_at, step_at, next_place, is_open};
@@ -14,7 +15,7 @@ use link_handshake::Handshake;
 use std::alloc::Global;
 use std::marker::Model;
 
-/// A call between two steps, or none that is open.
+/// A call between two steps, or none.
 #[derive(Drop)]
 pub struct OpenCall {
     begun: Begun,
@@ -32,7 +33,7 @@ impl Model for OpenCall {
 }
 
 impl OpenCall {
-    /// No call is open.
+    /// Returns the state without an open call.
     pub fn closed(alloc: Global) -> OpenCall
         ensures { place_of result ≡ Closed }
     {
@@ -51,7 +52,11 @@ impl OpenCall {
         }
     }
 
-    /// The call that an end begins, before its first step. NoMemory says that memory ran out.
+    /// Returns the call that an end begins, before its first step. Returns `Err(NoMemory)` if an
+    /// allocation fails.
+    // claim with OpenCall::closed, OpenCall::is_open, OpenCall::access, OpenCall::step,
+    //    OpenCall::after: An open call is at the places of the grammar: its beginning, its access,
+    //    its step for the value read, its next place, and whether it is open.
     pub fn open(
         alloc: Global,
         config: &EndConfig,
@@ -65,21 +70,22 @@ impl OpenCall {
         Ok(OpenCall { begun, place })
     }
 
-    /// Is a call open?
+    /// Whether a call is open.
     pub fn is_open(&self) -> bool
         ensures { result ≡ is_open (place_of self.now) }
     {
         !matches!(&self.place, Place::Closed)
     }
 
-    /// The access of its next step.
+    /// Returns the access of the next step.
     pub fn access(&self, config: &EndConfig) -> Access
         ensures { access_seen result ≡ access_at (config_seen config.now) (place_of self.now) }
     {
         access_at(config, &self.begun, &self.place)
     }
 
-    /// Its next step, where a read gives this value. NoMemory says that memory ran out.
+    /// Returns the next step, in which a read meets `value`. Returns `Err(NoMemory)` if an
+    /// allocation fails.
     pub fn step(&self, alloc: Global, config: &EndConfig, value: u32) -> Result<Step, NoMemory>
         ensures { IfOk result (λ step. step_seen step ≡ step_at (config_seen config.now) (place_of self.now) value) }
     {
@@ -92,7 +98,7 @@ impl OpenCall {
         })
     }
 
-    /// The call after that step. NoMemory says that memory ran out.
+    /// Returns the call after that step. Returns `Err(NoMemory)` if an allocation fails.
     pub fn after(self, alloc: Global, config: &EndConfig, value: u32) -> Result<OpenCall, NoMemory>
         ensures { IfOk result (λ next. place_of next ≡ next_place (config_seen config.now) (place_of self) value) }
     {

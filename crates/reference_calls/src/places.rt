@@ -1,4 +1,4 @@
-//! Where a call is between two steps, the step there, and where the call goes on.
+//! The places of a call between two steps, the step at each, and the place after it.
 ghost use Rattle.std.specs.Prelude.{◌≡◌, true, ◌+◌, ◌<◌, ◌^◌, IfOk, List, [], ◌∷◌};
 ghost use Rattle.link_handshake.specs.HandshakeState.{move_of};
 ghost use Rattle.call_grammar.specs.Steps.{value_given};
@@ -18,31 +18,32 @@ use link_handshake::{Handshake, Move, Phase};
 use split_ring::{FieldName, Refused};
 use std::alloc::Global;
 
-/// What a call holds from its beginning.
+/// The data that a call has from its start on.
 #[derive(Debug, Drop)]
 pub struct Begun {
-    /// The handshake of its end.
+    /// The handshake state of its end.
     pub handshake: Handshake,
-    /// The frame that it offers, or nothing.
+    /// The offered frame, or no bytes.
     pub frame: Vec<u8>,
     /// The number of that frame in the session.
     pub number: u32,
-    /// How long each frame of the session is, that one the last.
+    /// The length in bytes of each frame of the session, the offered one last.
     pub lengths: Vec<u64>,
-    /// The word of the own section that holds its entry, as the end wrote it last.
+    /// The last value that the end wrote to the word of the frame's entry.
     pub neighbour_word: u32,
-    /// How many frames were freed.
+    /// The number of frames freed.
     pub freed: u32,
-    /// How many frames were taken.
+    /// The number of frames delivered.
     pub taken: u32,
-    /// Whether the first look of a poll is its last where it finds nothing.
+    /// Whether the first read of the available index is the poll's last if it finds no frame.
     pub last: bool,
 }
 
-/// Where a call is: the places of `call_grammar`, one for one. `more` is how many words, ids or items come after the one in hand, and
-/// `number` the number of that item in the session; `entry` is its descriptor, with the `address` and the length in `bytes` that were
-/// read; and of its frame the words `read`, with so many `words` after the next one. A look that is the `last` one of its poll ends it where it
-/// finds nothing.
+/// The places of a call, one for each place of `call_grammar`. `more` is the number of words, ids
+/// or items after the current one, and `number` the number of that item in the session. `entry` is
+/// its descriptor, with the `address` and the length in `bytes` that were read. `read` are the
+/// words read of its frame, with `words` words after the next one. If `last`, a read of the
+/// available index that finds no frame ends the poll.
 #[derive(Debug, Drop)]
 pub enum Place {
     Closed,
@@ -131,7 +132,7 @@ pub enum Place {
     RingingPoll,
 }
 
-/// The access of the step at a place.
+/// Returns the access of the step at a place.
 pub fn access_at(config: &EndConfig, begun: &Begun, place: &Place) -> Access
     requires { IsSmall place.now }
     ensures { access_seen result ≡ access_at (config_seen config.now) (place_seen begun.now place.now) }
@@ -223,7 +224,7 @@ pub fn access_at(config: &EndConfig, begun: &Begun, place: &Place) -> Access
     }
 }
 
-/// The place after the writes of 0 that are left.
+/// Returns the place before the next write of 0, or after the last one.
 fn clear_place(at: u64, count: u64, state: u32) -> Place
     requires { at + count < 2 ^ 33 }
     ensures place { (begun : Begun) → place_seen begun result ≡ clear_place at count state }
@@ -240,7 +241,7 @@ fn clear_place(at: u64, count: u64, state: u32) -> Place
     }
 }
 
-/// The place after a Tick's read.
+/// Returns the place after a Tick's read.
 fn tick_place(config: &EndConfig, found: Move) -> Place
     ensures place { (begun : Begun) → place_seen begun result ≡ tick_place (config_seen config.now) found }
     ensures small { IsSmall result }
@@ -256,7 +257,7 @@ fn tick_place(config: &EndConfig, found: Move) -> Place
     }
 }
 
-/// The place of the frame's words that are left to write.
+/// Returns the place before the next word of the frame, or after the last one.
 fn fill_place(at: u64, count: u64) -> Place
     requires { at + count < 2 ^ 62 }
     ensures place { (begun : Begun) → place_seen begun result ≡ fill_place (pending_of begun) at count }
@@ -272,7 +273,7 @@ fn fill_place(at: u64, count: u64) -> Place
     }
 }
 
-/// The place of the ids that are left to read.
+/// Returns the place before the next id, or after the last one.
 fn ids_place(config: &EndConfig, begun: &Begun, freed: u64, count: u64) -> Place
     requires { freed + count < 2 ^ 33 }
     ensures place { place_seen begun.now result ≡ ids_place (config_seen config.now) (pending_of begun.now) freed count }
@@ -290,7 +291,7 @@ fn ids_place(config: &EndConfig, begun: &Begun, freed: u64, count: u64) -> Place
     }
 }
 
-/// The place after the write of the available index.
+/// Returns the place after the write of the available index.
 fn notify_place(config: &EndConfig) -> Place
     ensures place { (begun : Begun) → place_seen begun result ≡ notify_place (config_seen config.now) begun.number }
     ensures small { IsSmall result }
@@ -302,7 +303,7 @@ fn notify_place(config: &EndConfig) -> Place
     }
 }
 
-/// The place of the items that are left to take.
+/// Returns the place before the next item, or after the last one.
 fn items_place(number: u64, count: u64) -> Place
     requires { number + count < 2 ^ 33 }
     ensures place { (begun : Begun) → place_seen begun result ≡ items_place number count }
@@ -318,7 +319,7 @@ fn items_place(number: u64, count: u64) -> Place
     }
 }
 
-/// The place of the words that are left to read.
+/// Returns the place before the next word to read, or after the last one.
 fn words_place(
     number: u64,
     more: u64,
@@ -351,7 +352,7 @@ fn words_place(
     }
 }
 
-/// The place after the step at this one, where its read gave this value.
+/// Returns the place after the step at this place, if its read met `value`.
 pub fn next_place(
     alloc: Global,
     config: &EndConfig,
@@ -496,7 +497,7 @@ pub fn next_place(
     Ok(next)
 }
 
-/// The place after an offer's read of the used index.
+/// Returns the place after an offer's read of the used index.
 fn after_used_index(config: &EndConfig, begun: &Begun, value: u32) -> Place
     ensures place { place_seen begun.now result ≡ next_place (config_seen config.now) (place_seen begun.now Place.ReadingUsedIndex) value }
     ensures small { IsSmall result }
@@ -510,7 +511,7 @@ fn after_used_index(config: &EndConfig, begun: &Begun, value: u32) -> Place
     }
 }
 
-/// The place after a poll's read of the available index.
+/// Returns the place after a poll's read of the available index.
 fn after_avail_index(config: &EndConfig, begun: &Begun, last: bool, value: u32) -> Place
     ensures place { place_seen begun.now result ≡ next_place (config_seen config.now) (place_seen begun.now (Place.ReadingAvailIndex last)) value }
     ensures small { IsSmall result }
@@ -528,14 +529,14 @@ fn after_avail_index(config: &EndConfig, begun: &Begun, last: bool, value: u32) 
     }
 }
 
-/// Is this the number of a descriptor?
+/// Whether this is the number of a descriptor.
 pub fn is_entry(config: &EndConfig, entry: u32) -> bool
     ensures { result ≡ is_entry config.now.queue entry }
 {
     entry < config.queue.size()
 }
 
-/// Is this address a multiple of 4 in the data area?
+/// Whether this address is a multiple of 4 in the data area.
 pub fn is_address(config: &EndConfig, address: u64) -> bool
     ensures value { result ≡ is_address config.now.queue address }
     ensures small { result ≡ true → address < 2 ^ 32 }
@@ -544,7 +545,7 @@ pub fn is_address(config: &EndConfig, address: u64) -> bool
         && (u64::from(config.queue.payload()) <= address && address < u64::from(config.queue.out()))
 }
 
-/// Can a frame at this address have this length?
+/// Whether a frame at this address can have this length in bytes.
 pub fn is_length(config: &EndConfig, address: u64, length: u32) -> bool
     requires { address < 2 ^ 32 }
     ensures { result ≡ is_length config.now.queue address length }
@@ -553,7 +554,7 @@ pub fn is_length(config: &EndConfig, address: u64, length: u32) -> bool
         && (length <= 65_553 && address + u64::from(length) <= u64::from(config.queue.out()))
 }
 
-/// What the call of an end holds from its beginning.
+/// Returns the data that the call of an end has from its start on.
 pub fn begin(alloc: Global, config: &EndConfig, end: &End, call: &Call) -> Result<Begun, NoMemory>
     ensures { IfOk result (λ begun. IsBegun config.now end.now call.now begun) }
 {
@@ -576,7 +577,7 @@ pub fn begin(alloc: Global, config: &EndConfig, end: &End, call: &Call) -> Resul
     })
 }
 
-/// The place at which a call begins.
+/// Returns the place at which a call begins.
 pub fn first_place(begun: &Begun, call: &Call) -> Place
     ensures place { (config : EndConfig) (end : End) (seen : ends.End) → IsBegun config end call.now begun.now → IsSeenAs end seen →
         place_seen begun.now result ≡ first_place (config_seen config) seen (call_seen call.now) }

@@ -1,10 +1,11 @@
-//! A step of a call: its access, the value that a read gave, and its marks.
+//! A step of a call: its access, the value that a read met, and its marks.
 ghost use Rattle.std.specs.Prelude.{◌≡◌, ◌↔◌, IsTrue};
 
 use ivs_base::Frame;
 use split_ring::Refused;
 
-/// One access of a peer. Words are numbered from the base of the region, by 64 bits, so that no sum of this program is too large.
+/// One access of a peer. Words are numbered from the base of the region, in 64 bits, so that no sum
+/// of this program overflows.
 #[derive(Clone, Copy, Debug, PartialEq, Eq)]
 pub enum Access {
     /// Reads this word.
@@ -13,37 +14,37 @@ pub enum Access {
     Write(u64, u64),
     /// Writes the own State.
     State(u32),
-    /// Writes the Doorbell.
+    /// Writes the Doorbell register.
     Ring {
-        /// The peer that is rung.
+        /// The target of the doorbell.
         target: u32,
-        /// The vector by which it is rung.
+        /// The vector of the doorbell.
         vector: u32,
     },
-    /// The one step of a call that is down.
+    /// No access: the only step of a call that is down.
     Nothing,
 }
 
-/// What is marked on a step.
+/// A mark of a step.
 #[derive(Debug, Drop)]
 pub enum Mark {
-    /// The other's state, as a Tick read it.
+    /// The other's State, as a Tick read it.
     Saw(u32),
-    /// How many used elements an offer found.
+    /// The number of used elements that an offer found.
     Reclaim(u64),
-    /// The frame has no room; the offer is over.
+    /// The frame doesn't fit; the offer is over.
     Full,
     /// The frame is published.
     Accept(Frame),
-    /// How many frames a poll found.
+    /// The number of frames that a poll found.
     Look(u64),
-    /// The frame is read whole.
+    /// The whole frame is read and delivered.
     Deliver(Frame),
     /// A used element is published.
     Return,
     /// The poll is over.
     Done,
-    /// The call was made outside RUN; it is over.
+    /// The call was made outside RUN, and is over.
     Down,
     /// A value was refused.
     Refuse(Refused),
@@ -56,14 +57,14 @@ pub enum Mark {
 pub struct Step {
     /// Its access.
     pub access: Access,
-    /// The value that a read gave; 0 where it is no read.
+    /// The value that a read met; 0 if the access isn't a read.
     pub value: u32,
-    /// What is marked on it, in order.
+    /// Its marks, in order.
     pub marks: Vec<Mark>,
 }
 
 impl Mark {
-    /// Is it the same mark?
+    /// Whether the two marks are equal.
     pub fn is(&self, mark: &Mark) -> bool
         ensures { IsTrue result ↔ self.now ≡ mark.now }
     {
@@ -101,7 +102,7 @@ impl Mark {
     }
 }
 
-/// Are these the same marks in the same order?
+/// Whether these are the same marks in the same order.
 pub fn same_marks(marks: &[Mark], others: &[Mark]) -> bool
     ensures { IsTrue result ↔ marks.now ≡ others.now }
 {

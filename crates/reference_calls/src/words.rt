@@ -1,4 +1,4 @@
-//! The words of a section, and the numbers and bytes in a word, as the call grammar tells them.
+//! The words of a section, and the numbers and bytes in a word, by the call grammar.
 ghost use Rattle.std.specs.Prelude.{◌≡◌, ◌+◌, ◌*◌, ◌/◌, ◌<◌, ◌≤◌, ◌^◌, IfOk, take, drop};
 ghost use Rattle.ivs_base.specs.Numbers.{distance};
 ghost use Rattle.split_ring.specs.Layout.{size_of, limit_of, offset_of, word_offset, DescAddress, DescLength, DescFlags, AvailIndex, AvailEntry, UsedFlags, UsedIndex, UsedId, UsedLength, AvailEvent, FrameSlot};
@@ -13,42 +13,42 @@ use ivs_base::{Frame, NoMemory, up64, word_of};
 use split_ring::Queue;
 use std::alloc::Global;
 
-/// The descriptor of the frame with this number.
+/// Returns the descriptor of the frame with this number.
 pub fn descriptor_of(config: &EndConfig, number: u64) -> u32
     ensures { result ≡ descriptor_of (config_seen config.now) number }
 {
     (number % u64::from(config.queue.limit())) as u32
 }
 
-/// The place in the ring of the entry with this number.
+/// Returns the position in the available ring of the entry with this number.
 pub fn entry_of(config: &EndConfig, number: u64) -> u32
     ensures { result ≡ avail_entry_of (config_seen config.now) number }
 {
     (number % u64::from(config.queue.size())) as u32
 }
 
-/// The first word of a descriptor.
+/// Returns the first word of a descriptor.
 pub fn address_word(i: u32) -> u64
     ensures { result ≡ 16 * i / 4 }
 {
     16 * u64::from(i) / 4
 }
 
-/// The word of a descriptor's length.
+/// Returns the word of a descriptor's length.
 pub fn length_word(i: u32) -> u64
     ensures { result ≡ (16 * i + 8) / 4 }
 {
     (16 * u64::from(i) + 8) / 4
 }
 
-/// The word of a descriptor's flags.
+/// Returns the word of a descriptor's flags.
 pub fn flags_word(i: u32) -> u64
     ensures { result ≡ (16 * i + 12) / 4 }
 {
     (16 * u64::from(i) + 12) / 4
 }
 
-/// The word of the available index.
+/// Returns the word of the available index.
 pub fn avail_index_word(queue: &Queue) -> u64
     ensures word { result ≡ word_offset queue.now AvailIndex }
     ensures small { result < 2 ^ 40 }
@@ -56,7 +56,7 @@ pub fn avail_index_word(queue: &Queue) -> u64
     (16 * u64::from(queue.size()) + 2) / 4
 }
 
-/// The word of an entry of the available ring.
+/// Returns the word of an available entry.
 pub fn entry_word(queue: &Queue, k: u32) -> u64
     ensures word { result ≡ word_offset queue.now (AvailEntry k) }
     ensures small { result < 2 ^ 40 }
@@ -64,7 +64,7 @@ pub fn entry_word(queue: &Queue, k: u32) -> u64
     (16 * u64::from(queue.size()) + 4 + 2 * u64::from(k)) / 4
 }
 
-/// The byte at which the used ring begins.
+/// Returns the byte at which the used ring begins.
 fn used_start(queue: &Queue) -> u64
     ensures place { result ≡ offset_of queue.now UsedFlags }
     ensures small { result < 2 ^ 40 }
@@ -72,7 +72,7 @@ fn used_start(queue: &Queue) -> u64
     up64(18 * u64::from(queue.size()) + 6)
 }
 
-/// The word of the used index.
+/// Returns the word of the used index.
 pub fn used_word(queue: &Queue) -> u64
     ensures word { result ≡ word_offset queue.now UsedIndex }
     ensures small { result < 2 ^ 40 }
@@ -80,7 +80,7 @@ pub fn used_word(queue: &Queue) -> u64
     (used_start(queue) + 2) / 4
 }
 
-/// The word of the id of a used element.
+/// Returns the word of the id of a used element.
 pub fn used_id_word(queue: &Queue, k: u32) -> u64
     ensures word { result ≡ word_offset queue.now (UsedId k) }
     ensures small { result < 2 ^ 40 }
@@ -88,7 +88,7 @@ pub fn used_id_word(queue: &Queue, k: u32) -> u64
     (used_start(queue) + 4 + 8 * u64::from(k)) / 4
 }
 
-/// The word of the length of a used element.
+/// Returns the word of the length of a used element.
 pub fn used_length_word(queue: &Queue, k: u32) -> u64
     ensures word { result ≡ word_offset queue.now (UsedLength k) }
     ensures small { result < 2 ^ 40 }
@@ -96,7 +96,7 @@ pub fn used_length_word(queue: &Queue, k: u32) -> u64
     (used_start(queue) + 8 + 8 * u64::from(k)) / 4
 }
 
-/// The word of the event: the frame at which the owner of the section asks for a doorbell.
+/// Returns the word of avail_event: the index for which the section's owner wants a doorbell.
 pub fn avail_event_word(queue: &Queue) -> u64
     ensures word { result ≡ word_offset queue.now AvailEvent }
     ensures small { result < 2 ^ 40 }
@@ -104,21 +104,21 @@ pub fn avail_event_word(queue: &Queue) -> u64
     (used_start(queue) + 4 + 8 * u64::from(queue.size())) / 4
 }
 
-/// The byte at which a slot begins.
+/// Returns the byte at which a slot begins.
 pub fn slot_start(queue: &Queue, i: u32) -> u64
     ensures { result ≡ offset_of queue.now (FrameSlot i) }
 {
     u64::from(queue.payload()) + u64::from(queue.slot()) * u64::from(i)
 }
 
-/// The word of an index: the flags beside it are 0.
+/// Returns the word of an index, whose flags are 0.
 pub fn index_word(index: u64) -> u64
     ensures { result ≡ index_word index }
 {
     65_536 * (index % 65_536)
 }
 
-/// The word with this value as entry `k`, and the other half as it was.
+/// Returns `word` with `value` as entry `k`, and the other half unchanged.
 pub fn with_entry(k: u32, word: u32, value: u32) -> u64
     ensures { result ≡ with_entry k word value }
 {
@@ -130,7 +130,7 @@ pub fn with_entry(k: u32, word: u32, value: u32) -> u64
     }
 }
 
-/// Entry `k` in its word.
+/// Returns available entry `k` from its word.
 pub fn entry_half(k: u32, word: u32) -> u32
     ensures { result ≡ entry_half k word }
 {
@@ -141,7 +141,7 @@ pub fn entry_half(k: u32, word: u32) -> u32
     }
 }
 
-/// How far an index in the high half of a word is from this count.
+/// Returns the distance from this count to the index in the high half of a word.
 pub fn published_by(taken: u64, word: u32) -> u64
     ensures value { result ≡ published_by taken word }
     ensures small { result < 65536 }
@@ -149,21 +149,22 @@ pub fn published_by(taken: u64, word: u32) -> u64
     (u64::from(word / 65_536) + 65_536 - taken % 65_536) % 65_536
 }
 
-/// Does the event in the low half of this word ask for a doorbell at the frame with this number?
+/// Whether the event index in the low half of this word wants a doorbell for the frame with this
+/// number.
 pub fn wants_doorbell(word: u32, number: u32) -> bool
     ensures { result ≡ wants_doorbell (low_half word) number }
 {
     word % 65_536 == number % 65_536
 }
 
-/// The address in its low and its high word.
+/// Returns the address from its low and its high word.
 pub fn address_of(low: u32, high: u32) -> u64
     ensures { result ≡ address_of low high }
 {
     u64::from(low) + 4_294_967_296 * u64::from(high)
 }
 
-/// The words that so many bytes take.
+/// Returns the number of words for `bytes` bytes.
 pub fn words_for(bytes: u64) -> u64
     requires { bytes < 2 ^ 63 }
     ensures value { result ≡ words_for bytes }
@@ -172,7 +173,7 @@ pub fn words_for(bytes: u64) -> u64
     (bytes + 3) / 4
 }
 
-/// Word `at` of a frame: its four bytes there, and 0 after the last.
+/// Returns word `at` of a frame: its four bytes there, with 0 after the last.
 pub fn frame_word(frame: &[u8], at: u64) -> u32
     requires { at < 2 ^ 62 }
     ensures { result ≡ frame_word frame.now at }
@@ -189,7 +190,7 @@ pub fn frame_word(frame: &[u8], at: u64) -> u32
     }
 }
 
-/// The frame of so many bytes in these words.
+/// Returns the frame of `length` bytes in these words.
 pub fn frame_in(alloc: Global, length: u32, words: &[u32]) -> Result<Frame, NoMemory>
     ensures { IfOk result (λ frame. frame ≡ frame_in length words.now) }
 {

@@ -1,4 +1,4 @@
--- The marks and the lines of a step, one after the other.
+-- The marks and the lines of a step, in order.
 use Rattle.std.proofs.Common.{◌≡◌, ℕ, ◌+◌, ◌<◌, List, [], ◌∷◌, ◌++◌, length, take, drop, get_or, refl, sym, ap, ◌∙◌, subst}
 use Rattle.std.specs.Prelude.{Some, None, reverse, map}
 use Rattle.std.proofs.lemmas.List.{reverse-append, take_more, take-append-drop, map-append}
@@ -15,21 +15,21 @@ use Rattle.reference_history.specs.Reading.{Reads}
 use Rattle.reference_history.specs.DeviceEvents.{brought, device_event_of_access}
 use Rattle.reference_history.proofs.Reading.{reversed_after, none_more}
 
--- the lines of these marks of a peer
+-- The lines of these marks of a peer.
 abbrev lines_by : ℕ → List Mark → List Line
 lines_by me marks = map (mark_line me) (marks_seen marks)
 
 lines-append : (me : ℕ) (xs ys : List Mark) → lines_by me (xs ++ ys) ≡ lines_by me xs ++ lines_by me ys
 lines-append me xs ys = ap (λ ms. map (mark_line me) ms) (map-append mark_seen xs ys) ∙ map-append (mark_line me) (marks_seen xs) (marks_seen ys)
 
--- one mark more
+-- One more mark.
 pub one_marked : (me : ℕ) (past : List Line) (marks : List Mark) (i : ℕ) (mark : Mark) → i < length marks → mark ≡ get_or marks i mark →
     reverse (map (mark_line me) (marks_seen (take (i + 1) marks))) ++ past ≡ mark_line me (mark_seen mark) ∷ (reverse (map (mark_line me) (marks_seen (take i marks))) ++ past)
 one_marked me past marks i mark inside is =
     ap (λ (ms : List Mark). reverse (lines_by me ms) ++ past) (take_more marks i mark inside ∙ ap (λ (m : Mark). take i marks ++ m ∷ []) (sym is))
     ∙ ap (λ ls. reverse ls ++ past) (lines-append me (take i marks) (mark ∷ [])) ∙ ap (λ ls. ls ++ past) (reverse-append (lines_by me (take i marks)) (mark_line me (mark_seen mark) ∷ []))
 
--- where one of them isn't there, they aren't
+-- If one of the lines isn't there, the lines aren't there.
 pub not_all_marked : (lines past : List Line) (me : ℕ) (marks : List Mark) (i : ℕ) → Reads lines (reverse (map (mark_line me) (marks_seen (take i marks))) ++ past) None → Reads lines (reverse (map (mark_line me) (marks_seen marks)) ++ past) None
 not_all_marked lines past me marks i none =
     let first = lines_by me (take i marks) in
@@ -38,7 +38,7 @@ not_all_marked lines past me marks i none =
     ap (λ (xs : List Mark). reverse (lines_by me xs) ++ past) (sym (take-append-drop i marks)) ∙ ap (λ ls. reverse ls ++ past) (lines-append me (take i marks) (drop i marks)) ∙ reversed_after first more past in
     subst (λ (ls : List Line). Reads lines ls None) (sym whole) (none_more lines (reverse first ++ past) more none)
 
--- the interrupts of an access are those of what it tells
+-- The interrupts of an access are those of its device event.
 pub interrupts_are : (world : World) (past : List Line) (losses : ℕ → ℕ) (me : ℕ) (a : Access) (value : ℕ) →
     brought_by world past losses (access_lines me a value) ≡ arrived (reverse (access_lines me a value) ++ past) losses (brought (devices_of world) (device_events past) (device_event_of_access me a))
 interrupts_are world past losses me (access.Read word) value = refl
@@ -47,7 +47,7 @@ interrupts_are world past losses me (access.State state) value = refl
 interrupts_are world past losses me (access.Ring target vector) value = refl
 interrupts_are world past losses me access.Nothing value = refl
 
--- the lines of a step stand where its access, its interrupts and its marks stand, one after the other
+-- The lines of a step are its access, its interrupts and its marks, in order.
 pub step_after : (world : World) (past : List Line) (losses : ℕ → ℕ) (me : ℕ) (step : laws.Step) →
     reverse (step_lines me step (step_interrupts world past losses me (Some step))) ++ past ≡
     reverse (map (mark_line me) step.marks) ++ (reverse (arrived (reverse (access_lines me step.access step.value) ++ past) losses (brought (devices_of world) (device_events past) (device_event_of_access me step.access)))

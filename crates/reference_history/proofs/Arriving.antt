@@ -1,4 +1,4 @@
--- Interrupts that come one after the other.
+-- Interrupts in order.
 use Rattle.std.proofs.Common.{◌≡◌, ℕ, ◌+◌, ◌<◌, List, [], ◌∷◌, ◌++◌, length, take, drop, get_or, refl, sym, ap, ◌∙◌, subst}
 use Rattle.std.specs.Prelude.{None, reverse}
 use Rattle.std.proofs.lemmas.List.{reverse-append, take_more, take-append-drop}
@@ -16,7 +16,7 @@ arrived-append older losses (x ∷ xs) ys =
     let rest = arrived (a ∷ older) losses xs in
     ap (λ ls. a ∷ ls) (arrived-append (a ∷ older) losses xs ys) ∙ ap (λ ls. a ∷ (rest ++ arrived ls losses ys)) (sym (reversed_after (a ∷ []) rest older))
 
--- one more of them
+-- One more interrupt.
 pub one_arrived : (past : List Line) (losses : ℕ → ℕ) (ds : List Delivery) (i : ℕ) (d : Delivery) → i < length ds → d ≡ get_or ds i d →
     reverse (arrived past losses (take (i + 1) ds)) ++ past ≡ arrival (reverse (arrived past losses (take i ds)) ++ past) losses d ∷ (reverse (arrived past losses (take i ds)) ++ past)
 one_arrived past losses ds i d inside is =
@@ -24,7 +24,7 @@ one_arrived past losses ds i d inside is =
     ap (λ xs. reverse (arrived past losses xs) ++ past) (take_more ds i d inside ∙ ap (λ (x : Delivery). take i ds ++ x ∷ []) (sym is)) ∙
     ap (λ ls. reverse ls ++ past) (arrived-append past losses (take i ds) (d ∷ [])) ∙ ap (λ ls. ls ++ past) (reverse-append (arrived past losses (take i ds)) (arrival older losses d ∷ []))
 
--- where one of them isn't there, they aren't
+-- If one of the lines isn't there, the lines aren't there.
 pub not_all : (lines past : List Line) (losses : ℕ → ℕ) (ds : List Delivery) (i : ℕ) → Reads lines (reverse (arrived past losses (take i ds)) ++ past) None → Reads lines (reverse (arrived past losses ds) ++ past) None
 not_all lines past losses ds i none =
     let first = arrived past losses (take i ds) in

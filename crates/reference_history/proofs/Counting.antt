@@ -1,4 +1,4 @@
--- What a step counts, and where a call reads its counts.
+-- The counts of a step, and the places at which a call reads its end's counts.
 use Rattle.std.proofs.Common.{◌≡◌, ℕ, zero, suc, ◌+◌, ◌-◌, ◌<◌, ◌≤◌, Bool, true, false, List, [], ◌∷◌, ◌++◌, length, take, get_or, refl, sym, ap, ◌∙◌, arith}
 use Rattle.std.specs.Prelude.{◌==◌, nat_le, if◌then◌else◌}
 use Rattle.std.proofs.lemmas.Bool.Decides.{nat_tests}
@@ -151,7 +151,7 @@ freed_offer most end config pending freed count other true is number same few no
     let within : count ≤ pending.number - freed = grind (arith, nat_tests) in omega arith
 freed_offer most end config pending freed count other false is number same few none = let zero_is = none.none in omega arith
 
--- a step that frees none
+-- A step that frees no frame.
 frees_none : (most : ℕ) (end : End) (xs : List Mark) → FreesNone xs → end.freed ≤ most → end.freed + freed_in xs ≤ most
 frees_none most end xs none few = let zero_is = none.none in omega arith
 
@@ -186,7 +186,7 @@ freed_few most end config (WritingUsedLength number more) value fresh few = omeg
 freed_few most end config (WritingUsedIndex number more) value fresh few = omega arith
 freed_few most end config RingingPoll value fresh few = omega arith
 
--- Where a call reads the counts of its end
+-- The places at which a call reads the counts of its end
 
 fresh_if : (most : ℕ) (end : End) (b : Bool) (p q : Place) → IsFresh most end p → IsFresh most end q → IsFresh most end (if b then p else q)
 fresh_if most end true p q a b = a
@@ -217,7 +217,7 @@ fresh_words : (most : ℕ) (end : End) (number more entry address bytes : ℕ) (
 fresh_words most end number more entry address bytes read zero = tt
 fresh_words most end number more entry address bytes read (suc words) = tt
 
--- it reads them at its first step alone
+-- It reads them only at its first step.
 pub fresh_next : (most : ℕ) (end : End) (config : EndConfig) (place : Place) (value : ℕ) → IsFresh most end (next_place config place value)
 fresh_next most end config Closed value = tt
 fresh_next most end config (ReadingOtherState handshake) value = fresh_tick most end config (move_of handshake value)
@@ -267,7 +267,7 @@ fresh_first most end config seen (Offer frame) is few =
     fresh_run most end seen.handshake.phase (ReadingUsedIndex (pending_of config seen frame) seen.freed) (omega arith, is.freed)
 fresh_first most end config seen Poll is few = fresh_run most end seen.handshake.phase (ReadingAvailIndex (length seen.delivered) (is_last config seen.found_none)) tt
 
--- and few are counted after it
+-- The counts after it are bounded.
 pub still_few : (most : ℕ) (end new : End) (config : EndConfig) (place : Place) (value : ℕ) (marks : List Mark) → marks ≡ marks_at config place value → IsFresh most end place → AreFew most end → HasCounted end marks new → AreFew (most + 2) new
 still_few most end new config place value marks is fresh few counts =
     let all : length marks ≤ 2 = rw is (marks_few config place value) in
@@ -279,7 +279,7 @@ still_few most end new config place value marks is fresh few counts =
     let d' = counts.delivered in
     record { accepted = omega arith; freed = omega arith; delivered = omega arith }
 
--- Marks that an automatic peer counts
+-- Marks that an automatic end counts
 
 counted-snoc : (auto : Auto) (marks : List Mark) (mark : Mark) → counted_all auto (marks ++ mark ∷ []) ≡ counted (counted_all auto marks) mark
 counted-snoc auto [] mark = refl

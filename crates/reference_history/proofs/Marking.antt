@@ -9,7 +9,7 @@ use Rattle.lawful_history.specs.declared.line.Line.TheVariants as line
 use Rattle.lawful_history.specs.Sessions.{writes_state, opened_in, is_interrupt, enters_run, session_mark, marks_before, with_sessions, is_session, without_sessions}
 use Rattle.reference_history.specs.Marks.{newest_mark, AllStand}
 
--- What is counted and looked for is the same without the marks
+-- The counts and searches are the same without the marks
 
 pub opened_bare : (older : List Line) (peer : ℕ) → opened_in (without_sessions older) peer ≡ opened_in older peer
 opened_bare [] peer = refl
@@ -38,7 +38,7 @@ head_same x y xs ys e = cc
 tail_same : (x y : Line) (xs ys : List Line) → x ∷ xs ≡ y ∷ ys → xs ≡ ys
 tail_same x y xs ys e = cc
 
--- marks in front of another line tell where they end
+-- Marks before another line determine where they end.
 split_marks : (marks others : List Line) (line : Line) (rest after : List Line) → AreMarks marks → AreMarks others → is_session line ≡ false →
     marks ++ line ∷ rest ≡ others ++ line ∷ after → (marks ≡ others) × (rest ≡ after)
 split_marks [] [] line rest after are are' isnt e = (refl, tail_same line line rest after e)
@@ -51,7 +51,7 @@ split_marks (mark ∷ marks) (other ∷ others) line rest after are are' isnt e 
     let later = split_marks marks others line rest after are.1 are'.1 isnt (tail_same mark other (marks ++ line ∷ rest) (others ++ line ∷ after) e) in
     (λ k. here k ∷ later.0 k, later.1)
 
--- the marks that are due are marks, one at most
+-- The marks that are due are marks, at most one.
 
 due_marks : (world : World) (older : List Line) (peer : ℕ) (b : Bool) → AreMarks (if b then session_mark world older peer ∷ [] else [])
 due_marks world older peer true = (refl, tt)
@@ -69,7 +69,7 @@ are_newest : (older : List Line) → AreMarks (newest_mark older)
 are_newest [] = tt
 are_newest (line ∷ older) = one_mark (is_session line) line refl
 
--- no two marks stand in front of a line that is none
+-- There aren't two marks before a line that is none.
 
 not_two : (world : World) (older : List Line) (peer : ℕ) (b : Bool) (mark other line : Line) (rest after : List Line) →
     is_session line ≡ false → is_session mark ≡ true → is_session other ≡ true →
@@ -83,7 +83,7 @@ not_two world older peer false mark other line rest after isnt is is' e =
 not_one : (mark other line : Line) (rest after : List Line) → is_session line ≡ false → is_session mark ≡ true → mark ∷ other ∷ rest ≡ line ∷ after → ⊥
 not_one mark other line rest after isnt is e = clash line isnt (ap is_session (sym (head_same mark line (other ∷ rest) after e)) ∙ is)
 
--- the lines without marks
+-- The lines without marks.
 
 bare_line : (line : Line) (lines : List Line) → is_session line ≡ false → without_sessions (line ∷ lines) ≡ line ∷ without_sessions lines
 bare_line line lines isnt = ap (λ (b : Bool). if not b then line ∷ without_sessions lines else without_sessions lines) isnt
@@ -102,7 +102,7 @@ none_due world older _ is = refl
 abbrev AreBare : List Line → Type 0
 AreBare lines = AllByRecursion (λ line. is_session line ≡ false) lines
 
--- two marks don't stand one behind the other
+-- Two marks don't follow each other.
 no_two : (world : World) (older lines : List Line) (mark other : Line) (rest : List Line) → AreBare lines → is_session mark ≡ true → is_session other ≡ true →
     mark ∷ other ∷ rest ≡ with_sessions world older lines → ⊥
 no_two world older [] mark other rest bare is is' e = absurd cc
@@ -119,7 +119,7 @@ are_bare : (lines : List Line) → AreBare (without_sessions lines)
 are_bare [] = tt
 are_bare (line ∷ lines) = bare_by (is_session line) line (without_sessions lines) refl (are_bare lines)
 
--- in front of a mark stands none
+-- No mark is before a mark.
 alone : (world : World) (older lines marks : List Line) (mark : Line) (rest : List Line) → AreMarks marks → is_session mark ≡ true → AreBare lines →
     marks ++ mark ∷ rest ≡ with_sessions world older lines → marks ≡ []
 alone world older lines [] mark rest are is bare e = refl
@@ -127,7 +127,8 @@ alone world older lines (first ∷ []) mark rest are is bare e = absurd (no_two 
 alone world older lines (first ∷ second ∷ marks) mark rest are is bare e =
     absurd (no_two world older lines first second (marks ++ mark ∷ rest) bare are.0 are.1.0 e)
 
--- All lines stand with their marks exactly where they are those without marks, told with them
+-- All marks are where they are due exactly if the lines are the lines without marks, recorded with
+-- them
 
 module _ (world : World) where
   abbrev told : (older lines : List Line) → List Line
@@ -183,6 +184,6 @@ module _ (world : World) where
       by_line true is later = mark_law older line lines is later
       by_line false isnt later = line_law older line lines isnt later
 
--- all lines stand with their marks exactly where they are a history told with its marks
+-- All marks are where they are due exactly if the lines are a history recorded with its marks.
 pub marks_told : (world : World) (lines : List Line) → AllStand world [] lines ↔ (lines ≡ with_sessions world [] (without_sessions lines))
 marks_told world lines = stand_law world [] lines

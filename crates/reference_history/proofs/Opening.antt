@@ -1,4 +1,4 @@
--- A call is opened, and its next step is taken.
+-- A call opens, and its next step is made.
 use Rattle.std.proofs.Common.{◌≡◌, ℕ, ◌+◌, ◌<◌, ◌≤◌, false, List, [], ◌∷◌, length, get_or, remove, refl, sym, ap, ◌∙◌, arith, subst}
 use Rattle.std.specs.Prelude.{map}
 use Rattle.link_handshake.specs.declared.Phase.{Phase}
@@ -24,7 +24,7 @@ use Rattle.reference_history.specs.declared.peers.Peer.{Peer}
 use Rattle.reference_history.specs.Peers.{AreFew, IsFresh, HasFew, IsPeer, driver_seen}
 use Rattle.reference_history.proofs.Counting.{marks_few, fresh_next, fresh_first, still_few}
 
--- no more, where the bound is wider
+-- The bound also holds if it is greater.
 pub few_wider : (most more : ℕ) (driver : Driver) → most ≤ more → HasFew most driver → HasFew more driver
 few_wider most more Waits wide few = tt
 few_wider most more (Chooses auto) wide few = omega arith
@@ -76,7 +76,7 @@ peer_wider config most more s peer wide refines =
       delivered = few_wider most more s.driver wide refines.delivered;
     }
 
--- a call that is opened
+-- A call opens.
 pub begun : PlacesFollowTrees → (config : EndConfig) (most : ℕ) (s : Peer) (peer : history.Peer) (call : calls.Call) (new : Open) → IsPeer config most s peer → place_of new ≡ first_place config peer.end call →
     IsPeer config most (record s { call = new }) (record peer { left = tree_of config peer.end call })
 begun follow config most s peer call new refines is = record {
@@ -89,7 +89,7 @@ begun follow config most s peer call new refines is = record {
   delivered = refines.delivered;
 }
 
--- what an automatic peer chooses
+-- The choice of an automatic end.
 pub chosen_as : (config : EndConfig) (peer : history.Peer) (auto : history.Auto) (phase : Phase) (choice : laws.Choice) → peer.driver ≡ history.Chooses auto → phase ≡ peer.end.handshake.phase →
     choice ≡ choice_of phase auto.round auto.frames auto.delivered auto.expected → chosen config peer peer.driver ≡ with_choice config peer auto choice
 chosen_as config peer auto phase choice driver at is =
@@ -99,17 +99,17 @@ shut_place : (place : Place) → is_open place ≡ false → place ≡ Closed
 shut_place Closed shut = refl
 shut_place _ shut = absurd (cc)
 
--- with no open call nothing is left of one
+-- Without an open call, no rest of a call is left.
 pub shut_left : (config : EndConfig) (most : ℕ) (s : Peer) (peer : history.Peer) → IsPeer config most s peer → is_open (place_of s.call) ≡ false → peer.left ≡ Ended
 shut_left config most s peer refines shut = sym refines.left ∙ ap (remaining config) (shut_place (place_of s.call) shut)
 
--- with no call that waits, the next is chosen
+-- Without a waiting call, the next one is chosen.
 pub none_waits : (config : EndConfig) (most : ℕ) (s : Peer) (peer : history.Peer) → IsPeer config most s peer → is_open (place_of s.call) ≡ false → s.waiting.items ≡ [] → opened config peer ≡ chosen config peer peer.driver
 none_waits config most s peer refines shut empty =
     ap (λ (t : CallTree). opened_by config peer t peer.waiting) (shut_left config most s peer refines shut)
     ∙ ap (λ (w : List calls.Call). opened_by config peer Ended w) (sym refines.waiting ∙ ap (map call_seen) empty)
 
--- else the oldest is opened
+-- If a call waits, the oldest opens.
 pub oldest_waits : (config : EndConfig) (most : ℕ) (s : Peer) (peer : history.Peer) (call : Call) (rest : List Call) → IsPeer config most s peer → is_open (place_of s.call) ≡ false → s.waiting.items ≡ call ∷ rest →
     opened config peer ≡ record peer { left = tree_of config peer.end (call_seen call); waiting = map call_seen rest }
 oldest_waits config most s peer call rest refines shut some =
@@ -120,7 +120,7 @@ pub oldest_is : (calls : List Call) (call : Call) → 0 < length calls → call 
 oldest_is [] call some is = absurd (omega arith)
 oldest_is (x ∷ calls) call some is = ap (λ (c : Call). c ∷ calls) (sym is)
 
--- a step that is taken
+-- A step is made.
 pub followed : (config : EndConfig) (most : ℕ) (s s' : Peer) (peer : history.Peer) (step : Step) (met : ℕ) (e : End) → IsPeer config most s peer → step ≡ step_at config (place_of s.call) met → ((seen : ends.End) → IsSeenAs s.end seen → IsSeenAs e (end_after seen step)) →
     HasCounted s.end step.marks e → s'.end ≡ e → place_of s'.call ≡ next_place config (place_of s.call) met → s'.waiting ≡ s.waiting → driver_seen s'.driver ≡ driver_after (driver_seen s.driver) step.marks → HasFew (most + length step.marks) s'.driver →
     IsPeer config (most + 2) s' (stepped peer step (remaining config (next_place config (place_of s.call) met)))

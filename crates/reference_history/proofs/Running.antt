@@ -1,4 +1,4 @@
--- One event more, one act more, and the whole schedule.
+-- One more event, one more act, and the whole schedule.
 use Rattle.std.proofs.Common.{◌≡◌, ◌≢◌, ℕ, zero, suc, ◌+◌, ◌*◌, ◌<◌, ◌≤◌, ◌^◌, Bool, true, false, List, [], ◌∷◌, ◌++◌, length, get_or, take, drop, replicate, refl, sym, ◌∙◌, ap, subst, arith, length-set}
 use Rattle.std.specs.Prelude.{◌==◌, nat_lt, if◌then◌else◌, Some, None, slice_get, slice_set}
 use Rattle.std.specs.List.{AllByRecursion}
@@ -34,7 +34,7 @@ use Rattle.reference_history.specs.Moments.{IsMoment}
 use Rattle.reference_history.proofs.Reading.{none_more}
 use Rattle.reference_history.proofs.Opening.{peer_wider}
 
--- What a list with one element set has there, and elsewhere
+-- The elements of a list after one was set
 
 set_at : (xs : List Peer) (p k : ℕ) (x y : Peer) → k ≡ p → slice_get (slice_set xs p x) k ≡ Some y → x ≡ y
 set_at [] p k x y is at = absurd (cc)
@@ -50,7 +50,7 @@ set_beside (z ∷ xs) zero (suc k) x other = refl
 set_beside (z ∷ xs) (suc p) zero x other = refl
 set_beside (z ∷ xs) (suc p) (suc k) x other = set_beside xs p k x (λ e. other (ap suc e))
 
--- an element of a list with one more is one of the list, or the last
+-- An element of a list with one more is an element of the list, or the last.
 pub last_or : (xs : List Peer) (x : Peer) (k : ℕ) (found : Peer) → slice_get (xs ++ x ∷ []) k ≡ Some found → (P : Peer → Type 0) → ((q : ℕ) (s : Peer) → slice_get xs q ≡ Some s → P s) → P x → P found
 last_or [] x zero found at P all here = subst P (same_Some x found at) here
 last_or [] x (suc k) found at P all here = absurd (cc)
@@ -96,7 +96,7 @@ losses_few (DeviceReset p) losses count q few = omega arith
 losses_few (DeviceAccessed p a) losses count q few = omega arith
 losses_few (InterruptRepeated p vector) losses count q few = omega arith
 
--- one event more
+-- One more event.
 pub moment_on : (world : World) (lines : List Line) (count : ℕ) (event : Event) (moment : HistoryState) (s s' : plain.Moment) (new : Peer) → IsMoment world lines count moment s → event_peer event < world.geometry.peers →
     Reads lines (after_event world moment event).past (Some s'.read) → AllFitDevices world.geometry.peers (after_event world moment event).past →
     ((lost : ℕ → ℕ) → HasLosses s.losses lost → HasLosses s'.losses (losses_with event lost)) → length s'.losses ≡ 8 → s'.peers.items ≡ slice_set s.peers.items (event_peer event) new →
@@ -112,7 +112,7 @@ moment_on world lines count event moment s s' new is there reads told losses sea
   peers = λ k found at. peers_on world count event moment s.peers.items new is.same (omega (arith, is.all)) is.peers here k found (event_peer event == k) refl (subst (λ (xs : List Peer). slice_get xs k ≡ Some found) items at);
 }
 
--- the peer of an event
+-- The peer of an event.
 pub its_peer : (world : World) (lines : List Line) (count : ℕ) (moment : HistoryState) (s : plain.Moment) (p : ℕ) (peer : Peer) → IsMoment world lines count moment s → p < world.geometry.peers → peer ≡ get_or s.peers.items p peer →
     IsPeer (config_of world p) (2 * count) peer (peer_at moment p)
 its_peer world lines count moment s p peer is there at =
@@ -125,7 +125,7 @@ zeros_at zero p = refl
 zeros_at (suc n) zero = refl
 zeros_at (suc n) (suc p) = zeros_at n p
 
--- the beginning
+-- The beginning.
 pub moment_at_start : (world : World) (lines : List Line) (s : plain.Moment) → s.read ≡ 0 → s.losses ≡ replicate 8 0 → length s.peers.items ≡ world.geometry.peers →
     ((k : ℕ) (peer : Peer) → slice_get s.peers.items k ≡ Some peer → (config : EndConfig) (most : ℕ) → IsPeer config most peer at_start) → IsMoment world lines 0 (initial_state world) s
 moment_at_start world lines s read losses count start = record {
@@ -140,19 +140,19 @@ moment_at_start world lines s read losses count start = record {
       subst (λ (x : history.Peer). IsPeer (config_of world p) (2 * 0) peer x) (sym (get_or-replicate world.geometry.peers p at_start at_start (omega arith))) (start p peer at (config_of world p) (2 * 0));
 }
 
--- Events one after the other
+-- Events in order
 
 run-append : (world : World) (xs ys : List Event) (moment : HistoryState) → run world (xs ++ ys) moment ≡ run world ys (run world xs moment)
 run-append world [] ys moment = refl
 run-append world (x ∷ xs) ys moment = run-append world xs ys (after_event world moment x)
 
--- lines that don't begin with a past begin with none to which it leads
+-- Lines that don't begin with a past don't begin with one that it leads to.
 pub none_run : (world : World) (lines : List Line) (events : List Event) (moment : HistoryState) → Reads lines moment.past None → Reads lines (run world events moment).past None
 none_run world lines [] moment none = none
 none_run world lines (event ∷ events) moment none =
     none_run world lines events (after_event world moment event) (none_more lines moment.past (lines_of (entry_of world moment event)) none)
 
--- Which acts can happen
+-- The acts that can happen
 
 within : (offset width : ℕ) → is_aligned offset width ≡ true → offset ≤ 255 → 1 ≤ width → width ≤ 4 → is_access 256 offset width ≡ true
 within offset zero is small least most = absurd (omega arith)
@@ -216,7 +216,7 @@ first_can : (world : World) (n : ℕ) (e : Event) → 0 < n → AllCan world (re
 first_can world zero e some all = absurd (omega arith)
 first_can world (suc n) e some all = all.0
 
--- each event of an act is this one
+-- Each event of an act is this one.
 pub can_now : (world : World) (act : Act) (e : Event) (k : ℕ) → IsWorld world → IsAct world act → events_of act ≡ replicate (cost act) e → k < cost act → CanHappen world e
 can_now world act e k is_world is same inside = first_can world (cost act) e (omega arith) (subst (λ (es : List Event). AllCan world es) same (act_can world act is_world is))
 
@@ -225,14 +225,14 @@ replicate_more n k x inside =
     let count = length-replicate n x in
     take_more (replicate n x) k x (omega arith) ∙ ap (λ (y : Event). take k (replicate n x) ++ y ∷ []) (get_or-replicate n k x x inside)
 
--- one event more of an act
+-- One more event of an act.
 pub one_event : (world : World) (act : Act) (e : Event) (k : ℕ) (moment : HistoryState) → events_of act ≡ replicate (cost act) e → k < cost act → run world (take (k + 1) (events_of act)) moment ≡ after_event world (run world (take k (events_of act)) moment) e
 one_event world act e k moment same inside =
     let more : take (k + 1) (events_of act) ≡ take k (events_of act) ++ e ∷ [] =
     ap (λ (es : List Event). take (k + 1) es) same ∙ replicate_more (cost act) k e inside ∙ ap (λ (es : List Event). take k es ++ e ∷ []) (sym same) in
     ap (λ (es : List Event). run world es moment) more ∙ run-append world (take k (events_of act)) (e ∷ []) moment
 
--- an act has as many events as it counts for
+-- The number of events of an act is the number for which it counts.
 events_count : (act : Act) → length (events_of act) ≡ cost act
 events_count (act.Tick p) = refl
 events_count (act.Offer p frame) = refl
@@ -255,11 +255,11 @@ events_count (act.MsixWrite p offset value) = refl
 events_count (act.Lose p) = refl
 events_count (act.Again p vector) = refl
 
--- all of them
+-- All of them.
 pub all_events : (act : Act) (k : ℕ) → k ≡ cost act → take k (events_of act) ≡ events_of act
 all_events act k is = let count = events_count act in take_all k (events_of act) (omega arith)
 
--- where one of an act's events isn't told, the act isn't
+-- If the lines of one of an act's events aren't there, the lines of the act aren't.
 pub not_act : (world : World) (lines : List Line) (events : List Event) (k : ℕ) (moment : HistoryState) → Reads lines (run world (take k events) moment).past None → Reads lines (run world events moment).past None
 not_act world lines events k moment none =
     subst (λ (m : HistoryState). Reads lines m.past None) (sym (run-append world (take k events) (drop k events) moment) ∙ ap (λ (es : List Event). run world es moment) (take-append-drop k events))
@@ -291,11 +291,11 @@ act_at world i a is inside at = (take i world.acts, is.allowed i a (slice_get-ge
 
 -- The whole history
 
--- a lawful history begins with each past to which its schedule leads
+-- A lawful history begins with each past that its schedule leads to.
 pub not_lawful : (world : World) (lines : List Line) → Reads lines (run world (schedule world.acts) (initial_state world)).past None → lines ≡ history world → ⊥
 not_lawful world lines none is = none [] (is ∙ sym (append-nil (history world)))
 
--- lines that are read to their end
+-- Lines that are read to their end.
 pub whole : (world : World) (lines : List Line) (count : ℕ) (s : plain.Moment) → IsMoment world lines count (run world (schedule world.acts) (initial_state world)) s → s.read ≡ length lines → lines ≡ history world
 whole world lines count s is all = sym (take_all s.read lines (omega arith)) ∙ is.reads.1
 
@@ -305,7 +305,7 @@ all_read world lines count s is same =
     let taken : length (take s.read lines) ≡ length lines = ap length (is.reads.1 ∙ sym same) in
     let count_is = length-take s.read lines in omega arith
 
--- the moment after all acts
+-- The moment after all acts.
 pub all_acts : (world : World) (lines : List Line) (i : ℕ) (s : plain.Moment) → length world.acts ≤ i → IsMoment world lines (turns_of (take i world.acts)) (run world (schedule (take i world.acts)) (initial_state world)) s →
     IsMoment world lines (turns_of world.acts) (run world (schedule world.acts) (initial_state world)) s
 all_acts world lines i s whole is = subst (λ (acts : List Act). IsMoment world lines (turns_of acts) (run world (schedule acts) (initial_state world)) s) (take_all i world.acts whole) is

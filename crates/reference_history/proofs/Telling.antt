@@ -1,4 +1,4 @@
--- Lines that the devices can be told.
+-- Lines whose numbers fit the devices.
 use Rattle.std.proofs.Common.{◌≡◌, ℕ, ◌+◌, ◌<◌, ◌≤◌, Bool, true, false, List, [], ◌∷◌, ◌++◌, length, take, drop, get_or, sym, ap, ◌∙◌, arith, subst}
 use Rattle.std.specs.Prelude.{Option, Some, None, reverse, map, nat_lt, if◌then◌else◌}
 use Rattle.doorbell_irq.specs.declared.effect.Delivery.{Delivery}
@@ -29,7 +29,7 @@ pub told-append : (peers : ℕ) (xs ys : List Line) → AllFitDevices peers xs �
 told-append peers [] ys here more = more
 told-append peers (x ∷ xs) ys here more = (here.0, told-append peers xs ys here.1 more)
 
--- the same lines the other way round
+-- The same lines in reverse order.
 pub told-after : (peers : ℕ) (xs past : List Line) → AllFitDevices peers xs → AllFitDevices peers past → AllFitDevices peers (reverse xs ++ past)
 told-after peers [] past here more = more
 told-after peers (x ∷ xs) past here more = subst (λ (ls : List Line). AllFitDevices peers ls) (sym (reversed_after (x ∷ []) xs past)) (told-after peers xs (x ∷ past) here.1 (here.0, more))
@@ -74,7 +74,7 @@ access_told peers p (access.State state) value there fits = (there, tt)
 access_told peers p (access.Ring target vector) value there fits = ((there, fits.0, fits.1), tt)
 access_told peers p access.Nothing value there fits = tt
 
--- the lines of a step
+-- The lines of a step.
 pub step_told : (world : World) (peers p : ℕ) (past : List Line) (losses : ℕ → ℕ) (step : Step) → p < peers → FitsDoorbell step.access → AllFitDevices peers past →
     AllFitDevices peers (reverse (step_lines p step (step_interrupts world past losses p (Some step))) ++ past)
 step_told world peers p past losses step there fits told =
@@ -88,7 +88,7 @@ told_last : (peers : ℕ) (xs ys : List Line) → AllFitDevices peers (xs ++ ys)
 told_last peers [] ys all = all
 told_last peers (x ∷ xs) ys all = told_last peers xs ys all.1
 
--- one of the lines that can be told
+-- One of the lines.
 pub told_at : (peers : ℕ) (lines : List Line) (i : ℕ) (line : Line) → i < length lines → line ≡ get_or lines i line → AllFitDevices peers (reverse lines) → FitsDevices peers line
 told_at peers lines i line inside is all =
     let whole : reverse lines ≡ reverse (drop (i + 1) lines) ++ (line ∷ reverse (take i lines)) =
@@ -100,7 +100,7 @@ write_told : (world : World) (p word value : ℕ) (past : List Line) (losses : �
 write_told world p word value past losses true there told = step_told world world.geometry.peers p past losses (step_of (access.Write word value) 0 []) there tt told
 write_told world p word value past losses false there told = (tt, told)
 
--- the lines of an access of its own accord
+-- The lines of an access outside a call.
 pub acted_told : (world : World) (p : ℕ) (past : List Line) (losses : ℕ → ℕ) (a : Access) → p < world.geometry.peers → FitsDoorbell a → AllFitDevices world.geometry.peers past →
     AllFitDevices world.geometry.peers (reverse (region_access_lines p a (acted_step world p a past) (step_interrupts world past losses p (acted_step world p a past))) ++ past)
 acted_told world p past losses (access.Read word) there fits told = step_told world world.geometry.peers p past losses (step_of (access.Read word) (last_write past word) []) there tt told
@@ -109,7 +109,7 @@ acted_told world p past losses (access.State state) there fits told = step_told 
 acted_told world p past losses (access.Ring target vector) there fits told = step_told world world.geometry.peers p past losses (step_of (access.Ring target vector) 0 []) there fits told
 acted_told world p past losses access.Nothing there fits told = step_told world world.geometry.peers p past losses (step_of access.Nothing 0 []) there tt told
 
--- those of a device reset
+-- The lines of a device reset.
 pub reset_told : (world : World) (p : ℕ) (past : List Line) (losses : ℕ → ℕ) → p < world.geometry.peers → AllFitDevices world.geometry.peers past →
     AllFitDevices world.geometry.peers (reverse (line.Reset p ∷ arrivals world past losses (line.Reset p)) ++ past)
 reset_told world p past losses there told =
@@ -118,7 +118,7 @@ reset_told world p past losses there told =
 within : (offset width : ℕ) → is_access 256 offset width ≡ true → offset + width ≤ 256
 within offset width is = grind (arith, nat_tests)
 
--- the line of an access to a part of the device
+-- The line of a device access.
 pub reached_told : (world : World) (p : ℕ) (past : List Line) (a : DeviceAccess) → p < world.geometry.peers → IsPlaced a → FitsDevices world.geometry.peers (device_access_line world past p a)
 reached_told world p past (ReadsConfig offset width) there placed = tt
 reached_told world p past (WritesConfig offset width value) there placed = let small = within offset width placed in (there, omega arith, omega arith, placed)

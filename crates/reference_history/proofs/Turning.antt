@@ -1,4 +1,4 @@
--- A step of an open call, or of its own accord, is that of the history.
+-- A step of an open call, or of an access outside a call, is the step of the history.
 use Rattle.std.proofs.Common.{◌≡◌, ℕ, ◌+◌, ◌<◌, ◌≤◌, ◌^◌, true, List, [], ◌++◌, refl, sym, ap, ◌∙◌, subst, arith}
 use Rattle.std.specs.Prelude.{Option, Some, None, reverse}
 use Rattle.split_ring.specs.declared.steps.Access.{Access}
@@ -25,7 +25,7 @@ use Rattle.reference_history.specs.Peers.{IsPeer}
 use Rattle.reference_history.specs.Moments.{GoesTo}
 use Rattle.reference_history.proofs.Opening.{peer_wider}
 
--- a step by which a call goes on is the computed one, where a read gave what was written last
+-- The next step of a call is the computed one if a read met the last value written.
 by_tree : (world : World) (p : ℕ) (driver : Driver) (peer : Peer) (tree : CallTree) (step : Step) (new : CallTree) (past : List Line) → Goes tree step new →
     ((word : ℕ) → step.access ≡ access.Read word → step.value ≡ last_write past word) → (step_by world p driver tree past ≡ Some step) × (moved_by peer tree past ≡ stepped peer step new)
 by_tree world p driver peer Ended step new past goes known = absurd goes
@@ -35,7 +35,7 @@ by_tree world p driver peer (trees.Reads word marks rest) step new past goes kno
     let step_is : step_of (access.Read word) (last_write past word) (marks (last_write past word)) ≡ step = ap (λ v. step_of (access.Read word) v (marks v)) (sym read) ∙ sym goes.1 in
     (ap (λ (s : Step). Some s) step_is, ap (λ (s : Step). stepped peer s (rest (last_write past word))) step_is ∙ ap (λ (t : CallTree). stepped peer step t) (ap rest (sym read) ∙ sym goes.2))
 
--- the step at a place that meets what was written last
+-- The step at a place that meets the last value written.
 pub step_is : PlacesFollowTrees → (world : World) (p : ℕ) (peer : Peer) (config : EndConfig) (place : Place) (met : ℕ) (past : List Line) → remaining config place ≡ peer.left → is_open place ≡ true → Meets past (access_at config place) met →
     (step_by world p peer.driver peer.left past ≡ Some (step_at config place met)) × (moved_by peer peer.left past ≡ stepped peer (step_at config place met) (remaining config (next_place config place met)))
 step_is follow world p peer config place met past left opens meets =
@@ -43,7 +43,7 @@ step_is follow world p peer config place met past left opens meets =
     by_tree world p peer.driver peer peer.left (step_at config place met) (remaining config (next_place config place met)) past goes
     (λ word reads. ap (λ (a : Access). value_given a met) reads ∙ subst (λ (a : Access). Meets past a met) reads meets)
 
--- a call rings its partner alone
+-- A call rings only the other link peer.
 pub fits_at : (config : EndConfig) (place : Place) → config.other < 2 ^ 16 → config.vector < 2 ^ 16 → FitsDoorbell (access_at config place)
 fits_at config Closed other vector = tt
 fits_at config (ReadingOtherState handshake) other vector = tt
@@ -80,7 +80,7 @@ pub goes_to : (world : World) (lines past : List Line) (config : EndConfig) (mos
 goes_to world lines past config most it seen None reads told refines = reads
 goes_to world lines past config most it seen (Some read) reads told refines = (reads, told, refines)
 
--- the step of an open call
+-- The step of an open call.
 pub carried : PlacesFollowTrees → (world : World) (lines past : List Line) (lost : ℕ → ℕ) (me : ℕ) (it : Peer) (config : EndConfig) (most : ℕ) (new : plain.Peer) (place : Place) (met : ℕ) (step : Step) (r : Option ℕ) →
     remaining config place ≡ it.left → is_open place ≡ true → Meets past (access_at config place) met → step ≡ step_at config place met →
     GoesTo world lines (reverse (step_lines me step (step_interrupts world past lost me (Some step))) ++ past) config most (stepped it step (remaining config (next_place config place met))) new r →
@@ -92,7 +92,7 @@ carried follow world lines past lost me it config most new place met step r left
     subst (λ (w : Option Step). P w (moved it past)) (ap (λ (s : Step). Some s) is ∙ sym both.0)
     (subst (λ (x : Peer). P (Some step) x) (ap (λ (s : Step). stepped it s rest) is ∙ sym both.1) goes)
 
--- a step of a storm
+-- A step of a storm.
 pub storm_goes : (world : World) (lines past : List Line) (lost : ℕ → ℕ) (me x : ℕ) (it : Peer) (config : EndConfig) (most : ℕ) (new : plain.Peer) (step : Step) (r : Option ℕ) → it.driver ≡ Storms x → step ≡ storm_step world me x →
     GoesTo world lines (reverse (step_lines me step (step_interrupts world past lost me (Some step))) ++ past) config most (record it { driver = Storms (storm_after x) }) new r →
     GoesTo world lines (reverse (turn_lines me (driven_step world me it.driver) (step_interrupts world past lost me (driven_step world me it.driver))) ++ past) config most (driven it it.driver) new r
@@ -101,7 +101,7 @@ storm_goes world lines past lost me x it config most new step r driver is goes =
     subst (λ (w : Option Step). P w (driven it it.driver)) (ap (λ (s : Step). Some s) is ∙ sym (ap (λ (d : Driver). driven_step world me d) driver))
     (subst (λ (y : Peer). P (Some step) y) (sym (ap (λ (d : Driver). driven it d) driver)) goes)
 
--- what is met is what is given
+-- The value met is the value of the step.
 given_is : (past : List Line) (a : Access) (met : ℕ) → Meets past a met → value_given a met ≡ met
 given_is past (access.Read word) met meets = refl
 given_is past (access.Write word written) met meets = sym meets
@@ -109,7 +109,7 @@ given_is past (access.State state) met meets = sym meets
 given_is past (access.Ring target vector) met meets = sym meets
 given_is past access.Nothing met meets = sym meets
 
--- the step of an access of its own accord
+-- The step of an access outside a call.
 pub acted_goes : (world : World) (past : List Line) (lost : ℕ → ℕ) (me : ℕ) (a : Access) (met : ℕ) (P : List Line → Type 0) → Meets past a met → acted_step world me a past ≡ Some (step_of a met []) →
     P (reverse (step_lines me (record { access = a; value = met; marks = [] }) (step_interrupts world past lost me (Some (record { access = a; value = met; marks = [] })))) ++ past) →
     P (reverse (region_access_lines me a (acted_step world me a past) (step_interrupts world past lost me (acted_step world me a past))) ++ past)
@@ -121,7 +121,7 @@ goes_wider : (world : World) (lines past : List Line) (config : EndConfig) (most
 goes_wider world lines past config most more it seen None wide goes = goes
 goes_wider world lines past config most more it seen (Some read) wide goes = (goes.0, goes.1, peer_wider config most more seen it wide goes.2)
 
--- a turn without an open call
+-- A turn without an open call.
 pub driven_goes : (world : World) (lines past : List Line) (lost : ℕ → ℕ) (me : ℕ) (it : Peer) (config : EndConfig) (most : ℕ) (new : plain.Peer) (r : Option ℕ) → it.left ≡ Ended →
     GoesTo world lines (reverse (turn_lines me (driven_step world me it.driver) (step_interrupts world past lost me (driven_step world me it.driver))) ++ past) config most (driven it it.driver) new r →
     GoesTo world lines (reverse (turn_lines me (step_by world me it.driver it.left past) (step_interrupts world past lost me (step_by world me it.driver it.left past))) ++ past) config (most + 2) (moved it past) new r

@@ -1,4 +1,4 @@
--- What a record of each version tells of a lawful history.
+-- The lines of a lawful history in a record of each version.
 use Rattle.std.proofs.Common.{◌≡◌, ℕ, Bool, List, [], Result, Ok, Err, sym, subst}
 use Rattle.std.specs.Prelude.{◌↔◌, IfOk}
 use Rattle.scenario_text.specs.Scenario.{World, IsWorld}
@@ -9,7 +9,7 @@ use Rattle.lawful_history.specs.History.{history, HistoryIsLawfulIn}
 use Rattle.reference_history.specs.Marks.{AllStand}
 use Rattle.reference_history.proofs.Marking.{marks_told}
 
--- version 2, whose marks stand or don't
+-- Version 2, whose marks are where they are due or aren't.
 pub told_two : (world : World) (lines : List Line) → HasMarksInTwo → AllStand world [] lines
     → IsLawful world (without_sessions lines) ↔ IsLawfulIn world 2 lines
 told_two world lines law stand =
@@ -18,7 +18,7 @@ told_two world lines law stand =
 pub not_told : (world : World) (lines : List Line) → HasMarksInTwo → ¬ AllStand world [] lines → ¬ IsLawfulIn world 2 lines
 not_told world lines law none = λ told. none ((marks_told world lines).1 (law world lines told).1)
 
--- the computed history is the one that is told
+-- The computed history is the recorded one.
 pub told_is : (world : World) (version : ℕ) (lines : List Line) → IsWorld world → HasOneHistoryIn → HistoryIsLawfulIn →
     IsLawfulIn world version lines ↔ (lines ≡ recorded_in world version (history world))
 told_is world version lines is one lawful =

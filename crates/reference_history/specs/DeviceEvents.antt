@@ -1,4 +1,4 @@
--- What the devices are told.
+-- The events of the devices.
 use Rattle.std.specs.Prelude.{ℕ, ◌≡◌, ◌<◌, ◌^◌, true, Option, Some, None, List, []}
 use Rattle.std.specs.List.{AllByRecursion}
 use Rattle.pci_space.specs.Fields.{is_access}
@@ -10,7 +10,7 @@ use Rattle.split_ring.specs.declared.steps.Access.TheVariants as access
 use Rattle.lawful_history.specs.declared.line.Line.{Line}
 use Rattle.lawful_history.specs.declared.line.Line.TheVariants as line
 
--- so many peers have devices that the line can tell: it is of one of them, and its numbers fit
+-- The line is of one of the `peers` peers with devices, and its numbers fit.
 abbrev pub FitsDevices : ℕ → Line → Type 0
 FitsDevices peers (line.State peer value) = peer < peers
 FitsDevices peers (line.Doorbell peer target vector) = (peer < peers) × (target < 2 ^ 16) × (vector < 2 ^ 16)
@@ -23,7 +23,7 @@ FitsDevices peers _ = Unit {0}
 abbrev pub AllFitDevices : ℕ → List Line → Type 0
 AllFitDevices peers lines = AllByRecursion (FitsDevices peers) lines
 
--- the target and the vector of a doorbell have 16 bits each
+-- The target and the vector of a doorbell have 16 bits each.
 abbrev pub FitsDoorbell : Access → Type 0
 FitsDoorbell (access.Read word) = Unit {0}
 FitsDoorbell (access.Write word value) = Unit {0}
@@ -31,7 +31,7 @@ FitsDoorbell (access.State state) = Unit {0}
 FitsDoorbell (access.Ring target vector) = (target < 2 ^ 16) × (vector < 2 ^ 16)
 FitsDoorbell access.Nothing = Unit {0}
 
--- what an access of a peer tells the devices
+-- The device event of an access of a peer.
 abbrev pub device_event_of_access : ℕ → Access → Option device.Event
 device_event_of_access peer (access.Read word) = None
 device_event_of_access peer (access.Write word value) = None
@@ -39,7 +39,7 @@ device_event_of_access peer (access.State state) = Some (device.RegisterWritten 
 device_event_of_access peer (access.Ring target vector) = Some (device.RegisterWritten peer device.doorbell_register (device.doorbell_word target vector))
 device_event_of_access peer access.Nothing = None
 
--- the interrupts that an event brings after others
+-- The interrupts that an event causes after others.
 abbrev pub brought : device.Devices → List device.Event → Option device.Event → List Delivery
 brought world events None = []
 brought world events (Some event) = (effect_of world events event).deliveries.items

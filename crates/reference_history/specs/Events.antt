@@ -1,4 +1,4 @@
--- How the events of this crate are seen: as those of a schedule.
+-- The events of a schedule that the events of this crate represent.
 use Rattle.std.specs.Prelude.{ℕ, ◌≡◌, ◌<◌, ◌^◌, true, Option, Some, None, List, [], ◌∷◌}
 use Rattle.pci_space.specs.Fields.{is_access}
 use Rattle.split_ring.specs.declared.steps.Access.{Access}
@@ -39,7 +39,7 @@ event_seen (Reached peer a) = schedule.DeviceAccessed peer (device_access_seen a
 event_seen (Loses peer) = schedule.InterruptDropped peer
 event_seen (Repeated peer vector) = schedule.InterruptRepeated peer vector
 
--- a word that is written has a number of 32 bits
+-- The number of a written word has 32 bits.
 abbrev pub HasWord : Access → Type 0
 HasWord (access.Read word) = Unit {0}
 HasWord (access.Write word value) = word < 2 ^ 32
@@ -47,12 +47,13 @@ HasWord (access.State state) = Unit {0}
 HasWord (access.Ring target vector) = Unit {0}
 HasWord access.Nothing = Unit {0}
 
--- the write of this word is denied to the peer; or the access is not denied, and its step is made, whatever it meets
+-- The write of this word is denied to the peer; or the access isn't denied, and its step is made
+-- for every value that it meets.
 abbrev pub IsDenied : World → ℕ → Access → Option ℕ → Type 0
 IsDenied world me a None = (past : List Line) (met : ℕ) → Meets past a met → acted_step world me a past ≡ Some (step_of a met [])
 IsDenied world me a (Some word) = ((past : List Line) → acted_step world me a past ≡ None) × (denied_lines me a ≡ Denied me word ∷ [])
 
--- an access to the configuration space is one of its places
+-- An access to the configuration space is one of its places.
 abbrev pub IsPlaced : schedule.DeviceAccess → Type 0
 IsPlaced (schedule.ReadsConfig offset width) = is_access 256 offset width ≡ true
 IsPlaced (schedule.WritesConfig offset width value) = is_access 256 offset width ≡ true
@@ -72,11 +73,11 @@ Fits (schedule.DeviceAccessed peer a) = IsPlaced a
 Fits (schedule.InterruptDropped peer) = Unit {0}
 Fits (schedule.InterruptRepeated peer vector) = Unit {0}
 
--- the event can happen in the world: it is of one of its peers, and its numbers fit
+-- The event can happen in the world: it is of one of its peers, and its numbers fit.
 pub record CanHappen (world : World) (event : schedule.Event) : Type 0 where
   pub peer : event_peer event < world.geometry.peers
   pub fits : Fits event
 
--- the act is one of the world's
+-- The act is one of the world's.
 abbrev pub IsAct : World → Act → Type 0
 IsAct world act = (before : List Act) × IsAllowed world before act

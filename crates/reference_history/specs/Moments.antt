@@ -1,4 +1,4 @@
--- A moment of the history, as the lines tell it.
+-- A moment of the history, as the lines record it.
 use Rattle.std.specs.Prelude.{ℕ, ◌≡◌, ◌+◌, ◌*◌, ◌≤◌, Bool, true, false, Option, Some, None, List, ◌++◌, length, reverse, slice_get}
 use Rattle.scenario_text.specs.Scenario.{World}
 use Rattle.lawful_history.specs.declared.line.Line.{Line}
@@ -16,12 +16,12 @@ use Rattle.reference_history.specs.Peers.{IsPeer}
 use Rattle.reference_history.specs.declared.peers.Peer.{Peer}
 use Rattle.reference_history.specs.declared.moments.Moment.{Moment}
 
--- the lines go on to this past, and the peer goes on to this one; or the lines don't begin with the past
+-- The lines lead to this past and this peer, or they don't begin with the past.
 abbrev pub GoesTo : World → List Line → List Line → EndConfig → ℕ → history_peers.Peer → Peer → Option ℕ → Type 0
 GoesTo world lines past config most peer seen None = Reads lines past None
 GoesTo world lines past config most peer seen (Some read) = Reads lines past (Some read) × AllFitDevices world.geometry.peers past × IsPeer config most seen peer
 
--- after an event of a peer, the lines and the peer go on to its own
+-- After an event of a peer, the lines lead to the event's past and peer.
 abbrev pub GoesBy : World → List Line → List ℕ → Event → ℕ → Peer → Peer → Option ℕ → Type 0
 GoesBy world lines losses event read old new to =
     (past : List Line) (lost : ℕ → ℕ) (most : ℕ) (peer : history_peers.Peer) → Reads lines past (Some read) →
@@ -29,7 +29,8 @@ GoesBy world lines losses event read old new to =
     GoesTo world lines (reverse (lines_by event (step_in world peer past event) (device_lines world past lost event (step_in world peer past event))) ++ past)
     (config_of world (event_peer event)) (most + 2) (peer_in world peer past event) new to
 
--- after so many events: the lines tell the past of the moment, and the losses and the peers are its own
+-- After `count` events: the lines record the past of the moment, and the losses and the peers are
+-- the moment's.
 pub record IsMoment (world : World) (lines : List Line) (count : ℕ) (moment : history.HistoryState) (seen : Moment) : Type 0 where
   pub reads : Reads lines moment.past (Some seen.read)
   pub told : AllFitDevices world.geometry.peers moment.past
@@ -40,7 +41,7 @@ pub record IsMoment (world : World) (lines : List Line) (count : ℕ) (moment : 
   pub all : length moment.peers ≡ world.geometry.peers
   pub peers : (p : ℕ) (peer : Peer) → slice_get seen.peers.items p ≡ Some peer → IsPeer (config_of world p) (2 * count) peer (peer_at moment p)
 
--- the lines go on to the moment, or they don't begin with its past
+-- The lines lead to the moment, or they don't begin with its past.
 abbrev pub GoesOn : World → List Line → ℕ → history.HistoryState → Moment → Bool → Type 0
 GoesOn world lines count moment seen true = IsMoment world lines count moment seen
 GoesOn world lines count moment seen false = Reads lines moment.past None

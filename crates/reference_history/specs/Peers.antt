@@ -1,4 +1,4 @@
--- How the peers of this crate are seen: as the peers of a history.
+-- The peers of a history that the peers of this crate represent.
 use Rattle.std.specs.Prelude.{ℕ, ◌≡◌, ◌≤◌, map}
 use Rattle.call_grammar.specs.Automatic as laws
 use Rattle.call_grammar.specs.Calls.{EndConfig}
@@ -35,24 +35,25 @@ driver_seen Waits = history.Waits
 driver_seen (Chooses auto) = history.Chooses (auto_seen auto)
 driver_seen (Storms x) = history.Storms x
 
--- no count of the end is above this
+-- Each count of the end is at most `most`.
 pub record AreFew (most : ℕ) (end : End) : Type 0 where
   pub accepted : end.accepted ≤ most
   pub freed : end.freed ≤ most
   pub delivered : end.delivered ≤ most
 
--- an offer that begins reads what its end has: no frame before its own is above this number, and as many were freed
+-- An offer that begins reads the counts of its end: its frame's number is at most this, and the
+-- number freed is the end's.
 abbrev pub IsFresh : ℕ → End → Place → Type 0
 IsFresh most end (ReadingUsedIndex pending freed) = (pending.number ≤ most) × (freed ≡ end.freed)
 IsFresh most end _ = Unit {0}
 
--- an automatic peer delivered no more
+-- An automatic end delivered at most `most` frames.
 abbrev pub HasFew : ℕ → Driver → Type 0
 HasFew most Waits = Unit {0}
 HasFew most (Chooses auto) = auto.delivered ≤ most
 HasFew most (Storms x) = Unit {0}
 
--- the peer of the history stands where this one stands, which counted no further than this
+-- The peer represents this peer of the history, and its counts are at most `most`.
 pub record IsPeer (config : EndConfig) (most : ℕ) (seen : Peer) (peer : history.Peer) : Type 0 where
   pub end : IsSeenAs seen.end peer.end
   pub left : remaining config (place_of seen.call) ≡ peer.left

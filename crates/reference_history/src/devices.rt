@@ -1,4 +1,4 @@
-//! Where the devices stand after the lines before, and whom they interrupt then.
+//! The state of the devices after earlier lines, and the interrupts that they cause.
 ghost use Rattle.std.specs.Prelude.{◌≡◌, ℕ, ◌<◌, Some, List, reverse};
 ghost use Rattle.doorbell_irq.specs.Events as device;
 ghost use Rattle.doorbell_irq.specs.Events.{WasReset};
@@ -15,7 +15,7 @@ use lawful_history::Line;
 use reference_calls::Access;
 use scenario_text::Scenario;
 
-/// Tells the devices what a line says of them.
+/// Applies the device event of a line to the devices.
 fn tell(devices: &mut Device, line: &Line)
     requires { FitsDevices (peer_count devices.old) line.now }
     ensures refines { (world : device.Devices) (events : List device.Event) → Refines world events devices.old →
@@ -61,7 +61,7 @@ fn tell(devices: &mut Device, line: &Line)
     }
 }
 
-/// The devices after these lines.
+/// Returns the devices after these lines.
 pub fn devices_after(scenario: &Scenario, lines: &[Line]) -> Device
     requires { AllFitDevices scenario.now.geometry.peers (reverse lines.now) }
     ensures refines { Refines (devices_of (world_of scenario.now)) (device_events (reverse lines.now)) result }
@@ -74,7 +74,7 @@ pub fn devices_after(scenario: &Scenario, lines: &[Line]) -> Device
     devices
 }
 
-/// Whom an access of a peer interrupts after these lines.
+/// Returns the interrupts that an access of a peer causes after these lines.
 pub fn interrupted_by(
     scenario: &Scenario,
     me: u32,
@@ -102,7 +102,7 @@ pub fn interrupted_by(
     }
 }
 
-/// Whom a device reset of a peer interrupts after these lines.
+/// Returns the interrupts that a device reset of a peer causes after these lines.
 pub fn interrupted_by_reset(scenario: &Scenario, me: u32, lines: &[Line]) -> ArrayVec<Delivery, 8>
     requires peer { me < scenario.now.geometry.peers }
     requires told { AllFitDevices scenario.now.geometry.peers (reverse lines.now) }

@@ -1,4 +1,4 @@
-//! What happens: the events of an act.
+//! The events of an act.
 ghost use Rattle.std.specs.Prelude.{◌≡◌, IfOk, replicate};
 ghost use Rattle.scenario_text.specs.Acts.{cost};
 ghost use Rattle.lawful_history.specs.Schedule.{events_of, event_peer, register_event};
@@ -10,48 +10,49 @@ use reference_calls::{Access, Call};
 use scenario_text::Act;
 use std::alloc::Global;
 
-/// An access to the configuration space, the register page or the MSI-X region of a peer. Offsets and widths are in bytes.
+/// A device access: a read or write of the configuration space, the register page or the MSI-X
+/// region of a peer. Offsets and widths are in bytes.
 #[derive(Clone, Copy, Debug)]
 pub enum DeviceAccess {
     /// Reads the configuration space.
     ReadsConfig { offset: u16, width: u16 },
-    /// Writes it.
+    /// Writes the configuration space.
     WritesConfig { offset: u16, width: u16, value: u32 },
     /// Reads the register page.
     ReadsRegister { offset: u32 },
-    /// Writes it.
+    /// Writes the register page.
     WritesRegister { offset: u32, value: u32 },
     /// Reads the MSI-X region.
     ReadsMsix { offset: u32 },
-    /// Writes it.
+    /// Writes the MSI-X region.
     WritesMsix { offset: u32, value: u32 },
 }
 
-/// What happens at a peer.
+/// An event of a peer.
 #[derive(Drop)]
 pub enum Event {
-    /// It is told to make this call.
+    /// A call is queued.
     Asked { peer: u32, call: Call },
-    /// It chooses its calls from now on, and expects so many deliveries.
+    /// The peer becomes an automatic end that expects `expected` deliveries.
     Automated { peer: u32, expected: u64 },
-    /// It writes at random from now on, by a generator with this seed.
+    /// The peer's turns become a storm, whose generator has this seed.
     Stormed { peer: u32, seed: u64 },
-    /// It takes its turn.
+    /// The peer makes its turn.
     Turned { peer: u32 },
-    /// It makes this access of its own accord.
+    /// The peer makes this access outside a call.
     Acted { peer: u32, access: Access },
-    /// Its device is reset.
+    /// The peer's device is reset.
     WasReset { peer: u32 },
-    /// It reaches a part of its device.
+    /// The peer makes a device access.
     Reached { peer: u32, access: DeviceAccess },
-    /// Its next interrupt is to be lost.
+    /// The peer's next interrupt is dropped.
     Loses { peer: u32 },
-    /// An interrupt with this vector comes to it once more.
+    /// An interrupt with this vector is repeated at the peer.
     Repeated { peer: u32, vector: u32 },
 }
 
 impl Event {
-    /// Whose event it is.
+    /// Returns the peer of the event.
     pub fn peer(&self) -> u32
         ensures { result ≡ event_peer (event_seen self.now) }
     {
@@ -69,7 +70,8 @@ impl Event {
     }
 }
 
-/// The event of a write of a register: one of State or of the Doorbell is the access that writes it.
+/// Returns the event of a write to a register. A write of State or of the Doorbell is the access
+/// that writes it.
 fn register_event(peer: u32, offset: u32, value: u32) -> Event
     ensures { event_seen result ≡ register_event peer offset value }
 {
@@ -94,7 +96,7 @@ fn register_event(peer: u32, offset: u32, value: u32) -> Event
     }
 }
 
-/// The event that an act asks for as often as it counts.
+/// Returns the event of an act, which occurs as many times as the act counts.
 pub fn event_of(alloc: Global, act: &Act) -> Result<Event, NoMemory>
     ensures { IfOk result (λ event. events_of act.now ≡ replicate (cost act.now) (event_seen event)) }
 {
@@ -186,21 +188,21 @@ pub fn event_of(alloc: Global, act: &Act) -> Result<Event, NoMemory>
     })
 }
 
-/// A peer is told to make this call.
+/// Returns the event that queues this call.
 fn asked(peer: u32, call: Call) -> Event
     ensures { result ≡ Event.Asked peer call }
 {
     Event::Asked { peer, call }
 }
 
-/// A peer makes this access of its own accord.
+/// Returns the event of this access outside a call.
 fn acted(peer: u32, access: Access) -> Event
     ensures { result ≡ Event.Acted peer access }
 {
     Event::Acted { peer, access }
 }
 
-/// A peer reaches its device by this access.
+/// Returns the event of this device access.
 fn reached(peer: u32, access: DeviceAccess) -> Event
     ensures { result ≡ Event.Reached peer access }
 {

@@ -7,7 +7,7 @@ use crate::lines::read_line;
 use doorbell_irq::Delivery;
 use lawful_history::Line;
 
-/// How many interrupts of a peer this line loses: 1 or none.
+/// Returns 1 if the line is an interrupt of the peer that was lost, else 0.
 fn lost_by(line: &Line, peer: u32) -> u64
     ensures count { result ≡ lost_by line.now peer }
     ensures few { result ≤ 1 }
@@ -18,7 +18,7 @@ fn lost_by(line: &Line, peer: u32) -> u64
     }
 }
 
-/// How many interrupts of a peer were lost in these lines.
+/// Returns the number of interrupts of a peer that were lost in these lines.
 fn lost_count(lines: &[Line], peer: u32) -> u64
     ensures { result ≡ lost_count (reverse lines.now) peer }
 {
@@ -29,7 +29,8 @@ fn lost_count(lines: &[Line], peer: u32) -> u64
     count
 }
 
-/// Reads the line of one interrupt, which is lost on its way where fewer were lost at its peer than are to be.
+/// Reads the line of one interrupt. It is lost if fewer interrupts were lost at its peer than are
+/// to be dropped.
 fn read_arrival(
     losses: &[u64; 8],
     lines: &[Line],
@@ -51,7 +52,7 @@ fn read_arrival(
     read_line(lines, read, &line)
 }
 
-/// Reads the lines of interrupts, one after the other.
+/// Reads the lines of interrupts in order.
 pub fn read_arrivals(
     losses: &[u64; 8],
     lines: &[Line],

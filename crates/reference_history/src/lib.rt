@@ -1,21 +1,24 @@
-//! Whether a history is lawful, decided by reading its lines from the first to the last: a plain program that goes over the
-//! schedule event by event, works out the lines of each from the lines before it, and looks for them in the history. What a
-//! word holds, where the devices stand and how many interrupts were lost it finds in the lines before, each time that it
-//! needs them. Each mark of a session, of version 2, it works out by itself, from the lines before it. It stands on
-//! `reference_calls` for the calls and on `doorbell_irq` for the devices, and shares no code with an engine or a stage. Its contract
-//! promises an answer of yes exactly where the lines are what a record of the version tells of the lawful history.
+//! Whether a history is lawful: a reference program that reads its lines from the first to the
+//! last. It runs the schedule event by event, computes the lines of each event from the earlier
+//! lines, and looks for them in the history. It computes a word's value, the devices' state and the
+//! number of lost interrupts from the earlier lines each time that it needs them. It computes each
+//! mark of a session, of version 2, in the same way. The crate uses `reference_calls` for the calls
+//! and `doorbell_irq` for the devices, and shares no code with an engine or a simulator. Its
+//! contract promises the answer yes exactly if the lines are a record's lines, in this version, of
+//! the lawful history.
 //!
 //! # Design
 //!
-//! - A moment holds how many lines were read, how many interrupts of each peer are to be lost, and for each peer its end, its open call,
-//!   the calls that wait and its driver. What this program has in common with the engines are the definitions, `link_handshake`, the layout
-//!   of `split_ring`, the devices of `doorbell_irq` and the region's sizes.
-//! - The counts of an end have 32 bits. A peer's step bears at most two marks, and a schedule has at most 4,000,000 events, so that no
-//!   count goes past 8,000,000 (`IsPeer` has the bound).
-//! - A line of the history has words of 32 bits, and an access of `reference_calls` has 64. They are compared as they stand, so that nothing
-//!   need be known of an access to compare it.
-//! - The marks of sessions of version 2 are looked at first, by a program of their own (`marks`). The lines that are left are read as those
-//!   of version 1.
+//! - A moment has the number of lines read and the number of interrupts of each peer that are to be
+//!   dropped. For each peer it has its end, its open call, the waiting calls and its driver. This
+//!   program shares with the engines only the definitions, `link_handshake`, the layout of
+//!   `split_ring`, the devices of `doorbell_irq` and the region's sizes.
+//! - The counts of an end have 32 bits. A peer's step has at most two marks, and a schedule has at
+//!   most 4,000,000 events, so no count exceeds 8,000,000 (`IsPeer` has the bound).
+//! - A line of the history has word numbers of 32 bits, and an access of `reference_calls` has 64.
+//!   They are compared without a conversion, so the comparison needs no condition on an access.
+//! - The marks of sessions of version 2 are checked first, by a program of their own (`marks`). The
+//!   remaining lines are read as lines of version 1.
 #![tactic(auto)]
 
 ghost use Rattle.std.specs.Prelude.{◌≡◌, ◌↔◌, ℕ, ◌+◌, ◌≤◌, IsTrue, IfOk};
@@ -50,7 +53,7 @@ use moments::Moment;
 use scenario_text::{Act, Scenario};
 use std::alloc::Global;
 
-/// Reads the lines of an act. False where they don't stand there.
+/// Reads the lines of an act. Returns false if other lines are there.
 fn read_act(
     alloc: Global,
     scenario: &Scenario,
@@ -74,7 +77,7 @@ fn read_act(
     Ok(true)
 }
 
-/// Are these lines a lawful history of the scenario, without marks of sessions?
+/// Whether these lines are a lawful history of the scenario, without marks of sessions.
 fn is_history(alloc: Global, scenario: Scenario, lines: &[Line]) -> Result<bool, NoMemory>
     ensures { IfOk result (λ yes. IsTrue yes ↔ IsLawful (world_of scenario) lines.now) }
 {
@@ -90,8 +93,11 @@ fn is_history(alloc: Global, scenario: Scenario, lines: &[Line]) -> Result<bool,
     Ok(moment.read == lines.len())
 }
 
-/// Are these lines what a record of this version tells of a lawful history of the scenario? In version 2 the marks of sessions have to
-/// stand where they are due; the others are the lines of a history. NoMemory says that memory ran out.
+/// Whether these lines are a record's lines, in this version, of a lawful history of the scenario.
+/// In version 2 the marks of sessions must be where they are due; the other lines are the lines of
+/// a history. Returns `Err(NoMemory)` if an allocation fails.
+// claim lawful, told: `is_lawful` answers yes exactly if the lines are what a record of the version
+//    holds of a lawful history of the scenario, and that is the computed one.
 pub fn is_lawful(
     alloc: Global,
     scenario: Scenario,

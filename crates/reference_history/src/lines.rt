@@ -4,7 +4,8 @@ ghost use Rattle.reference_history.specs.Reading.{Reads};
 
 use lawful_history::Line;
 
-/// Reads one line more: the number of lines that are read then, or None where another line stands there, or none.
+/// Reads one more line. Returns the number of lines read then, or `None` if another line or no line
+/// is there.
 pub fn read_line(lines: &[Line], read: usize, line: &Line) -> Option<usize>
     ensures reads { (past : List Line) → Reads lines.now past (Some read) → Reads lines.now (line.now ∷ past) result }
     ensures within { IfSome result (λ at. at ≤ length lines.now) }

@@ -1,4 +1,4 @@
-//! The marks of sessions: which of them are due, and whether they stand there.
+//! The marks of sessions: the marks that are due, and whether they are there.
 ghost use Rattle.std.specs.Prelude.{◌≡◌, ◌↔◌, ◌≤◌, ◌||◌, if◌then◌else◌, IsTrue, MatchOption, [], reverse};
 ghost use Rattle.scenario_text.specs.Scenario.{is_link};
 ghost use Rattle.lawful_history.specs.Sides.{partner, world_of};
@@ -9,21 +9,21 @@ ghost use Rattle.reference_history.specs.Marks.{newest_mark, mark_seen, mark_of,
 use lawful_history::{Line, versions_differ_in_marks};
 use scenario_text::Scenario;
 
-/// Is the line the mark of a session?
+/// Whether the line is the mark of a session.
 fn is_session(line: &Line) -> bool
     ensures { result ≡ is_session line.now }
 {
     matches!(line, Line::Session { .. })
 }
 
-/// Is this an honest link peer?
+/// Whether this is an honest link peer.
 fn is_link(scenario: &Scenario, peer: u32) -> bool
     ensures { result ≡ is_link (world_of scenario.now) peer }
 {
     peer < 2 && scenario.honest.items()[peer as usize]
 }
 
-/// Is the line the peer's write of this state?
+/// Whether the line is the peer's write of this State.
 fn writes_state(line: &Line, peer: u32, state: u32) -> bool
     ensures { result ≡ writes_state peer state line.now }
 {
@@ -36,7 +36,7 @@ fn writes_state(line: &Line, peer: u32, state: u32) -> bool
     }
 }
 
-/// How many sessions of the peer the line opens: 1 or none.
+/// Returns the number of sessions of the peer that the line opens: 1 or 0.
 fn opened_by(line: &Line, peer: u32) -> u64
     ensures count { result ≡ (if writes_state peer 2 line.now then 1 else 0) }
     ensures few { result ≤ 1 }
@@ -44,7 +44,7 @@ fn opened_by(line: &Line, peer: u32) -> u64
     if writes_state(line, peer, 2) { 1 } else { 0 }
 }
 
-/// How many sessions the peer opened in these lines.
+/// Returns the number of sessions that the peer opened in these lines.
 fn opened_in(lines: &[Line], peer: u32) -> u64
     ensures { result ≡ opened_in (without_sessions (reverse lines.now)) peer }
 {
@@ -55,14 +55,15 @@ fn opened_in(lines: &[Line], peer: u32) -> u64
     count
 }
 
-/// Did an interrupt come by the line, or was one lost?
+/// Whether the line is an interrupt delivered or lost.
 fn is_interrupt(line: &Line) -> bool
     ensures { result ≡ is_interrupt line.now }
 {
     matches!(line, Line::Interrupt { .. } | Line::Lost { .. })
 }
 
-/// Does the peer enter RUN with the line, where before it the peer did or didn't? Interrupts and marks of sessions change nothing.
+/// Whether the peer enters RUN with the line, if `before` says whether it did before the line.
+/// Interrupts and marks of sessions change nothing.
 fn enters_with(line: &Line, peer: u32, before: bool) -> bool
     ensures { result ≡ (if is_interrupt line.now || is_session line.now then before else writes_state peer 3 line.now) }
 {
@@ -73,7 +74,8 @@ fn enters_with(line: &Line, peer: u32, before: bool) -> bool
     }
 }
 
-/// Does the peer enter RUN with these lines: is the last of them its write of State 3, but for interrupts and marks of sessions?
+/// Whether the peer enters RUN with these lines: the last of them, except interrupts and marks of
+/// sessions, is its write of State 3.
 fn enters_run(lines: &[Line], peer: u32) -> bool
     ensures { result ≡ enters_run (without_sessions (reverse lines.now)) peer }
 {
@@ -84,7 +86,7 @@ fn enters_run(lines: &[Line], peer: u32) -> bool
     enters
 }
 
-/// The peer whose mark is due between these lines and the next one.
+/// Returns the peer whose mark is due between these lines and the next one.
 fn due_between(scenario: &Scenario, lines: &[Line], next: &Line) -> Option<u32>
     ensures { let world = world_of scenario.now in
         mark_of world (reverse lines.now) result ≡ marks_before world (without_sessions (reverse lines.now)) next.now }
@@ -95,7 +97,8 @@ fn due_between(scenario: &Scenario, lines: &[Line], next: &Line) -> Option<u32>
     }
 }
 
-/// How many sessions the other link peer opened in these lines, and 0 where it isn't honest.
+/// Returns the number of sessions that the other link peer opened in these lines, or 0 if it isn't
+/// honest.
 fn opened_beside(scenario: &Scenario, lines: &[Line], peer: u32) -> u64
     ensures { result ≡ (if is_link (world_of scenario.now) (partner peer) then opened_in (without_sessions (reverse lines.now)) (partner peer) else 0) }
 {
@@ -107,7 +110,7 @@ fn opened_beside(scenario: &Scenario, lines: &[Line], peer: u32) -> u64
     }
 }
 
-/// Is this the mark of the session that the peer enters after these lines?
+/// Whether this is the mark of the session that the peer enters after these lines.
 fn is_mark(scenario: &Scenario, lines: &[Line], peer: u32, mark: &Line) -> bool
     ensures { IsTrue result ↔ session_mark (world_of scenario.now) (without_sessions (reverse lines.now)) peer ≡ mark.now }
 {
@@ -125,7 +128,7 @@ fn is_mark(scenario: &Scenario, lines: &[Line], peer: u32, mark: &Line) -> bool
     }
 }
 
-/// The mark of a session that these lines end with.
+/// Returns the mark of a session with which these lines end.
 fn last_mark(lines: &[Line]) -> Option<&Line>
     ensures { newest_mark (reverse lines.now) ≡ mark_seen result }
 {
@@ -133,7 +136,8 @@ fn last_mark(lines: &[Line]) -> Option<&Line>
     if is_session(last) { Some(last) } else { None }
 }
 
-/// Does the mark that is due between these lines and the next one stand there, and none where none is due?
+/// Whether the mark that is due between these lines and the next one is there, and no mark is there
+/// if none is due.
 fn refines(scenario: &Scenario, lines: &[Line], next: &Line) -> bool
     ensures { IsTrue result ↔ Stands (world_of scenario.now) (reverse lines.now) next.now }
 {
@@ -147,7 +151,7 @@ fn refines(scenario: &Scenario, lines: &[Line], next: &Line) -> bool
     }
 }
 
-/// Do the marks of sessions stand where they are due, and nowhere else?
+/// Whether the marks of sessions are exactly where they are due.
 fn marks_stand(scenario: &Scenario, lines: &[Line]) -> bool
     ensures { IsTrue result ↔ AllStand (world_of scenario.now) [] lines.now }
 {
@@ -159,8 +163,9 @@ fn marks_stand(scenario: &Scenario, lines: &[Line]) -> bool
     last_mark(lines).is_none()
 }
 
-/// The lines of the history that these lines tell: in version 1 the lines as they are, in version 2 those that are no marks of sessions.
-/// None where in version 2 a mark that is due doesn't stand in its place, or one stands elsewhere.
+/// Returns the lines of the history that these lines record: in version 1 all lines, in version 2
+/// the lines that aren't marks of sessions. Returns `None` if in version 2 a due mark isn't in its
+/// place, or a mark is elsewhere.
 pub fn without_marks(scenario: &Scenario, version: u32, lines: Vec<Line>) -> Option<Vec<Line>>
     ensures { let world = world_of scenario.now in
         MatchOption result (¬ IsLawfulIn world version lines.items) (λ history. IsLawful world history.items ↔ IsLawfulIn world version lines.items) }

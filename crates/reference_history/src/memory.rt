@@ -1,11 +1,11 @@
-//! What a word of the region holds.
+//! The value of a word of the region.
 ghost use Rattle.std.specs.Prelude.{◌≡◌, reverse};
 ghost use Rattle.split_ring.specs.declared.steps.Access.TheVariants as ring;
 ghost use Rattle.lawful_history.specs.Memory.{memory_effect_of, value_after, last_write};
 
 use lawful_history::Line;
 
-/// What a word holds after a line, where it held this before.
+/// Returns the value of a word after a line, from its value `before`.
 fn value_after(line: &Line, at: u64, before: u32) -> u32
     ensures { result ≡ value_after (memory_effect_of line.now) at before }
 {
@@ -17,7 +17,7 @@ fn value_after(line: &Line, at: u64, before: u32) -> u32
     }
 }
 
-/// What a word holds after these lines.
+/// Returns the value of a word after these lines.
 pub fn last_write(lines: &[Line], at: u64) -> u32
     ensures { result ≡ last_write (reverse lines.now) at }
 {

@@ -1,4 +1,4 @@
-//! A moment of the history: how many of its lines were read, and where its peers are.
+//! A moment of the history: the number of lines read, and the state of the peers.
 ghost use Rattle.std.specs.Prelude.{◌≡◌, ℕ, ◌+◌, ◌-◌, ◌<◌, ◌^◌, IfOk, List, length, slice_index_or};
 ghost use Rattle.lawful_history.specs.declared.line.Line as lines;
 ghost use Rattle.lawful_history.specs.Sides.{world_of};
@@ -18,18 +18,18 @@ use lawful_history::Line;
 use scenario_text::Scenario;
 use std::alloc::Global;
 
-/// What was read so far.
+/// The state after the lines read.
 #[derive(Drop)]
 pub struct Moment {
-    /// How many lines.
+    /// The number of lines.
     pub read: usize,
-    /// How many interrupts of each of 8 peers are to be lost.
+    /// The number of interrupts of each of 8 peers that are to be dropped.
     pub losses: [u64; 8],
     /// The peers, from peer 0.
     pub peers: Vec<Peer>,
 }
 
-/// One more interrupt is to be lost, where the event says so.
+/// Counts one more interrupt to be dropped if the event says so.
 fn count_loss(losses: &mut [u64; 8], event: &Event)
     requires there { event_peer (event_seen event.now) < 8 }
     requires few { (peer : ℕ) → slice_index_or losses.old peer 0 < 2 ^ 64 - 1 }
@@ -42,7 +42,7 @@ fn count_loss(losses: &mut [u64; 8], event: &Event)
 }
 
 impl Moment {
-    /// The beginning of the history.
+    /// Returns the beginning of the history.
     pub fn beginning(alloc: Global, scenario: &Scenario) -> Result<Moment, NoMemory>
         ensures { IfOk result (λ moment. (lines : List lines.Line) → IsMoment (world_of scenario.now) lines 0 (initial_state (world_of scenario.now)) moment) }
     {
@@ -57,7 +57,7 @@ impl Moment {
         })
     }
 
-    /// Reads the lines of an event. False where they don't stand there.
+    /// Reads the lines of an event. Returns false if other lines are there.
     pub fn read(
         &mut self,
         alloc: Global,

@@ -1,4 +1,4 @@
-//! A peer in the middle of its schedule.
+//! A peer between two events.
 ghost use Rattle.std.specs.Prelude.{◌≡◌, ℕ, ◌+◌, ◌*◌, ◌<◌, ◌≤◌, ◌-◌, ◌^◌, true, List, length, IfOk, OnOk};
 ghost use Rattle.call_grammar.specs.Automatic.{choice_of};
 ghost use Rattle.call_grammar.specs.Calls as laws;
@@ -18,7 +18,7 @@ use reference_calls::{Call, End, EndConfig, Mark, OpenCall, Step};
 use std::alloc::Global;
 use std::mem::replace;
 
-/// What the call before tells of the round of an automatic peer.
+/// The position in the round of an automatic end, from its call before.
 #[derive(Clone, Copy, Debug)]
 pub enum Round {
     /// The round begins with the next call.
@@ -29,7 +29,7 @@ pub enum Round {
     AfterPoll,
 }
 
-/// What an automatic peer chooses: a call, or that it is finished.
+/// The choice of an automatic end: a call, or that it is finished.
 #[derive(Drop)]
 pub enum Choice {
     /// A Tick.
@@ -38,31 +38,31 @@ pub enum Choice {
     Offer(Frame),
     /// A Poll.
     Poll,
-    /// No call any more.
+    /// No more calls.
     Finished,
 }
 
-/// An automatic peer.
+/// An automatic end.
 #[derive(Drop)]
 pub struct Auto {
-    /// Its frames that weren't accepted yet, in order.
+    /// Its frames that aren't accepted yet, in order.
     pub frames: Vec<Frame>,
-    /// How many deliveries it expects.
+    /// The number of deliveries that it expects.
     pub expected: u64,
-    /// How many it had.
+    /// The number of its deliveries.
     pub delivered: u64,
-    /// Where its round is.
+    /// The position in its round.
     pub round: Round,
 }
 
-/// Who chooses what a peer does.
+/// The source of a peer's actions.
 #[derive(Drop)]
 pub enum Driver {
     /// The schedule: the peer waits for its calls.
     Waits,
-    /// The rule of the automatic peer.
+    /// The rule of the automatic end.
     Chooses(Auto),
-    /// A storm, whose generator is at this number.
+    /// A storm, whose generator has this state.
     Storms(u64),
 }
 
@@ -73,14 +73,14 @@ pub struct Peer {
     pub end: End,
     /// Its open call.
     pub call: OpenCall,
-    /// The calls that wait, the oldest first.
+    /// The waiting calls, oldest first.
     pub waiting: Vec<Call>,
     /// Its driver.
     pub driver: Driver,
 }
 
 impl Auto {
-    /// Counts what a mark says.
+    /// Counts a mark.
     fn count(&mut self, mark: &Mark)
         requires { self.old.delivered < 2 ^ 64 - 1 }
         ensures counted { auto_seen self.new ≡ counted (auto_seen self.old) (mark_seen mark.now) }
@@ -105,7 +105,7 @@ impl Auto {
         }
     }
 
-    /// Counts what these marks say.
+    /// Counts these marks.
     fn count_all(&mut self, marks: &[Mark])
         requires { self.old.delivered + length marks.now < 2 ^ 64 - 1 }
         ensures counted { auto_seen self.new ≡ counted_all (auto_seen self.old) (marks_seen marks.now) }
@@ -116,7 +116,7 @@ impl Auto {
         }
     }
 
-    /// What the peer chooses in this phase.
+    /// Returns the choice in this phase.
     fn choose(&self, alloc: Global, phase: Phase) -> Result<Choice, NoMemory>
         ensures { IfOk result (λ choice. choice_seen choice ≡
             choice_of phase (round_seen self.now.round) self.now.frames.items self.now.delivered self.now.expected) }
@@ -139,7 +139,7 @@ impl Auto {
 }
 
 impl Peer {
-    /// A peer at its start.
+    /// Returns the initial peer.
     pub fn at_start(alloc: Global) -> Peer
         ensures { (config : laws.EndConfig) (most : ℕ) → IsPeer config most result at_start }
     {
@@ -151,7 +151,8 @@ impl Peer {
         }
     }
 
-    /// A call was put after those that wait; but a frame for an automatic peer was put after its frames.
+    /// Appends a call to the waiting calls. The frame of an Offer to an automatic end is appended
+    /// to its frames.
     pub fn ask(&mut self, call: Call) -> Result<(), NoMemory>
         ensures { OnOk result ((config : laws.EndConfig) (most : ℕ) (peer : history.Peer) → IsPeer config most self.old peer →
             IsPeer config most self.new (with_call peer (call_seen call))) }
@@ -163,7 +164,7 @@ impl Peer {
         Ok(())
     }
 
-    /// The peer chooses its calls from now on.
+    /// Makes the peer an automatic end.
     pub fn automate(&mut self, alloc: Global, expected: u64)
         ensures { (config : laws.EndConfig) (most : ℕ) (peer : history.Peer) → IsPeer config most self.old peer → IsPeer config most self.new (automated peer expected) }
     {
@@ -175,14 +176,14 @@ impl Peer {
         });
     }
 
-    /// The turns of the peer are a storm from now on.
+    /// Makes the turns of the peer a storm.
     pub fn storm(&mut self, seed: u64)
         ensures { (config : laws.EndConfig) (most : ℕ) (peer : history.Peer) → IsPeer config most self.old peer → IsPeer config most self.new (stormed peer seed) }
     {
         self.driver = Driver::Storms(seed);
     }
 
-    /// The device of the peer was reset: its open call is cut, and those that wait are dropped.
+    /// Resets the peer after a reset of its device: cuts its open call, and drops the waiting ones.
     pub fn reset(&mut self, alloc: Global)
         ensures { (config : laws.EndConfig) (most : ℕ) (peer : history.Peer) → IsPeer config most self.old peer → IsPeer config most self.new (was_reset peer) }
     {
@@ -204,7 +205,7 @@ impl Peer {
         Ok(())
     }
 
-    /// An automatic peer is here in its round from now on.
+    /// Sets the position in the round of an automatic end.
     fn set_round(&mut self, round: Round)
         ensures { (config : laws.EndConfig) (most : ℕ) (peer : history.Peer) (auto : history.Auto) → peer.driver ≡ history.Chooses auto →
             IsPeer config most self.old peer → IsPeer config most self.new (record peer { driver = history.Chooses (record auto { round = round_seen round }) }) }
@@ -234,7 +235,7 @@ impl Peer {
         Ok(())
     }
 
-    /// Opens the call that an automatic peer chooses, if it chooses one.
+    /// Opens the call that an automatic end chooses, if it chooses one.
     fn choose(&mut self, alloc: Global, config: &EndConfig) -> Result<(), NoMemory>
         ensures { let config = config_seen config.now in
             OnOk result ((most : ℕ) (peer : history.Peer) → IsPeer config most self.old peer →
@@ -256,7 +257,8 @@ impl Peer {
         Ok(())
     }
 
-    /// Opens the call that comes next where none is open: the oldest that waits, else the one that an automatic peer chooses.
+    /// Opens the next call if none is open: the oldest waiting call, else the call that an
+    /// automatic end chooses.
     pub fn open_next(&mut self, alloc: Global, config: &EndConfig) -> Result<(), NoMemory>
         ensures { let config = config_seen config.now in
             OnOk result ((most : ℕ) (peer : history.Peer) → IsPeer config most self.old peer → IsPeer config most self.new (opened config peer)) }
@@ -273,7 +275,7 @@ impl Peer {
         Ok(())
     }
 
-    /// Counts for an automatic peer what is marked on its step.
+    /// Counts the marks of a step for an automatic end.
     fn count(&mut self, marks: &[Mark])
         requires { (most : ℕ) × HasFew most self.old.driver × (most + length marks.now < 2 ^ 64 - 1) }
         ensures counted { driver_seen self.new.driver ≡ driver_after (driver_seen self.old.driver) (marks_seen marks.now) }
@@ -285,7 +287,7 @@ impl Peer {
         }
     }
 
-    /// The peer takes the next step of its open call.
+    /// Makes the next step of the open call.
     pub fn follow(
         &mut self,
         alloc: Global,

@@ -1,4 +1,4 @@
-//! A peer and its partner.
+//! A peer and the other link peer.
 ghost use Rattle.std.specs.Prelude.{◌≡◌, ◌<◌, ◌^◌};
 ghost use Rattle.reference_calls.specs.Seen.{config_seen};
 ghost use Rattle.lawful_history.specs.Sides.{traffic_vector, world_of, config_of, partner};
@@ -7,7 +7,7 @@ use pci_space::Wiring;
 use reference_calls::EndConfig;
 use scenario_text::Scenario;
 
-/// The vector of the doorbells of offers and polls.
+/// Returns the vector of the doorbells of offers and polls.
 fn traffic_vector(wiring: Wiring) -> u32
     ensures vector { result ≡ traffic_vector wiring }
     ensures small { result < 2 ^ 16 }
@@ -18,7 +18,7 @@ fn traffic_vector(wiring: Wiring) -> u32
     }
 }
 
-/// The peer, as the calls see it.
+/// Returns the configuration of the peer.
 pub fn config_of(scenario: &Scenario, me: u32) -> EndConfig
     requires { me < scenario.now.geometry.peers }
     ensures config { config_seen result ≡ config_of (world_of scenario.now) me }

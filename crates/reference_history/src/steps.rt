@@ -1,4 +1,4 @@
-//! The lines of a step: its access, the interrupts that this brings, and its marks.
+//! The lines of a step: its access, the interrupts that it causes, and its marks.
 ghost use Rattle.std.specs.Prelude.{◌≡◌, ◌↔◌, ℕ, ◌<◌, ◌∷◌, [], ◌++◌, ◌≤◌, IsTrue, Some, IfSome, OnSome, List, length, map, reverse};
 ghost use Rattle.reference_calls.specs.Seen.{access_seen, mark_seen, marks_seen, step_seen};
 ghost use Rattle.reference_calls.specs.Following.{IsStorable};
@@ -15,7 +15,7 @@ use lawful_history::Line;
 use reference_calls::{Access, Mark, Step};
 use scenario_text::Scenario;
 
-/// Is this the line of the access, which met this value?
+/// Whether this is the line of the access that met this value.
 fn is_told(me: u32, access: Access, met: u32, line: &Line) -> bool
     ensures told { IsTrue result ↔ access_lines me (access_seen access) met ≡ line.now ∷ [] }
     ensures storable { IsTrue result → IsStorable (access_seen access) }
@@ -49,7 +49,7 @@ fn is_told(me: u32, access: Access, met: u32, line: &Line) -> bool
     }
 }
 
-/// Reads the line of an access, which met this value.
+/// Reads the line of an access that met this value.
 fn read_access(me: u32, access: Access, met: u32, lines: &[Line], read: usize) -> Option<usize>
     ensures reads { (past : List Line) → Reads lines.now past (Some read) →
         Reads lines.now (reverse (access_lines me (access_seen access) met) ++ past) result }
@@ -66,7 +66,7 @@ fn read_access(me: u32, access: Access, met: u32, lines: &[Line], read: usize) -
     }
 }
 
-/// Is this the line of the mark?
+/// Whether this is the line of the mark.
 fn is_marked(me: u32, mark: &Mark, line: &Line) -> bool
     ensures { IsTrue result ↔ mark_line me (mark_seen mark.now) ≡ line.now }
 {
@@ -117,7 +117,8 @@ fn read_marks(me: u32, marks: &[Mark], lines: &[Line], read: usize) -> Option<us
     Some(at)
 }
 
-/// What an access meets after these lines: what a word holds that is read, else 0.
+/// Returns the value that an access meets after these lines: the word's value if it is a read, else
+/// 0.
 pub fn met_by(access: Access, lines: &[Line]) -> u32
     ensures { Meets (reverse lines.now) (access_seen access) result }
 {

@@ -9,7 +9,7 @@ use reference_calls::{Access, Step};
 use scenario_text::Scenario;
 use std::alloc::Global;
 
-/// The generator's next number.
+/// Returns the generator's next number.
 fn next_number(x: u64) -> u64
     ensures { result ≡ next_number x }
 {
@@ -17,14 +17,14 @@ fn next_number(x: u64) -> u64
         .wrapping_add(1442695040888963407)
 }
 
-/// The 32 bits that are drawn from a number.
+/// Returns the 32 bits that are drawn from a number.
 fn draw(x: u64) -> u32
     ensures { result ≡ draw x }
 {
     (x / 4294967296) as u32
 }
 
-/// What three draws do.
+/// Returns the access of three draws.
 fn drawn_access(scenario: &Scenario, me: u32, kind: u32, place: u32, value: u32) -> Access
     requires { me < scenario.now.geometry.peers }
     ensures access { access_seen result ≡ drawn_access (world_of scenario.now) me kind place value }
@@ -47,7 +47,7 @@ fn drawn_access(scenario: &Scenario, me: u32, kind: u32, place: u32, value: u32)
     }
 }
 
-/// The step of a storm whose generator is at x.
+/// Returns the step of a storm whose generator has the state x.
 pub fn storm_step(alloc: Global, scenario: &Scenario, me: u32, x: u64) -> Step
     requires { me < scenario.now.geometry.peers }
     ensures step { step_seen result ≡ storm_step (world_of scenario.now) me x }
@@ -63,7 +63,7 @@ pub fn storm_step(alloc: Global, scenario: &Scenario, me: u32, x: u64) -> Step
     }
 }
 
-/// Where the generator is after that step.
+/// Returns the state of the generator after that step.
 pub fn storm_after(x: u64) -> u64
     ensures { result ≡ storm_after x }
 {

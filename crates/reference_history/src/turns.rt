@@ -1,4 +1,4 @@
-//! The lines of an event of a peer, and where the peer is after it.
+//! The lines of an event of a peer, and the peer after it.
 ghost use Rattle.std.specs.Prelude.{◌≡◌, ℕ, ◌+◌, ◌<◌, ◌≤◌, ◌^◌, ◌∷◌, ◌++◌, true, Some, IfOk, List, length, reverse};
 ghost use Rattle.lawful_history.specs.declared.line.Line.TheVariants.{Reset};
 ghost use Rattle.call_grammar.specs.Calls as laws;
@@ -65,7 +65,7 @@ fn read_call(
     Ok(Some(at))
 }
 
-/// Reads the lines of a turn without an open call: a step of a storm, or that the peer is idle.
+/// Reads the lines of a turn without an open call: a step of a storm, or the idle line.
 fn read_driver(
     alloc: Global,
     scenario: &Scenario,
@@ -121,7 +121,8 @@ fn read_turn(
     Ok(read_driver(alloc, scenario, losses, me, peer, lines, read))
 }
 
-/// The word of an access that is denied to the peer: one that it writes and may not.
+/// Returns the word of an access that is denied to the peer: a word that it writes and may not
+/// write.
 fn denied_word(scenario: &Scenario, me: u32, access: Access) -> Option<u32>
     requires there { me < scenario.now.geometry.peers }
     requires fits { HasWord (access_seen access) }
@@ -140,7 +141,7 @@ fn denied_word(scenario: &Scenario, me: u32, access: Access) -> Option<u32>
     }
 }
 
-/// Reads the lines of an access of the peer's own accord. A forbidden write is denied.
+/// Reads the lines of an access of the peer outside a call. A write that isn't permitted is denied.
 fn read_access_of(
     alloc: Global,
     scenario: &Scenario,
@@ -190,7 +191,7 @@ fn read_reset(
     read_arrivals(losses, lines, at, deliveries.as_slice())
 }
 
-/// The line of an access to the device after these lines.
+/// Returns the line of a device access after these lines.
 fn reached_line(scenario: &Scenario, me: u32, access: DeviceAccess, lines: &[Line]) -> Line
     requires there { me < scenario.now.geometry.peers }
     requires placed { IsPlaced (device_access_seen access) }

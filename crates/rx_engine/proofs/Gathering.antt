@@ -1,20 +1,21 @@
--- The words of a frame as they are read, and the frame that they spell.
+-- The words read of a frame, and the frame's bytes.
 use Rattle.std.proofs.Common.{◌≡◌, ℕ, ◌+◌, ◌-◌, ◌*◌, ◌≤◌, List, [], ◌∷◌, ◌++◌, length, take, refl, sym, ap, ◌∙◌, arith}
 use Rattle.std.proofs.Math.Seq.{take-append-add}
 use Rattle.std.proofs.lemmas.Grind.{flat_map-append}
 use Rattle.std.specs.List.{flat_map}
 use Rattle.call_grammar.specs.Words.{word_bytes, frame_in}
 
--- each word has four bytes
+-- Each word has four bytes.
 pub length-words : (read : List ℕ) → length (flat_map word_bytes read) ≡ 4 * length read
 length-words [] = refl
 length-words (word ∷ words) = omega (arith, length-words words)
 
--- one more word
+-- The bytes after one more word.
 pub words_more : (read : List ℕ) (value : ℕ) → flat_map word_bytes (read ++ value ∷ []) ≡ flat_map word_bytes read ++ word_bytes value
 words_more read value = flat_map-append word_bytes read (value ∷ [])
 
--- the words read, and the front of one more, are the front of all of them
+-- The bytes of the words read and the first bytes of one more word are the first bytes of all
+-- words.
 pub frame_more : (bytes at value : ℕ) (read : List ℕ) → length read ≡ at → 4 * at ≤ bytes →
     flat_map word_bytes read ++ take (bytes - 4 * at) (word_bytes value) ≡ frame_in bytes (read ++ value ∷ [])
 frame_more bytes at value read count some =

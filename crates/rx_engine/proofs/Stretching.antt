@@ -1,4 +1,4 @@
--- Some words of a frame, read at once.
+-- Bursts of reads of a frame's words.
 use Rattle.std.proofs.Common.{◌≡◌, ℕ, zero, suc, ◌+◌, ◌-◌, ◌*◌, ◌/◌, ◌%◌, ◌<◌, ◌≤◌, List, [], ◌∷◌, ◌++◌, length, take, drop, refl, sym, ap, ◌∙◌, arith, subst}
 use Rattle.std.proofs.lemmas.Grind.{common_steps}
 use Rattle.std.proofs.lemmas.List.{take_all, append_assoc, length-take}
@@ -22,7 +22,7 @@ use Rattle.rx_engine.specs.declared.place.Place.{Place}
 use Rattle.rx_engine.specs.declared.place.Place.TheVariants.{Closed, ReadingAvailIndex, WritingAvailEvent, ReadingAvailEntry, ReadingDescAddressLow, ReadingDescAddressHigh, ReadingDescLength, ReadingDescFlags, ReadingFrameWord, WritingUsedId, WritingUsedLength, WritingUsedIndex, Ringing, Refusing}
 use Rattle.rx_engine.proofs.Words.{word_delivers, word_goes}
 
--- the reads of the words that are left
+-- The reads of the words left.
 reads : (config : EndConfig) (number more entry address bytes : ℕ) (read : List ℕ) (words : ℕ) (values : List ℕ) → length values ≤ words →
     laws.access_at config (place_after config (laws.ReadingFrameWord number more entry address bytes read words) values) ≡ access.Read (config.theirs + (address / 4 + (length read + length values)))
 reads config number more entry address bytes read words [] few = ap (λ n. access.Read (config.theirs + (address / 4 + n))) (omega arith)
@@ -42,7 +42,7 @@ reads_on rx config end place word more entry address bytes at count at_word coun
     let enough : length values ≤ words_for bytes - (at + 1) = omega (arith, few, count_is) in
     ap (λ p. laws.access_at config (place_after config p values)) here ∙ reads config _ more entry address bytes refines.read _ values enough ∙ ap access.Read (omega (arith, word_is))
 
--- the receiver after one more word before the last
+-- The receiver after one more word before the last.
 abbrev pub after_word : Receiver → (more entry address bytes at value : ℕ) → Receiver
 after_word old more entry address bytes at value = record old { place = ReadingFrameWord more entry address bytes (at + 1); gathered = old.gathered ++ word_bytes value }
 
@@ -54,7 +54,7 @@ goes_one old more entry address bytes at value at_word some = (
   refl,
 )
 
--- some words before the last
+-- Reads of words before the last word.
 pub words_go : (old new : Receiver) (notes : List Note) (more entry address bytes at : ℕ) (values : List ℕ) → old.place ≡ ReadingFrameWord more entry address bytes at → 0 < length values → 4 * (at + length values) < bytes →
     new ≡ record old { place = ReadingFrameWord more entry address bytes (at + length values); gathered = old.gathered ++ flat_map word_bytes values } → notes ≡ [] → StepsThrough StaysOpen old values notes new
 words_go old new notes more entry address bytes at [] at_word some within new_is none = absurd (omega (arith, some))
@@ -70,7 +70,7 @@ words_go old new notes more entry address bytes at (value ∷ next ∷ values) a
     ∙ ap (λ g. record old { place = ReadingFrameWord more entry address bytes (at + 1 + length (next ∷ values)); gathered = g }) bytes_are in
     (between, goes_one old more entry address bytes at value at_word (omega arith), words_go between new notes more entry address bytes (at + 1) (next ∷ values) refl (omega arith) (omega (arith, within)) new_after none)
 
--- the words up to the last
+-- Reads of words up to the last word.
 pub words_deliver : (old new : Receiver) (notes : List Note) (more entry address bytes at : ℕ) (values : List ℕ) → old.place ≡ ReadingFrameWord more entry address bytes at → 0 < length values →
     bytes ≤ 4 * (at + length values) → 4 * (at + length values) < bytes + 4 →
     new ≡ record old { place = WritingUsedId more entry; frame = old.gathered ++ take (bytes - 4 * at) (flat_map word_bytes values); gathered = [] } → notes ≡ note.Deliver ∷ [] → StepsThrough StaysOpen old values notes new
@@ -107,11 +107,11 @@ open_seen number read (WritingUsedIndex more) = refl
 open_seen number read Ringing = refl
 open_seen number read Refusing = refl
 
--- a receiver is busy where the place is open for which it stands
+-- A receiver is busy exactly if the place that it refines is open.
 pub busy_is : (rx : Receiver) (config : EndConfig) (end : End) (place : laws.Place) → RefinesAt rx config end place → is_busy rx ≡ laws.is_open place
 busy_is rx config end place refines = open_seen end.returned refines.read rx.place ∙ ap laws.is_open (sym refines.place_is)
 
--- the used element
+-- The writes of the used element.
 
 gives_id : (old : Receiver) (more entry value : ℕ) → old.place ≡ WritingUsedId more entry → StaysOpen old value [] (record old { place = WritingUsedLength more })
 gives_id old more entry value at = (λ config end place refines. grind (arith, common_steps), refl)

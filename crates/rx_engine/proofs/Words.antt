@@ -14,7 +14,7 @@ use Rattle.rx_engine.specs.Refinement.{RefinesAt, TakesAt, place_seen}
 use Rattle.rx_engine.specs.declared.place.Place.TheVariants.{ReadingFrameWord, WritingUsedId}
 use Rattle.rx_engine.proofs.Gathering.{words_more, frame_more}
 
--- the last word of a frame is read
+-- The last word of a frame is read.
 pub word_delivers : (old new : Receiver) (notes : List Note) (config : EndConfig) (end : End) (place : laws.Place) (more entry address bytes at value : ℕ) →
     old.place ≡ ReadingFrameWord more entry address bytes at →
     new ≡ record old { place = WritingUsedId more entry; frame = new.frame; gathered = [] } →
@@ -28,7 +28,7 @@ word_delivers old new notes config end place more entry address bytes at value a
     let whole : new.frame ≡ frame_in bytes (refines.read ++ value ∷ []) = frame_is ∙ ap (λ g. g ++ take (bytes - 4 * at) (word_bytes value)) refines.gathered ∙ frame_more bytes at value refines.read count (omega arith) in
     grind (arith, common_steps)
 
--- a word before the last is read
+-- A word before the last is read.
 pub word_goes : (old new : Receiver) (notes : List Note) (config : EndConfig) (end : End) (place : laws.Place) (more entry address bytes at value : ℕ) →
     old.place ≡ ReadingFrameWord more entry address bytes at →
     new ≡ record old { place = ReadingFrameWord more entry address bytes (at + 1); gathered = new.gathered } →

@@ -1,4 +1,4 @@
--- Which end of the link a receiver stands for, at which place of the call grammar, and its steps there.
+-- The ends that a receiver refines, the places of the call grammar, and the receiver's steps there.
 use Rattle.std.specs.Prelude.{ℕ, ◌≡◌, ◌+◌, ◌-◌, ◌%◌, ◌==◌, Bool, true, false, if◌then◌else◌, List, [], ◌∷◌, ◌++◌, length, flat_map}
 use Rattle.link_handshake.specs.declared.Phase.{Phase}
 use Rattle.link_handshake.specs.declared.Phase.TheVariants.{Ready, Run}
@@ -12,7 +12,7 @@ use Rattle.rx_engine.specs.Receiver.{Receiver, is_busy, words_read, unreturned}
 use Rattle.rx_engine.specs.declared.place.Place.{Place}
 use Rattle.rx_engine.specs.declared.place.Place.TheVariants.{Closed, ReadingAvailIndex, WritingAvailEvent, ReadingAvailEntry, ReadingDescAddressLow, ReadingDescAddressHigh, ReadingDescLength, ReadingDescFlags, ReadingFrameWord, WritingUsedId, WritingUsedLength, WritingUsedIndex, Ringing, Refusing}
 
--- the place of the grammar, for the number of the item in hand and the words read of its frame
+-- The place of the grammar, from the number of the current item and the words read of its frame.
 abbrev pub place_seen : ℕ → List ℕ → Place → laws.Place
 place_seen number read Closed = laws.Closed
 place_seen number read (ReadingAvailIndex last) = laws.ReadingAvailIndex number last
@@ -29,7 +29,7 @@ place_seen number read (WritingUsedIndex more) = laws.WritingUsedIndex number mo
 place_seen number read Ringing = laws.RingingPoll
 place_seen number read Refusing = laws.Refusing
 
--- the receiver was made for this peer: the numbers that were handed in are the peer's
+-- The receiver was made for this configuration: its fixed parameters are the configuration's.
 pub record IsMadeFor (rx : Receiver) (config : EndConfig) : Type 0 where
   pub sizes : config.sizes ≡ rx.sizes
   pub own : config.own ≡ rx.own
@@ -37,25 +37,27 @@ pub record IsMadeFor (rx : Receiver) (config : EndConfig) : Type 0 where
   pub target : config.other ≡ rx.target
   pub vector : config.vector ≡ rx.vector
 
--- the doorbell of a poll comes next
+-- The doorbell of a poll is next.
 abbrev pub rings : laws.Place → Bool
 rings laws.RingingPoll = true
 rings _ = false
 
--- a session is open in these phases
+-- A session is open in these phases.
 abbrev pub has_session : Phase → Bool
 has_session Ready = true
 has_session Run = true
 has_session _ = false
 
--- the receiver's count is the end's modulo 65,536, all frames delivered are returned but one that is being returned, and the last look of both found the same
+-- The receiver's count is the end's, modulo 65,536. All frames delivered are returned, except one
+-- that is being returned. The last read of the available index found the same for both.
 pub record CountsMatch (rx : Receiver) (end : End) : Type 0 where
   pub returned : end.returned % 65536 ≡ rx.returned
   pub delivered : length end.delivered ≡ end.returned + unreturned rx.place
   pub found_none : end.found_none ≡ rx.found_none
 
--- the receiver stands for this end of this peer, at this place of its open call: it counts the end's frames wherever a poll or a session
--- is open, and the bytes gathered are those of the words read
+-- The receiver refines the end `end` at `place`, under the configuration `config`. It counts the
+-- end's frames if a poll or a session is open, and the bytes gathered are the bytes of the words
+-- read.
 pub record RefinesAt (rx : Receiver) (config : EndConfig) (end : End) (place : laws.Place) : Type 0 where
   pub made : IsMadeFor rx config
   pub busy : is_busy rx ≡ true → CountsMatch rx end
@@ -65,39 +67,42 @@ pub record RefinesAt (rx : Receiver) (config : EndConfig) (end : End) (place : l
   pub gathered : rx.gathered ≡ flat_map word_bytes read
   pub place_is : place ≡ place_seen end.returned read rx.place
 
--- the frame delivered last, after the step at a place that met this value: the next frame after its last word is read, else the one before
+-- The frame delivered last after the step at a place that met `value`: the next frame if its last
+-- word was read, else the frame before.
 abbrev pub frame_after : laws.Place → ℕ → List ℕ → List ℕ
 frame_after (laws.ReadingFrameWord number more entry address bytes read words) value frame = if words == 0 then frame_in bytes (read ++ value ∷ []) else frame
 frame_after place value frame = frame
 
--- a step that met this value was that of the grammar, with these notes, for this end at this place
+-- The step that met `value`, with these notes, is the step of the grammar for this end at this
+-- place.
 pub record TakesAt (old : Receiver) (value : ℕ) (notes : List Note) (new : Receiver) (config : EndConfig) (end : End) (place : laws.Place) : Type 0 where
   pub marks : marks_of new.frame notes ≡ laws.marks_at config place value
   pub refines : RefinesAt new config (end_after end (laws.step_at config place value)) (laws.next_place config place value)
   pub frame : new.frame ≡ frame_after place value old.frame
 
--- it was so for each end, and at each place, for which the receiver stood
+-- The step is the step of the grammar for each end and at each place that the receiver refines.
 abbrev pub TakesStep : Receiver → ℕ → List Note → Receiver → Type 0
 TakesStep old value notes new = (config : EndConfig) (end : End) (place : laws.Place) → RefinesAt old config end place → TakesAt old value notes new config end place
 
--- and the poll is open still
+-- The receiver makes this step, and the poll is still open.
 abbrev pub StaysOpen : Receiver → ℕ → List Note → Receiver → Type 0
 StaysOpen old value notes new = TakesStep old value notes new × (is_busy new ≡ true)
 
--- a fresh session: no frame is delivered or returned, and no look was taken
+-- A new session: no frame is delivered or returned, and no available index was read.
 pub record IsFreshSession (end : End) : Type 0 where
   pub delivered : end.delivered ≡ []
   pub returned : end.returned ≡ 0
   pub found_none : end.found_none ≡ false
 
--- what a closed receiver reads of an end is the same in a later one, which has a session only where the first had one
+-- `later` is the same as `end` in all that a receiver without an open poll depends on. It has a
+-- session only if `end` has one.
 pub record SameSession (end later : End) : Type 0 where
   pub delivered : later.delivered ≡ end.delivered
   pub returned : later.returned ≡ end.returned
   pub found_none : later.found_none ≡ end.found_none
   pub session : has_session later.handshake.phase ≡ true → has_session end.handshake.phase ≡ true
 
--- a closed receiver stands for an end as long as its session goes on
+-- A receiver without an open poll refines an end as long as the session lasts.
 abbrev pub IdleEngineOutlivesSteps : Type 0
 IdleEngineOutlivesSteps = (rx : Receiver) (config : EndConfig) (end later : End) → RefinesAt rx config end laws.Closed → SameSession end later →
     RefinesAt rx config later laws.Closed

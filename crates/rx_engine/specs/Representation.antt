@@ -1,10 +1,11 @@
--- What the fields of a receiver are.
+-- The meaning of the fields of a receiver.
 use Rattle.std.specs.Prelude.{ℕ, ◌≡◌, ◌+◌, ◌*◌, ◌^◌, ◌≤◌, min, length, take}
 use Rattle.split_ring.specs.Layout.{Sizes, IsQueue, HasBounds, data_area_len}
 use Rattle.rx_engine.specs.Receiver.{Receiver, words_read, IsReached}
 use Rattle.rx_engine.specs.declared.receiver.Rx.TheInside.{Inside}
 
--- the bytes of the longest frame that the checks let pass: 65,553, and no more than the data area has
+-- The length in bytes of the longest frame that passes the checks: 65,553, and at most the length
+-- of the data area.
 abbrev pub longest_frame : Sizes → ℕ
 longest_frame q = min 65553 (data_area_len q)
 
@@ -22,7 +23,8 @@ seen a = record {
   gathered = take (4 * words_read a.place) a.buffer.items;
 }
 
--- the sections end at or before byte 2^24 of the region, both buffers have room for the longest frame, and the place is one that was reached by the checks
+-- The invariant of a receiver: the sections end at or before byte 2^24 of the region, both buffers
+-- hold the longest frame, and the values of the place passed their checks.
 pub record IsWellFormed (a : Inside) : Type 0 where
   pub queue : IsQueue a.queue
   pub bounds : HasBounds a.queue

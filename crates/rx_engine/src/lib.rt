@@ -1,13 +1,18 @@
-//! The receiver of a link's end: a poll takes the frames that the other peer published, each once, and returns them. It stands on
-//! `split_ring` for the places of fields and the checks of foreign values, and makes no access itself: `next` tells the access and
-//! `took` takes what it gave. Its contracts promise the call grammar of `call_grammar`, for each end for which the receiver stands.
+//! The receiver of a link's end. A poll delivers each frame that the other peer published once, and
+//! returns it. The crate uses `split_ring` for the places of fields and the checks of foreign
+//! values. The receiver performs no access: `next` returns the access, and the caller performs it
+//! and passes the value read to `took`. The contracts promise the call grammar of `call_grammar`,
+//! for each end that the receiver refines.
 //!
 //! # Design
 //!
-//! - There are two buffers, each as long as the longest frame that can pass, taken in `new`: one for the frame that is read, one for
-//!   the frame delivered last. Words go into the first one by one, with the last word of a frame the two are swapped, and nothing is
+//! - There are two buffers, each as long as the longest frame that can pass the checks, allocated
+//!   in `new`: one for the frame being read, one for the frame delivered last. Words are stored
+//!   into the first one by one. With the last word of a frame the two are swapped. Nothing is
 //!   cleared or copied, so each step is constant work.
-//! - The number of frames returned is kept modulo 65,536. Delivered is one more between Deliver and Return.
+//! - The number of frames returned is stored modulo 65,536. Between Deliver and Return, one frame
+//!   more is delivered than returned.
+// tested: No memory is taken after `new`: tried by hand.
 #![tactic(auto)]
 
 mod place;

@@ -1,18 +1,20 @@
-//! Where an open poll is.
+//! The place in an open poll.
 
-/// The place of a poll between two steps, before the access that it is named after. `more` is how many items come after the one in
-/// hand, and `entry` its descriptor; `address` and `bytes` are in bytes, and `at` counts the words of the frame that were read.
+/// The place of a poll between two steps, before the access that it is named after. `more` is the
+/// number of items after the current one, and `entry` is the current item's descriptor. `address`
+/// and `bytes` are in bytes, and `at` is the number of words of the frame that were read.
 #[derive(Clone, Copy, Debug)]
 pub(crate) enum Place {
     /// No poll is open.
     Closed,
-    /// The read of the available index. It is the last look of its poll where it finds nothing, or the event is written after it.
+    /// The read of the available index. If it finds no frame, the poll ends if `last`, and
+    /// avail_event is written next if not.
     ReadingAvailIndex {
         last: bool,
     },
-    /// The write of the own event.
+    /// The write of the own avail_event.
     WritingAvailEvent,
-    /// The read of the item's entry in the available ring.
+    /// The read of the item's available entry.
     ReadingAvailEntry {
         more: u32,
     },
@@ -21,19 +23,19 @@ pub(crate) enum Place {
         more: u32,
         entry: u32,
     },
-    /// The read of the high word of the address.
+    /// The read of the high word of the descriptor's address.
     ReadingDescAddressHigh {
         more: u32,
         entry: u32,
         low: u32,
     },
-    /// The read of the length.
+    /// The read of the descriptor's length.
     ReadingDescLength {
         more: u32,
         entry: u32,
         address: u32,
     },
-    /// The read of the flags.
+    /// The read of the descriptor's flags.
     ReadingDescFlags {
         more: u32,
         entry: u32,

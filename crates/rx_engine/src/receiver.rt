@@ -1,4 +1,4 @@
-//! The receiver.
+//! The receiver of an end.
 ghost use Rattle.std.specs.Prelude.{ℕ, ◌≡◌, ◌+◌, ◌-◌, ◌*◌, ◌%◌, ◌≤◌, ◌<◌, ◌^◌, ◌⊎◌, List, [], ◌∷◌, ◌++◌, true, false, IfOk, IfSome, min, length, take, flat_map};
 ghost use Rattle.link_handshake.specs.declared.Phase.TheVariants.{Run};
 ghost use Rattle.split_ring.specs.Spelling.{entry_half};
@@ -21,16 +21,17 @@ use std::alloc::Global;
 use std::marker::Model;
 use std::mem::swap;
 
-/// The bytes of the longest frame that a descriptor may name.
+/// The length in bytes of the longest frame that a descriptor may name.
 const LONGEST: u32 = 65_553;
 
-/// The receiver of one end. It keeps the queue, the first words of the two sections, the peer and vector of the doorbell, how many
-/// frames of the session were returned, modulo 65,536, whether its last look found none, its place in the open poll, and the frame
-/// delivered last.
+/// The receiver of one end. It stores the queue, the first words of the two sections, and the
+/// target and vector of the doorbell. It counts the frames of the session that were returned,
+/// modulo 65,536. It stores whether its last read of the available index found no frame, its place
+/// in the open poll, and the frame delivered last.
 ///
-/// It has two buffers, each as long as the longest frame that passes the checks: one for the frame that is read, and one for the frame
-/// delivered last. They are swapped when a frame is delivered, and nothing is copied. A step reads or writes one word, and never
-/// answers NoMemory.
+/// It has two buffers, each as long as the longest frame that passes the checks: one for the frame
+/// being read, and one for the frame delivered last. They are swapped when a frame is delivered,
+/// and nothing is copied. A step reads or writes one word, and never returns NoMemory.
 #[derive(Debug, Drop)]
 pub struct Rx {
     queue: Queue,
@@ -58,7 +59,7 @@ impl Model for Rx {
     ghost invariant = { IsWellFormed };
 }
 
-/// Entry `k` of the available ring, in its word.
+/// Returns available entry `k` from its word.
 fn entry_half(k: u16, word: u32) -> u16
     ensures { result ≡ entry_half k word }
 {
@@ -69,8 +70,8 @@ fn entry_half(k: u16, word: u32) -> u16
     }
 }
 
-/// Puts some words from word `at` on of a frame of so many bytes to their place in the buffer, each by its four bytes: all of their bytes,
-/// or those up to the last one of the frame.
+/// Copies words of a frame of `bytes` bytes to their position in `buffer`, from word `at` of the
+/// frame on. Bytes after the frame's last byte are left out.
 fn put_words(buffer: &mut [u8], bytes: usize, at: usize, words: &[u8])
     requires within { 4 * at < bytes }
     requires room { bytes ≤ length buffer.old }
@@ -82,7 +83,7 @@ fn put_words(buffer: &mut [u8], bytes: usize, at: usize, words: &[u8])
     buffer[start..start + count].copy_from_slice(&words[..count]);
 }
 
-/// Puts the first words of a used element, as many as fit.
+/// Writes the first words of a used element, as many bytes as `into` has.
 fn put_element(into: &mut [u8], entry: u32)
     requires { length into.old ≤ 8 }
     ensures bytes { into.new ≡ take (length into.old) (word_bytes entry ++ word_bytes 1) }
@@ -93,7 +94,7 @@ fn put_element(into: &mut [u8], entry: u32)
     into.copy_from_slice(&words[..into.len()]);
 }
 
-/// The place after 1 or 2 writes of a used element's words.
+/// Returns the place after `count` writes of a used element's words, with `count` 1 or 2.
 fn used_element_place(more: u32, count: u32) -> Place
     ensures { result ≡ given more count }
 {
@@ -105,8 +106,11 @@ fn used_element_place(more: u32, count: u32) -> Place
 }
 
 impl Rx {
-    /// A receiver for a peer whose own section begins at word `own` of the region and whose partner's begins at word `theirs`; it
-    /// rings `target` by `vector`. NoMemory says that memory ran out.
+    /// Returns a receiver for a peer whose own section begins at word `own` of the region, and the
+    /// other's at word `theirs`. Its doorbells have the target `target` and the vector `vector`.
+    /// Returns `Err(NoMemory)` if an allocation fails.
+    // claim value, refines with Rx::reset.value, Rx::reset.refines: A new receiver, and one that
+    //    was reset, represents each end with a fresh session.
     pub fn new(
         alloc: Global,
         queue: &Queue,
@@ -138,7 +142,8 @@ impl Rx {
         })
     }
 
-    /// Is a poll open?
+    /// Whether a poll is open.
+    // claim value, open: The receiver is open exactly as long as the poll is.
     pub fn busy(&self) -> bool
         ensures value { result ≡ is_busy self.now }
         ensures open { (config : EndConfig) (end : End) (place : laws.Place) → RefinesAt self.now config end place → result ≡ laws.is_open place }
@@ -146,15 +151,20 @@ impl Rx {
         !matches!(self.place, Place::Closed)
     }
 
-    /// Does the own event ask for a doorbell at the next frame? Asked where no poll is open: it does from a poll that finds nothing on,
-    /// until one finds a frame. In a link without events it never does.
+    /// Whether the own avail_event wants a doorbell for the next frame, provided that no poll is
+    /// open. It does from a poll that finds no frame until a poll that finds one. In a link without
+    /// events it never does.
+    // claim: The receiver is armed exactly if the link has events and the last look of the session
+    //    found nothing.
     pub fn is_armed(&self) -> bool
         ensures { result ≡ is_armed self.now }
     {
         self.queue.has_events() && self.found_none
     }
 
-    /// Opens a poll, of an end in RUN.
+    /// Opens a poll of an end in RUN.
+    // claim refines, value: A poll begins at the first place of the grammar's poll, for an end in
+    //    RUN.
     pub fn begin(&mut self)
         requires { is_busy self.old ≡ false }
         ensures refines { (config : EndConfig) (end : End) → RefinesAt self.old config end laws.Closed → end.handshake.phase ≡ Run →
@@ -165,7 +175,9 @@ impl Rx {
         self.place = Place::ReadingAvailIndex { last };
     }
 
-    /// The next access of the open poll.
+    /// Returns the next access of the open poll.
+    // claim access, reach: The next access is that of the receiver's place in the grammar, and is
+    //    permitted.
     #[tactic(auto, using(crate::proofs::Numbers::ring_place))]
     pub fn next(&self) -> Access
         requires { is_busy self.now ≡ true }
@@ -208,9 +220,16 @@ impl Rx {
         }
     }
 
-    /// Takes the step of the access that `next` told. `value` is what a read gave; a step of another access makes no use of it.
+    /// Completes the step of the access that `next` returned. `value` is the value that a read met,
+    /// and the step of another access ignores it.
     ///
-    /// A value outside its field's range is refused: the step notes Refuse alone, and the State step comes next.
+    /// A value outside its field's range is refused: the step has the note Refuse alone, and the
+    /// State step is next.
+    // claim steps with Rx::took_into.steps: Each step has the marks of its place for the value
+    //    read, and leads to the next place. A value out of range is refused, and nothing else is.
+    //    In a link with events, a poll whose first look finds nothing writes the own event and
+    //    looks again, unless the last look of the session found nothing too.
+    // claim each kept: No step changes the sizes and places that `new` was given.
     pub fn took(&mut self, value: u32) -> Notes
         requires { is_busy self.old ≡ true }
         ensures steps { TakesStep self.old value result.items self.new }
@@ -221,7 +240,7 @@ impl Rx {
         notes
     }
 
-    /// The same as `took`, with the notes put into a list that the caller has.
+    /// Equivalent to `took`, but puts the notes into the caller's list `notes`.
     pub fn took_into(&mut self, value: u32, notes: &mut Notes)
         requires open { is_busy self.old ≡ true }
         requires empty { notes.old.items ≡ [] }
@@ -263,7 +282,9 @@ impl Rx {
         }
     }
 
-    /// What the word of the next access is to the order of memory.
+    /// Returns the kind of the next access's word, which determines its memory order.
+    // claim with Rx::rings: The kind of the next access is known: an index word, an event, another
+    //    word, or the doorbell.
     pub fn word_kind(&self) -> WordKind
         ensures { (config : EndConfig) (end : End) (place : laws.Place) → RefinesAt self.now config end place → result ≡ word_kind place }
     {
@@ -275,14 +296,15 @@ impl Rx {
         }
     }
 
-    /// Is the next access the doorbell?
+    /// Whether the next access is the doorbell.
     pub fn rings(&self) -> bool
         ensures { (config : EndConfig) (end : End) (place : laws.Place) → RefinesAt self.now config end place → result ≡ rings place }
     {
         matches!(self.place, Place::Ringing)
     }
 
-    /// How many of the coming accesses read the words of a frame, each the next word, with no note before the last of the frame; else 0.
+    /// Returns how many of the next accesses read consecutive words of a frame, without a note
+    /// before the frame's last word. Returns 0 if no word of a frame is next.
     pub fn reads_ahead(&self) -> u32
         ensures value { result ≡ reads_ahead self.now.place }
         ensures reads { (config : EndConfig) (end : End) (place : laws.Place) (word : ℕ) → RefinesAt self.now config end place →
@@ -294,10 +316,17 @@ impl Rx {
         }
     }
 
-    /// Takes some of the steps that `reads_ahead` tells at once: each word that they read is in `words` by its four bytes, the lowest first.
+    /// Completes the next reads, at most `reads_ahead` of them. `words` holds the values read, four
+    /// bytes each, the lowest byte first.
     ///
-    /// It is the same as `took` for each of these words in turn. Where these are all the words of a frame, the frame delivered is their first
-    /// bytes.
+    /// Equivalent to a call of `took` for each of these values in order. If `words` holds all words
+    /// of a frame, the frame delivered is their first bytes.
+    // claim steps, notes with Rx::took_reads_into.steps, Rx::took_reads_into.notes,
+    //    Rx::reads_ahead.value, Rx::reads_ahead.reads: Completing a burst of reads equals as many
+    //    single steps, each with the word that four bytes spell, and no note before the last. The
+    //    reads are of one word after the other, and of none past the frame's last.
+    // claim frame with Rx::took_reads_into.frame: If all words of a frame are taken at once, the
+    //    frame delivered is their first bytes, as many as its descriptor says.
     pub fn took_reads(&mut self, words: &[u8]) -> Notes
         requires some { 0 < length words.now }
         requires whole { length words.now % 4 ≡ 0 }
@@ -312,7 +341,7 @@ impl Rx {
         notes
     }
 
-    /// The same as `took_reads`, with the notes put into a list that the caller has.
+    /// Equivalent to `took_reads`, but puts the notes into the caller's list `notes`.
     pub fn took_reads_into(&mut self, words: &[u8], notes: &mut Notes)
         requires some { 0 < length words.now }
         requires whole { length words.now % 4 ≡ 0 }
@@ -335,7 +364,8 @@ impl Rx {
         }
     }
 
-    /// How many of the coming accesses write the words of a used element, each the next word and with no note; else 0.
+    /// Returns how many of the next accesses write consecutive words of a used element, without a
+    /// note: 2 or 0.
     pub fn writes_ahead(&self) -> u32
         ensures { result ≡ writes_ahead self.now.place }
     {
@@ -345,7 +375,10 @@ impl Rx {
         }
     }
 
-    /// Puts some of the words that `writes_ahead` tells into `into`, each as its four bytes, the lowest first.
+    /// Writes the values of the next writes into `into`, at most `writes_ahead` words, four bytes
+    /// each, the lowest byte first.
+    // claim writes, sized with Rx::writes_ahead, Rx::took_writes.steps: The two words of a used
+    //    element are a burst: completing it equals two single steps.
     pub fn words(&self, into: &mut [u8])
         requires whole { length into.old % 4 ≡ 0 }
         requires within { length into.old ≤ 4 * writes_ahead self.now.place }
@@ -359,7 +392,8 @@ impl Rx {
         }
     }
 
-    /// Takes the steps of so many of the writes that `writes_ahead` tells at once. It is the same as `took` so many times.
+    /// Completes the next `count` writes, with `count` at most `writes_ahead`. Equivalent to
+    /// `count` calls of `took`.
     pub fn took_writes(&mut self, count: u32)
         requires some { 0 < count }
         requires within { count ≤ writes_ahead self.old.place }
@@ -374,15 +408,18 @@ impl Rx {
         }
     }
 
-    /// The frame delivered last: from the step that delivers it to the one that delivers the next, through refusals and resets. It is
-    /// empty before the first.
+    /// Returns the frame delivered last. It stays until the step that delivers the next frame,
+    /// through refusals and resets. It is empty before the first delivery.
+    // claim: The frame is the one delivered last, from the step that delivers it to the one that
+    //    delivers the next, through refusals and resets. It is empty before the first.
     pub fn frame(&self) -> &[u8]
         ensures { result.now ≡ self.now.frame }
     {
         &self.last[..self.delivered]
     }
 
-    /// Begins a new session: no poll is open, and no frame was returned. The frame delivered last stays.
+    /// Resets the receiver for a new session: no poll is open, and no frame was returned. The frame
+    /// delivered last stays.
     pub fn reset(&mut self)
         ensures value { self.new ≡ renewed self.old }
         ensures refines { (config : EndConfig) (end : End) → IsMadeFor self.old config → IsFreshSession end → RefinesAt self.new config end laws.Closed }
@@ -393,9 +430,9 @@ impl Rx {
     }
 }
 
-/// The steps of `took_into`, one for each place.
+/// The steps of `took_into`, one function for each place.
 impl Rx {
-    /// Goes on at this place, with nothing to note.
+    /// Moves to `place` without a note.
     fn go_on(&mut self, place: Place)
         requires reached { IsReached self.old.sizes place }
         requires unread { words_read place ≡ 0 }
@@ -404,7 +441,7 @@ impl Rx {
         self.place = place;
     }
 
-    /// Refuses a value: the State step comes next.
+    /// Refuses a value: the State step is next.
     fn refuse(&mut self, refused: Refused, notes: &mut Notes)
         requires { notes.old.items ≡ [] }
         ensures place { self.new ≡ record self.old { place = Place.Refusing; gathered = [] } }
@@ -414,7 +451,7 @@ impl Rx {
         notes.push(Note::Refuse(refused));
     }
 
-    /// Ends the poll, with this note.
+    /// Ends the poll with this note.
     fn end(&mut self, note: Note, notes: &mut Notes)
         requires { notes.old.items ≡ [] }
         ensures place { self.new ≡ record self.old { place = Place.Closed; gathered = [] } }
@@ -424,7 +461,8 @@ impl Rx {
         notes.push(note);
     }
 
-    /// The read of the available index. Where it finds nothing and isn't the last look, the event is written next.
+    /// Completes the read of the available index. If it finds no frame and isn't `last`,
+    /// avail_event is written next.
     fn took_index(&mut self, last: bool, value: u32, notes: &mut Notes)
         requires place { self.old.place ≡ Place.ReadingAvailIndex last }
         requires empty { notes.old.items ≡ [] }
@@ -452,7 +490,7 @@ impl Rx {
         }
     }
 
-    /// The read of an item's entry.
+    /// Completes the read of an item's available entry.
     fn took_entry(&mut self, more: u32, value: u32, notes: &mut Notes)
         requires place { self.old.place ≡ Place.ReadingAvailEntry more }
         requires empty { notes.old.items ≡ [] }
@@ -465,7 +503,7 @@ impl Rx {
         }
     }
 
-    /// The read of an address's high word: the whole address is checked.
+    /// Completes the read of an address's high word, and checks the whole address.
     fn took_high(&mut self, more: u32, entry: u32, low: u32, value: u32, notes: &mut Notes)
         requires place { self.old.place ≡ Place.ReadingDescAddressHigh more entry low }
         requires empty { notes.old.items ≡ [] }
@@ -483,7 +521,7 @@ impl Rx {
         }
     }
 
-    /// The read of a descriptor's length, which is read once.
+    /// Completes the only read of a descriptor's length.
     fn took_length(&mut self, more: u32, entry: u32, address: u32, value: u32, notes: &mut Notes)
         requires place { self.old.place ≡ Place.ReadingDescLength more entry address }
         requires empty { notes.old.items ≡ [] }
@@ -501,7 +539,7 @@ impl Rx {
         }
     }
 
-    /// The read of a descriptor's flags, which are its last field.
+    /// Completes the read of a descriptor's flags, its last field.
     fn took_flags(
         &mut self,
         more: u32,
@@ -528,7 +566,7 @@ impl Rx {
         }
     }
 
-    /// The reads of some of a frame's words. On the last one of all the frame is delivered.
+    /// Completes reads of a frame's words. The read of the frame's last word delivers the frame.
     fn took_frame_words(
         &mut self,
         more: u32,
@@ -568,7 +606,7 @@ impl Rx {
         }
     }
 
-    /// The write of the used index, with which the item is returned.
+    /// Completes the write of the used index, which returns the item.
     fn wrote_index(&mut self, more: u32, notes: &mut Notes)
         requires place { self.old.place ≡ Place.WritingUsedIndex more }
         requires empty { notes.old.items ≡ [] }
@@ -585,7 +623,9 @@ impl Rx {
     }
 }
 
-/// Law: a closed receiver stands for an end as long as its session goes on: a Tick, a Stop and an Offer change nothing of it.
+/// Law: a receiver without an open poll refines the end as long as its session lasts. Ticks, Stops
+/// and Offers don't change it.
+// claim: A closed receiver represents an end as long as its session lasts.
 pub fn idle_engine_outlives_steps()
     ensures { IdleEngineOutlivesSteps }
 {}

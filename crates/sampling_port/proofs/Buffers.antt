@@ -1,4 +1,5 @@
--- What the section of an honest writer holds: the latest message, whole, and the one that it writes, so far.
+-- The contents of an honest writer's section: the latest message, whole, and the one that it is
+-- writing, so far.
 use Rattle.std.proofs.Common.{◌≡◌, ◌≢◌, ℕ, zero, suc, ◌+◌, ◌/◌, ◌%◌, ◌<◌, ◌≤◌, Bool, true, false, List, [], ◌∷◌, length, refl, sym, ◌∙◌, ap, subst, arith, eq-eqb, ◌⊎◌, inl, inr}
 use Rattle.std.specs.Prelude.{◌==◌, if◌then◌else◌}
 use Rattle.std.specs.List.{AllByRecursion}
@@ -35,16 +36,16 @@ IsMessage world m = (1 ≤ length m) × (length m ≤ world.most) × AllByRecurs
 abbrev pub IsLengthOf : ℕ → ℕ → Type 0
 IsLengthOf most bytes = (1 ≤ bytes) × (bytes ≤ most)
 
--- the buffer of this number holds the message
+-- The buffer of this number holds the message.
 abbrev pub Spells : World → ℕ → List Line → ℕ → List ℕ → Type 0
 Spells world q past number m = (last_write past (length_at world q number) ≡ length m) × ((j : ℕ) → j < words_for (length m) → last_write past (data_at world q number j) ≡ frame_word m j)
 
--- of the messages published, the newest first, the newest stands in its buffer
+-- The newest of the messages published, listed newest first, is in its buffer.
 abbrev pub Latest : World → ℕ → List Line → List (List ℕ) → Type 0
 Latest world q past [] = Unit {0}
 Latest world q past (m ∷ older) = Spells world q past (length older + 1) m
 
--- and of the one that is written, what was written so far
+-- What was written so far of the message that is being written.
 abbrev pub Opened : World → ℕ → List Line → PortView → Place → Type 0
 Opened world q past port (place.WritingWord at more) =
     (last_write past (length_at world q (port.published + 1)) ≡ length port.hand) × ((j : ℕ) → j < at → last_write past (data_at world q (port.published + 1) j) ≡ frame_word port.hand j)
@@ -59,7 +60,7 @@ pub record Writer (world : World) (q : ℕ) (past : List Line) (port : PortView)
   pub sizes : AllByRecursion (IsMessage world) done
   pub writing : Opened world q past port port.place
 
--- Where the words are
+-- Offsets of the words
 
 pub head_in : (world : World) (q : ℕ) → IsWorld world → InSection world.geometry q (head_of world q)
 head_in world q is = let page = is.geometry.out_page in (omega arith, omega arith)
@@ -81,7 +82,7 @@ data_in world q number j is few =
 few_words : (most bytes j : ℕ) → most % 4 ≡ 0 → bytes ≤ most → j < words_for bytes → j < most / 4
 few_words most bytes j four few below = omega arith
 
--- a buffer begins at one of two places, and the next one at the other
+-- A buffer begins at one of two offsets, and the next one at the other.
 abbrev Either : ℕ → ℕ → ℕ → Type 0
 Either most at next = ((at ≡ 1) × (next ≡ 2 + most / 4)) ⊎ ((at ≡ 2 + most / 4) × (next ≡ 1))
 
@@ -116,11 +117,11 @@ wrote_other p at value word past other = rw (ne_eqb at word (λ e. other (sym e)
 pub wrote_same : (p at value word : ℕ) (past : List Line) → word ≡ at → last_write (Wrote p at value ∷ past) word ≡ value
 wrote_same p at value word past same = rw (eq-eqb at word (sym same)) refl
 
--- the words of the section are the same
+-- The words of the section are the same.
 abbrev pub Same : World → ℕ → List Line → List Line → Type 0
 Same world q past new = (word : ℕ) → InSection world.geometry q word → last_write new word ≡ last_write past word
 
--- a write into another section leaves them
+-- A write into another section doesn't change them.
 pub same_beside : (world : World) (q p at value : ℕ) (past : List Line) → p ≢ q → InSection world.geometry p at → Same world q past (Wrote p at value ∷ past)
 same_beside world q p at value past other there = λ word inside. wrote_other p at value word past (λ e. stand_apart world.geometry p q at other there (subst (λ (w : ℕ). InSection world.geometry q w) e inside))
 
@@ -147,7 +148,7 @@ opened_same world q past new port (place.AtLength from sequence) is most few the
 opened_same world q past new port (place.AtWord from sequence bytes at more) is most few there same opened = tt
 opened_same world q past new port (place.AtSecond from sequence) is most few there same opened = tt
 
--- where the words stay, the writer stands as before
+-- If the words don't change, the writer's state doesn't.
 pub writer_same : (world : World) (q : ℕ) (past new : List Line) (port next : PortView) (done : List (List ℕ)) → IsWorld world → Same world q past new → Writer world q past port done → next.published ≡ port.published →
     Opened world q new next next.place → Writer world q new next done
 writer_same world q past new port next done is same writer published opened = record {
@@ -161,7 +162,7 @@ writer_same world q past new port next done is same writer published opened = re
 
 -- The steps of a publish
 
--- the latest message stays where a word of the other buffer is written
+-- The latest message doesn't change if a word of the other buffer is written.
 latest_beside : (world : World) (q p at value k : ℕ) (past : List Line) (done : List (List ℕ)) → IsWorld world → AllByRecursion (IsMessage world) done → at ≡ head_of world q + k →
     ((number j : ℕ) → number ≡ length done → j < world.most / 4 → (k ≢ length_place world.most number) × (k ≢ data_place world.most number + j)) → Latest world q past done → Latest world q (Wrote p at value ∷ past) done
 latest_beside world q p at value k past [] is sizes same apart latest = tt
@@ -177,7 +178,7 @@ opened_writing : (world : World) (q : ℕ) (past : List Line) (port : PortView) 
 opened_writing world q past port at zero all size words = (size, λ j below. words j (omega arith))
 opened_writing world q past port at (suc more) all size words = (size, words)
 
--- its length was written
+-- The length was written.
 pub wrote_length : (world : World) (q : ℕ) (past : List Line) (port : PortView) (done : List (List ℕ)) → IsWorld world → IsLengthOf world.most (length port.hand) → Writer world q past port done →
     Writer world q (Wrote q (length_at world q (port.published + 1)) (length port.hand) ∷ past) (record port { place = writing_place 0 (words_for (length port.hand)) }) done
 wrote_length world q past port done is fits writer =
@@ -210,7 +211,7 @@ wrote_length world q past port done is fits writer =
     either number true same old = fits
     either number false other old = old
 
--- a word of it was written
+-- A word was written.
 pub wrote_word : (world : World) (q at more : ℕ) (past : List Line) (port : PortView) (done : List (List ℕ)) → IsWorld world → length port.hand ≤ world.most → port.place ≡ place.WritingWord at more → at + more + 1 ≡ words_for (length port.hand) →
     Writer world q past port done →
     Writer world q (Wrote q (data_at world q (port.published + 1) at) (frame_word port.hand at) ∷ past) (record port { place = writing_place (at + 1) more }) done
@@ -259,7 +260,7 @@ wrote_word world q at more past port done is fits here all writer =
               wrote_same q (data_at world q (port.published + 1) at) (frame_word port.hand at) (data_at world q (port.published + 1) j) past (ap (λ i. data_at world q (port.published + 1) i) same) ∙ ap (λ i. frame_word port.hand i) (sym same)
         ]
 
--- its number was written: it is the latest from now on
+-- The number was written: the message is now the latest.
 pub wrote_sequence : (world : World) (q : ℕ) (mark : PortMark) (past : List Line) (port next : PortView) (done : List (List ℕ)) → IsWorld world → IsMessage world port.hand → port.place ≡ place.WritingSequence → next.published ≡ port.published + 1 →
     next.place ≡ place.Closed → Writer world q past port done →
     Writer world q (Marked q mark ∷ Wrote q (head_of world q) (port.published + 1) ∷ past) next (port.hand ∷ done)

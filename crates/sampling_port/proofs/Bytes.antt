@@ -43,7 +43,7 @@ take_none : (n : ℕ) → ◌≡◌ {A = List ℕ} (take n []) []
 take_none zero = refl
 take_none (suc n) = refl
 
--- the bytes of the word of the first four bytes, or of as many as there are
+-- The bytes of the word of the first four bytes, or of all if there are fewer.
 word_back : (bytes : List ℕ) → AllByRecursion IsByte bytes → take (length bytes) (word_bytes (word_of (take 4 bytes))) ≡ take 4 bytes
 word_back [] all = refl
 word_back (a ∷ []) all = rw (one_0 a all.0) refl
@@ -57,7 +57,7 @@ all_drop bytes zero all = all
 all_drop [] (suc k) all = tt
 all_drop (b ∷ bytes) (suc k) all = all_drop bytes k all.1
 
--- the first bytes of a message, and the next word of it
+-- The first bytes of a message, and the next word of it.
 pub one_word : (m : List ℕ) (k : ℕ) → AllByRecursion IsByte m → 4 * k ≤ length m → take (length m) (take (4 * k) m ++ word_bytes (frame_word m k)) ≡ take (4 * (k + 1)) m
 one_word m k all few =
     let front = take (4 * k) m in

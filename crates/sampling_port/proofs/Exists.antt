@@ -30,9 +30,9 @@ use Rattle.sampling_port.proofs.Telling.{may_of, may_true}
 use Rattle.sampling_port.proofs.Runs.{Kept, opened_kept, kept_on, fresh_kept, there_below, all_there, few_events}
 use Rattle.sampling_port.proofs.Reaching.{length_place_most}
 
--- What a step does to the numbers of a port
+-- The effect of a step on the numbers of a port
 
--- a port's numbers are those that its own entries tell
+-- A port's numbers are those of its own event records.
 pub record Keeps (world : World) (me : ℕ) (peer_state : PeerState) (peer : Progress) : Type 0 where
   pub left_is : peer.left ≡ left peer_state.port
   pub waiting : peer_state.waiting ≡ drop peer.begun (asked_for peer.past)
@@ -40,7 +40,7 @@ pub record Keeps (world : World) (me : ℕ) (peer_state : PeerState) (peer : Pro
   pub published : peer_state.port.published ≡ published_in peer.past
   pub lasts : (from : ℕ) → from < 8 → slice_index peer_state.port.lasts from ≡ last_got from peer.past
 
--- what a mark tells of the numbers
+-- What a mark says of the numbers.
 pub record Numbers (old new : PortView) (mark : Option PortMark) : Type 0 where
   pub published : new.published ≡ published_with mark old.published
   pub lasts : (from : ℕ) → from < 8 → slice_index new.lasts from ≡ last_with from mark (slice_index old.lasts from)
@@ -97,7 +97,7 @@ closed_left port (place.AtLength from sequence) shut = absurd cc
 closed_left port (place.AtWord from sequence bytes at more) shut = absurd cc
 closed_left port (place.AtSecond from sequence) shut = absurd cc
 
--- the calls after the first ones
+-- The calls after the first ones.
 none_left : {A : Type 0} (xs : List A) (n : ℕ) → [] ≡ drop n xs → slice_get xs n ≡ None
 none_left [] n is = refl
 none_left (x ∷ xs) zero is = absurd (cc)
@@ -112,7 +112,7 @@ one_left (x ∷ xs) ys y (suc n) is = let t = one_left xs ys y n is in (t.0, sub
     more : (n : ℕ) → suc (n + 1) ≡ suc n + 1
     more n = omega arith
 
--- the tree of a call that is opened
+-- The tree of a call that is opened.
 opens_tree : (world : World) (me : ℕ) (port : PortView) (past : List EventRecord) (call : PortCall) → PortsFollowCalls → port.shape ≡ world.geometry → port.me ≡ me → port.most ≡ world.most → world.geometry.peers ≤ 8 → IsPermittedCall world call →
     port.published ≡ published_in past → ((from : ℕ) → from < 8 → slice_index port.lasts from ≡ last_got from past) → tree_of world me past call ≡ left (opening port call)
 opens_tree world me port past (Publish message) follow shape me_is most few given published lasts = sym (follow.publishes port message ∙ (rw (shape, me_is, most, published) refl))
@@ -157,7 +157,7 @@ moves_of peer Ended step new goes = absurd goes
 moves_of peer (Does a mark rest) step new goes = (step, new, refl, goes, refl)
 moves_of peer (Reads word mark rest) step new goes = (step, new, refl, goes, refl)
 
--- the step of the open call, or none
+-- The step of the open call, or none.
 turn_moves : PortsFollowCalls → (world : World) (me n : ℕ) (peer_state : PeerState) (peer : Progress) (past : List Line) (b : Bool) → is_busy peer_state.port ≡ b → Kept world me n peer_state → Keeps world me peer_state peer →
     (mid : Progress) × CallStep peer peer.left (if b then Some (step_of_port peer_state.port (met_by past peer_state.port)) else None) mid
     × Keeps world me (record { port = if b then port_after peer_state.port peer_state.port.place (met_by past peer_state.port) else peer_state.port; waiting = peer_state.waiting })
@@ -199,7 +199,7 @@ poked_quiet : (word value : ℕ) (b : Bool) → mark_of_step (if b then Some (po
 poked_quiet word value true = refl
 poked_quiet word value false = refl
 
--- an event of a peer's own is in order, and its peer state keeps it
+-- An event of a peer's own is in order, and preserves the invariant of its peer state.
 pub event_keeps : PortsFollowCalls → (world : World) (n : ℕ) (peer_state : PeerState) (peer : Progress) (past : List Line) (event : Event) → world.geometry.peers ≤ 8 → n < 4000001 → Kept world (event_peer event) n peer_state →
     Keeps world (event_peer event) peer_state peer →
     (mid : Progress) × EventStep world (event_peer event) peer event (step_in world.geometry peer_state past event) mid
@@ -232,7 +232,7 @@ event_keeps follow world n peer_state peer past (Poked p word value) eight small
 
 -- The memory law
 
--- the accesses of ports that need a reason
+-- The accesses of ports that need a reason.
 abbrev Fine : Shape → ℕ → Access → Type 0
 Fine g me (access.Write word value) = MayWrite g me word
 Fine g me _ = Unit {0}
@@ -257,7 +257,7 @@ step_law g me (access.Ring target vector) (Some mark) past fine law = (tt, law)
 step_law g me access.Nothing None past fine law = law
 step_law g me access.Nothing (Some mark) past fine law = (tt, law)
 
--- a port writes its own section alone
+-- A port writes its own section alone.
 pub fine_at : (port : PortView) (p : Place) → IsPort port → IsPlace port p → Fine port.shape port.me (access_at port p)
 fine_at port place.Closed is there = tt
 fine_at port place.WritingLength is there =
@@ -331,7 +331,7 @@ found world (event ∷ events) n moment few there kept law =
       law = rest.law;
     }
 
--- the entry of an event and those after it, for a peer
+-- The event records of a peer from an event on.
 serves_from : PortsFollowCalls → (world : World) (n : ℕ) (moment : HistoryState) (event : Event) (others : List EventRecord) (q : ℕ) (peer : Progress) → world.geometry.peers ≤ 8 → n < 4000000 → IsPermittedEvent world event → AreKept world n moment → Keeps world q (moment.peer_states q) peer →
     ((next : Progress) → Keeps world q ((after_event world.geometry moment event).peer_states q) next → (end : Progress) × IsCallSequence world q next (own_entries q others) end) → (b : Bool) → (event_peer event == q) ≡ b →
     (end : Progress) × IsCallSequence world q peer (if b then entry_of world.geometry moment event ∷ own_entries q others else own_entries q others) end

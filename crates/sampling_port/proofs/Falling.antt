@@ -30,7 +30,8 @@ use Rattle.sampling_port.specs.Simulator.{IsPermittedEvent}
 use Rattle.sampling_port.proofs.Exists.{AreKept, numbers_after, kept_one}
 use Rattle.sampling_port.proofs.Runs.{Kept, opened_kept, fresh_kept, all_there, few_events}
 
--- the number that a reader got last of a writer in these lines, of which the newest is the first, or 0
+-- The number of the last message that a reader got from a writer in these lines, listed newest
+-- first, or 0.
 abbrev highest_with : (reader writer : ℕ) → Line → ℕ → ℕ
 highest_with reader writer (Marked peer mark) before = if peer == reader then last_with writer (Some mark) before else before
 highest_with reader writer _ before = before
@@ -47,13 +48,13 @@ abbrev NeverFallen : List Line → Type 0
 NeverFallen [] = Unit {0}
 NeverFallen (line ∷ older) = NotFallen line older × NeverFallen older
 
--- What it gives of two numbers
+-- The larger of two numbers
 
 later_lines : (new old : List Line) → NeverFallen (new ++ old) → NeverFallen old
 later_lines [] old all = all
 later_lines (line ∷ new) old all = later_lines new old all.1
 
--- a mark more leaves no lower number
+-- One more mark leaves no lower number.
 mark_rises : (reader writer peer : ℕ) (mark : PortMark) (older : List Line) (b : Bool) → (peer == reader) ≡ b → NotFallen (Marked peer mark) older → highest reader writer older ≤ (if b then last_with writer (Some mark) (highest reader writer older) else highest reader writer older)
 mark_rises reader writer peer mark older false is here = omega arith
 mark_rises reader writer peer (Publish number) older true is here = omega arith
@@ -94,9 +95,9 @@ two_numbers reader writer number later message other new mid old all =
     let is = got_is reader writer number message old in
     omega (arith, here.0)
 
--- What a port keeps
+-- The invariant of a port
 
--- the sample at this place has a number that isn't below the one got last
+-- The sample at this place has a number that isn't below the one got last.
 abbrev NotBelow : PortView → Place → Type 0
 NotBelow port (place.AtLength from sequence) = slice_index port.lasts from ≤ sequence
 NotBelow port (place.AtWord from sequence bytes at more) = slice_index port.lasts from ≤ sequence
@@ -143,7 +144,7 @@ below_after port (place.AtLength from sequence) value at here = below_length por
 below_after port (place.AtWord from sequence bytes k more) value at here = below_reading port (port_after port (place.AtWord from sequence bytes k more) value) from sequence bytes (k + 1) more refl here
 below_after port (place.AtSecond from sequence) value at here = below_second port from sequence _
 
--- a port that got a message was at its second look
+-- A port that got a message was at its second look.
 mark_not_fallen : (reader : ℕ) (port : PortView) (p : Place) (value : ℕ) (past : List Line) (hand : List ℕ) (n : Option PortNote) → note_at port p value ≡ n → NotBelow port p → IsPlace port p → port.shape.peers ≤ 8 →
     ((writer : ℕ) → writer < 8 → slice_index port.lasts writer ≡ highest reader writer past) → NeverFallen past → NeverFallen (mark_lines reader (marked (from_at p) hand n) ++ past)
 mark_not_fallen reader port p value past hand None is here there few lasts all = all
@@ -223,7 +224,7 @@ opened_lasts p peer_state past false [] lasts = lasts
 opened_lasts p peer_state past false (call.Publish message ∷ waiting) lasts = record { lasts = lasts.lasts; place = tt }
 opened_lasts p peer_state past false (call.Sample from ∷ waiting) lasts = record { lasts = lasts.lasts; place = tt }
 
--- what a turn tells, and where the others are
+-- What a turn records, and the states of the others.
 record Turn (me : ℕ) (past new : List Line) (port : PortView) : Type 0 where
   all : NeverFallen new
   mine : Lasts me port new
@@ -319,13 +320,13 @@ calm_at_first world is = record {
 never_fallen : (world : World) → IsWorld world → NeverFallen (moment_of world (schedule world.acts)).past
 never_fallen world is = (calm_run world (schedule world.acts) 0 (initial_state world) (few_events world is) (all_there world is) (calm_at_first world is)).all
 
--- the computed past is the lawful lines, the newest first
+-- The computed past is the lawful lines, newest first.
 pub past_is : HasOneHistory → HistoryIsLawful → (world : World) (lines : List Line) → IsWorld world → IsLawful world lines → (moment_of world (schedule world.acts)).past ≡ reverse lines
 past_is one lawful world lines is here =
     let same : lines ≡ history world = one world lines (history world) here (lawful world is) in
     sym (ap reverse same ∙ reverse-reverse (moment_of world (schedule world.acts)).past)
 
--- the lines before and after one, the newest first
+-- The lines before and after one, newest first.
 pub split_past : (before after : List Line) (line : Line) → reverse (before ++ line ∷ after) ≡ reverse after ++ line ∷ reverse before
 split_past before after line = reverse-append before (line ∷ after) ∙ ap (λ r. r ++ reverse before) (reverse-append (line ∷ []) after) ∙ append_assoc (reverse after) (line ∷ []) (reverse before)
 

@@ -13,7 +13,7 @@ use Rattle.sampling_port.specs.Calls.{write_words, read_words, read_length, is_l
 use Rattle.sampling_port.specs.Views.{PortView, is_open, from_at, own, theirs, writing_place, reading_place, access_at, note_at, port_after, closed, got, left_at, left}
 use Rattle.sampling_port.specs.Laws.{PortsFollowCalls}
 
--- What is left at the places to which a step leads
+-- What is left at the places that a step leads to
 
 writes_left : (port : PortView) (at count : ℕ) → left_at port (writing_place at count) ≡ write_words (own port) port.most (port.published + 1) port.hand at count
 writes_left port at zero = refl
@@ -23,7 +23,7 @@ reads_left : (port : PortView) (from sequence bytes at count : ℕ) → left_at 
 reads_left port from sequence bytes at zero = refl
 reads_left port from sequence bytes at (suc more) = refl
 
--- a choice between two ports leaves a choice of two calls
+-- A choice between two ports leaves a choice of two calls.
 either : (b : Bool) (x y : PortView) (t u : PortTree) → left x ≡ t → left y ≡ u → left (if b then x else y) ≡ (if b then t else u)
 either true x y t u e f = e
 either false x y t u e f = f
@@ -45,7 +45,7 @@ second_marked : (from : ℕ) (hand : List ℕ) (b : Bool) (number value : ℕ) �
 second_marked from hand true number value = refl
 second_marked from hand false number value = refl
 
--- the same step with its mark in other words
+-- The same step with an equal mark.
 stepped : (a : Access) (value : ℕ) (mark mark' : Option PortMark) → mark ≡ mark' → port_step a value mark ≡ port_step a value mark'
 stepped a value mark mark' e = ap (port_step a value) e
 

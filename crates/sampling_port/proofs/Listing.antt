@@ -36,7 +36,7 @@ abbrev gathered : ℕ → List ℕ → List ℕ → List ℕ
 gathered bytes read [] = read
 gathered bytes read (word ∷ words) = gathered bytes (take bytes (read ++ word_bytes word)) words
 
--- the first bytes of some first bytes and more
+-- A prefix of a prefix and more bytes.
 take_front : (n : ℕ) (xs ys : List ℕ) → take n (take n xs ++ ys) ≡ take n (xs ++ ys)
 take_front zero xs ys = refl
 take_front (suc n) [] ys = refl
@@ -52,7 +52,7 @@ gathered_lem bytes read (word ∷ words) few =
 message_is : (bytes : ℕ) (words : List ℕ) → gathered bytes [] words ≡ frame_in bytes words
 message_is bytes words = gathered_lem bytes [] words (omega arith)
 
--- the steps of the words and the second look
+-- The steps of the words and the second look.
 abbrev tail_steps : (from theirs most number : ℕ) → List ℕ → (at : ℕ) → List ℕ → ℕ → List PortStep
 tail_steps from theirs most number message at words second = word_steps theirs most number at words ++ read_step theirs second (second_mark from number message second) ∷ []
 
@@ -138,7 +138,7 @@ sampled_lem : (from theirs most last : ℕ) (steps : List PortStep) → Makes (s
 sampled_lem from theirs most last [] m = absurd m
 sampled_lem from theirs most last (step ∷ steps) m = first_listed from theirs most last m.0 step steps (nat_lt m.0 last) (m.0 == 0) refl refl m.1 m.2
 
--- and the other way round
+-- The converse
 
 is_below : (value last : ℕ) → value < last → nat_lt value last ≡ true
 is_below value last low = grind (arith, nat_tests)

@@ -1,4 +1,5 @@
--- A reader in the middle of a sample of an honest writer: what it read is of the latest message, where that is still the one of its first look.
+-- A reader in the middle of a sample of an honest writer. What it read is of the latest message, if
+-- that is still the one of its first look.
 use Rattle.std.proofs.Common.{◌≡◌, ◌≢◌, ℕ, zero, suc, ◌+◌, ◌-◌, ◌*◌, ◌<◌, ◌≤◌, Bool, true, false, List, [], ◌∷◌, ◌++◌, length, take, min, refl, sym, ◌∙◌, ap, subst, arith, eq-eqb}
 use Rattle.std.specs.Prelude.{◌==◌, nat_lt, if◌then◌else◌, Option, Some, None, slice_get, slice_index, slice_set}
 use Rattle.std.proofs.lemmas.Bool.{eqb-true, eqb-false}
@@ -23,7 +24,8 @@ use Rattle.sampling_port.proofs.Buffers.{head_of, length_at, data_at, IsMessage,
 use Rattle.sampling_port.proofs.Reaching.{length_place_least}
 use Rattle.std.specs.List.{AllByRecursion}
 
--- of the lines so far, the newest first: the first look of the open sample, and so many lines of the reader since then, each a read
+-- In the lines so far, newest first: the first look of the open sample, and `count` lines of the
+-- reader since then, each a read.
 pub record Looking (world : World) (q p : ℕ) (past : List Line) (number count : ℕ) : Type 0 where
   pub late : List Line
   pub early : List Line
@@ -32,7 +34,7 @@ pub record Looking (world : World) (q p : ℕ) (past : List Line) (number count 
   pub reads : reads_by_peer p late ≡ count
   pub published : published_by q early ≡ number
 
--- a line of another peer
+-- A line of another peer.
 pub looking_past : (world : World) (q p : ℕ) (past : List Line) (number count : ℕ) (line : Line) → is_of p line ≡ 0 → is_read_of p line ≡ 0 → Looking world q p past number count → Looking world q p (line ∷ past) number count
 looking_past world q p past number count line none no_read l = record {
   late = line ∷ l.late;
@@ -43,7 +45,7 @@ looking_past world q p past number count line none no_read l = record {
   published = l.published;
 }
 
--- a read of its own
+-- A read of its own.
 looking_more : (world : World) (q p : ℕ) (past : List Line) (number count word value : ℕ) → Looking world q p past number count → Looking world q p (Read p word value ∷ past) number (count + 1)
 looking_more world q p past number count word value l =
     let mine : is_of p (Read p word value) ≡ 1 = rw (eq-eqb p p refl) refl in
@@ -72,7 +74,7 @@ abbrev pub Whole : List (List ℕ) → List ℕ → Type 0
 Whole [] hand = ⊥
 Whole (m ∷ older) hand = hand ≡ m
 
--- the place of a reader's open call, where it samples the writer
+-- The place of a reader's open call, if it samples the writer.
 abbrev pub At : World → (q p : ℕ) → List Line → PortView → List (List ℕ) → Place → Type 0
 At world q p past port done (place.AtLength from sequence) = from ≡ q → Looking world q p past sequence 0 × Number sequence done
 At world q p past port done (place.AtWord from sequence bytes at more) =
@@ -108,13 +110,13 @@ at_published world q p past port done m (place.AtLength from sequence) here = λ
 at_published world q p past port done m (place.AtWord from sequence bytes k more) here = λ e. let h = here e in (h.0, (h.1.0, omega (arith, h.1.1)), λ same. absurd (omega (arith, h.1.1)))
 at_published world q p past port done m (place.AtSecond from sequence) here = λ e. let h = here e in (h.0, (h.1.0, omega (arith, h.1.1)), λ same. absurd (omega (arith, h.1.1)))
 
--- a message more was published
+-- One more message was published.
 pub reader_published : (world : World) (q p : ℕ) (past : List Line) (port : PortView) (done : List (List ℕ)) (m : List ℕ) → Reader world q p past port done → Reader world q p past port (m ∷ done)
 reader_published world q p past port done m r = record { last = omega (arith, r.last); at = at_published world q p past port done m port.place r.at }
 
 -- The marks
 
--- what a reader got of the writer, after these lines, the newest first
+-- What a reader got from the writer, after these lines, newest first.
 pub record GotFact (world : World) (q : ℕ) (messages : List (List ℕ)) (p : ℕ) (older : List Line) (number : ℕ) (message : List ℕ) : Type 0 where
   pub looked : Looking world q p older number (words_for (length message) + 2)
   pub some : 1 ≤ number
@@ -146,23 +148,24 @@ fact_before world q messages next (Wrote p word value) older fact = tt
 fact_before world q messages next (Denied p word) older fact = tt
 fact_before world q messages next (Idle p) older fact = tt
 
--- what holds where nothing comes yet holds whatever comes next
+-- What holds with no next line holds with any next line.
 pub facts_before : (world : World) (q : ℕ) (messages : List (List ℕ)) (next : Option Line) (past : List Line) → Facts world q messages None past → Facts world q messages next past
 facts_before world q messages next [] facts = tt
 facts_before world q messages next (line ∷ older) facts = (fact_before world q messages next line older facts.0, facts.1)
 
 -- A read of a sample
 
--- after a read of this value with this mark: the reader stands at its next place, and the lines keep their facts
+-- After a read of this value with this mark: the reader is at its next place, and the lines keep
+-- their facts.
 pub record Looked (world : World) (q p : ℕ) (messages : List (List ℕ)) (past : List Line) (word value : ℕ) (mark : Option PortMark) (new : PortView) (done : List (List ℕ)) : Type 0 where
   pub reader : Reader world q p (mark_lines p mark ++ Read p word value ∷ past) new done
   pub facts : Facts world q messages None (mark_lines p mark ++ Read p word value ∷ past)
 
--- a call that is over
+-- A call that has ended.
 over : (world : World) (q p : ℕ) (past : List Line) (port : PortView) (done : List (List ℕ)) → slice_index port.lasts q ≤ length done → Reader world q p past (closed port) done
 over world q p past port done last = record { last = last; at = tt }
 
--- what is known of everybody before the read
+-- What is known of all peers before the read.
 pub record Before (world : World) (q : ℕ) (messages : List (List ℕ)) (past : List Line) (done : List (List ℕ)) : Type 0 where
   pub sequence : last_write past (head_of world q) ≡ length done
   pub latest : Latest world q past done
@@ -212,7 +215,7 @@ first_look world q p messages past port done value false false before last same 
 length_true : (most bytes : ℕ) → IsLengthOf most bytes → is_length most bytes ≡ true
 length_true most bytes is = let low = is.0 in let high = is.1 in grind (arith, nat_tests)
 
--- the place after the length is that of the first word
+-- The place after the length is that of the first word.
 at_reading : (world : World) (q p : ℕ) (past : List Line) (port : PortView) (done : List (List ℕ)) (sequence bytes at count : ℕ) (hand : List ℕ) → Looking world q p past sequence (at + 1) → Number sequence done → at + count ≡ words_for bytes →
     (0 < count → sequence ≡ length done → Agrees done bytes hand (4 * at)) → (count ≡ 0 → words_for (length hand) ≡ at) → (count ≡ 0 → sequence ≡ length done → Whole done hand) →
     At world q p past (record port { place = reading_place q sequence bytes at count; hand = hand }) done (reading_place q sequence bytes at count)

@@ -14,7 +14,7 @@ use Rattle.sampling_port.proofs.Reaching.{length_place_least}
 abbrev reads : List PortStep → List ℕ
 reads steps = reads_of (map unmarked_step steps)
 
--- so many words from this one on
+-- `count` words from this one on.
 abbrev words_from : ℕ → ℕ → ℕ → List ℕ
 words_from base at zero = []
 words_from base at (suc more) = (base + at) ∷ words_from base (at + 1) more
@@ -27,7 +27,7 @@ distinct_from : (base at count : ℕ) → AreDistinct (words_from base at count)
 distinct_from base at zero = tt
 distinct_from base at (suc more) = (none_from (base + at) base (at + 1) more (omega arith), distinct_from base (at + 1) more)
 
--- the read that a step makes
+-- The read that a step makes.
 first_read : (step : PortStep) (word value : ℕ) (mark : Option PortMark) (steps : List PortStep) → step ≡ port_step (Read word) value mark → reads (step ∷ steps) ≡ word ∷ reads steps
 first_read step word value mark steps e = ap (λ (s : PortStep). read_by s.access ++ reads steps) e
 
@@ -43,7 +43,8 @@ words_read from theirs most number bytes read at (suc more) (step ∷ steps) m =
     first_read step (theirs + data_place most number + at) m.0 _ steps m.1
     ∙ ap (λ (l : List ℕ). (theirs + data_place most number + at) ∷ l) (words_read from theirs most number bytes (take bytes (read ++ word_bytes m.0)) (at + 1) more steps m.2)
 
--- the reads after the first look: the length alone, or the length, the words and the sequence again
+-- The reads after the first look: the length alone, or the length, the words and the sequence
+-- again.
 after_length : (from theirs most number value : ℕ) (steps : List PortStep) (b : Bool) →
     Makes (if b then read_words from theirs most number value [] 0 (words_for value) else Ended) steps → IsReadOnce theirs (theirs ∷ (theirs + length_place most number) ∷ reads steps)
 after_length from theirs most number value steps true m =

@@ -1,4 +1,4 @@
--- What samples of an honest writer get, along the whole history.
+-- What samples of an honest writer get, through the whole history.
 use Rattle.std.proofs.Common.{◌≡◌, ◌≢◌, ℕ, zero, suc, ◌+◌, ◌/◌, ◌%◌, ◌<◌, ◌≤◌, Bool, true, false, inl, inr, List, [], ◌∷◌, ◌++◌, length, replicate, refl, sym, ◌∙◌, ap, subst, arith, append_assoc}
 use Rattle.std.specs.Prelude.{◌==◌, ◌&&◌, nat_lt, nat_le, not, if◌then◌else◌, Option, Some, None, reverse, slice_get, slice_index, sum_by}
 use Rattle.std.specs.List.{AllByRecursion, flat_map}
@@ -160,7 +160,7 @@ waiting-append [] ys = refl
 waiting-append (call.Publish message ∷ xs) ys = ap (λ ms. message ∷ ms) (waiting-append xs ys)
 waiting-append (call.Sample from ∷ xs) ys = waiting-append xs ys
 
--- What holds along the history
+-- The invariant through the history
 
 abbrev pub FairEvent : World → Event → Type 0
 FairEvent world (CallQueued peer call) = is_honest world peer ≡ true
@@ -318,7 +318,7 @@ turn_good world q me n messages events moment done is there below small all good
         (ap (λ (s : PeerState). is_busy s.port) still ∙ busy, ap (λ (s : PeerState). s.waiting) still ∙ none)
     quiet p hostile false e = good.quiet p hostile
 
--- A peer is told to make a call
+-- A call is queued for a peer
 
 asked_port : (me p : ℕ) (moment : HistoryState) (c : PortCall) (b : Bool) → (me == p) ≡ b → (moment.peer_states p).port ≡ (if b then record (moment.peer_states me) { waiting = (moment.peer_states me).waiting ++ c ∷ [] } else moment.peer_states p).port
 asked_port me p moment c true e = ap (λ k. (moment.peer_states k).port) (sym (eqb-true me p e))
@@ -371,7 +371,7 @@ own_section : (world : World) (me word : ℕ) → IsWorld world → MayWrite wor
 own_section world me word is (inl here) = here
 own_section world me word is (inr common) = let none = is.common in let low = common.0 in let high = common.1 in absurd (omega arith)
 
--- what such an event leaves
+-- What such an event leaves.
 record Poking (world : World) (q me : ℕ) (messages : List (List ℕ)) (past next : List Line) (done : List (List ℕ)) : Type 0 where
   facts : Facts world q messages None next
   counted : published_by q next ≡ length done
@@ -532,7 +532,7 @@ facts_hold world q is honest =
     (acts_fair world world.acts allowed) (good_at_first world q is) in
     r.2.facts
 
--- What they say of a line
+-- Consequences for a line
 
 last_or : Option Line → List Line → Option Line
 last_or next [] = next

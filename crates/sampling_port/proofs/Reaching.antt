@@ -1,4 +1,4 @@
--- A publish and a sample stay in reach.
+-- The accesses of a publish and of a sample are permitted.
 use Rattle.std.proofs.Common.{◌≡◌, ℕ, zero, suc, ◌+◌, ◌/◌, ◌%◌, ◌<◌, ◌≤◌, Bool, true, false, inr, List, [], ◌++◌, length, take, refl, arith}
 use Rattle.std.proofs.lemmas.Bool.Decides.{nat_tests}
 use Rattle.std.specs.Prelude.{◌==◌, nat_lt, if◌then◌else◌}
@@ -11,7 +11,7 @@ use Rattle.sampling_port.specs.Trees.{PortTree, Ended, unmarked}
 use Rattle.sampling_port.specs.Calls.{publish, write_words, sample, read_length, read_words, is_length}
 use Rattle.sampling_port.specs.Laws.{config_of, CallsStayInReach}
 
--- Where the buffers are
+-- Offsets of the buffers
 
 place_least : (most : ℕ) (b : Bool) → 1 ≤ (if b then 1 else 2 + most / 4)
 place_least most true = omega arith
@@ -27,7 +27,7 @@ length_place_least most number = place_least most (number % 2 == 0)
 pub length_place_most : (most number : ℕ) → length_place most number ≤ 2 + most / 4
 length_place_most most number = place_most most (number % 2 == 0)
 
--- a word of a message is in the section
+-- A word of a message is in the section.
 within : (out most number at : ℕ) → IsMessageSize most → port_words most ≤ out → at < most / 4 → data_place most number + at < out
 within out most number at size room less = omega (arith, length_place_most most number)
 

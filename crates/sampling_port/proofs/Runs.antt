@@ -1,4 +1,4 @@
--- One event more.
+-- One more event.
 use Rattle.std.proofs.Common.{◌≡◌, ◌≢◌, ℕ, zero, suc, ◌+◌, ◌*◌, ◌^◌, ◌<◌, ◌≤◌, Bool, true, false, List, [], ◌∷◌, ◌++◌, length, get_or, take, drop, replicate, arith, refl, sym, ap, ◌∙◌, subst, append_assoc, length-set}
 use Rattle.std.specs.Prelude.{◌==◌, nat_lt, nat_le, ◌&&◌, if◌then◌else◌, Result, Ok, Err, OnOk, Option, Some, None, reverse, slice_get, slice_set}
 use Rattle.std.specs.List.{AllByRecursion, flat_map}
@@ -43,7 +43,7 @@ pub there-snoc : (P : Event → Type 0) (events : List Event) (event : Event) �
 there-snoc P [] event all here = (here, tt)
 there-snoc P (x ∷ events) event all here = (all.0, there-snoc P events event all.1 here)
 
--- How many lines there are
+-- The number of lines
 
 one_access : (peer : ℕ) (a : Access) (value : ℕ) → length (access_lines peer a value) ≤ 1
 one_access peer (access.Read word) value = omega arith
@@ -76,9 +76,9 @@ count_few g (event ∷ events) moment =
     let same = length-reverse new in
     omega arith
 
--- What a peer state keeps after so many events
+-- The bound of a peer state after n events
 
--- an open call counts
+-- An open call counts as one.
 abbrev pending : Bool → ℕ
 pending true = 1
 pending false = 0
@@ -157,7 +157,7 @@ opened_kept world me n peer_state false (call ∷ waiting) busy all small kept =
       few = omega arith;
     }
 
--- what a step leaves of the numbers
+-- What a step leaves of the numbers.
 pub record Same (old new : PortView) : Type 0 where
   pub shape : new.shape ≡ old.shape
   pub me : new.me ≡ old.me
@@ -208,7 +208,7 @@ turn_kept world me n peer_state past true busy kept =
     }
 turn_kept world me n peer_state past false busy kept = kept
 
--- one event more keeps what each peer state keeps
+-- One more event preserves the bound of each peer state.
 pub seat_kept : (world : World) (me n : ℕ) (peer_state : PeerState) (past : List Line) (event : Event) → n < 4000001 → IsPermittedEvent world event → Kept world me n peer_state → Kept world me (n + 1) (seat_in peer_state past event)
 seat_kept world me n peer_state past (CallQueued peer call) small there kept = asked_kept world me n peer_state call kept there.1
 seat_kept world me n peer_state past (TurnTaken peer) small there kept = later world me n _ (turn_kept world me n (opened peer_state) past _ refl (opened_kept world me n peer_state _ _ refl refl small kept))
@@ -257,13 +257,13 @@ ready_at world events p peer_state is few there below same =
     let bound = kept.few in
     subst (λ (s : PeerState). IsReady world p s) (sym same) (record { port = kept.port; shape = kept.shape; me_is = kept.me_is; most = kept.most; waiting = kept.waiting; numbers = omega arith })
 
--- the record has room for more lines
+-- The record has space for more lines.
 pub room_of : (world : World) (front : List ℕ) (events : List Event) (s : Simulator) → RunsTo world front events s → s.world_state.told.count < 2 ^ 62
 room_of world front events s runs = let count = runs.after.told.count in let few = count_few world.geometry events (initial_state world) in let all = runs.few in omega arith
 
 -- Peer states
 
--- what a list with one element set has there, and elsewhere
+-- A list with one element set, at that position and at others.
 set_at : {A : Type 0} (xs : List A) (p k : ℕ) (x y : A) → k ≡ p → slice_get (slice_set xs p x) k ≡ Some y → x ≡ y
 set_at [] p k x y is at = absurd (cc)
 set_at (z ∷ xs) zero zero x y is at = cc
@@ -278,7 +278,7 @@ set_beside (z ∷ xs) zero (suc k) x other = refl
 set_beside (z ∷ xs) (suc p) zero x other = refl
 set_beside (z ∷ xs) (suc p) (suc k) x other = set_beside xs p k x (λ e. other (ap suc e))
 
--- one event of a peer, after which its peer state and the world state stand
+-- One event of a peer, with the peer state and the world state after it.
 pub record OneMore (world : World) (front : List ℕ) (moment : HistoryState) (event : Event) (s s' : Simulator) (peer_state : sits.PeerState) : Type 0 where
   pub items : s'.peer_states.items ≡ slice_set s.peer_states.items (event_peer event) peer_state
   pub shape : s'.world_state.region.shape ≡ s.world_state.region.shape
@@ -316,7 +316,7 @@ there_below world (CallQueued peer call) there = there.0
 there_below world (TurnTaken peer) there = there
 there_below world (Poked peer word value) there = there
 
--- an event of a peer state and the world state
+-- An event of a peer state and the world state.
 pub happened : (event : Event) (s s' : Simulator) (old peer_state : sits.PeerState) → slice_get s.peer_states.items (event_peer event) ≡ Some old → s'.peer_states.items ≡ slice_set s.peer_states.items (event_peer event) peer_state →
     s'.world_state.region.shape ≡ s.world_state.region.shape →
     ((front : List ℕ) (past : List Line) → WorldStateAfter front past s.world_state →
@@ -350,7 +350,7 @@ get_set [] p x is = absurd (cc)
 get_set (y ∷ xs) zero x is = ap (λ z. z ∷ xs) (sym (same_Some y x is))
 get_set (y ∷ xs) (suc p) x is = ap (λ zs. y ∷ zs) (get_set xs p x is)
 
--- an event of the world state alone: a write of a peer's own accord
+-- An event of the world state alone: a write of a hostile peer.
 pub poke_happens : {T E : Type 0} (r : Result T E) (peer word value : ℕ) (s s' : Simulator) → s'.peer_states ≡ s.peer_states → s'.world_state.region.shape ≡ s.world_state.region.shape →
     ((front : List ℕ) (past : List Line) → WorldStateAfter front past s.world_state → OnOk r (WorldStateAfter front (reverse (lines_by (Poked peer word value) (poked_step s.world_state.region.shape peer word value)) ++ past) s'.world_state)) →
     OnOk r (Happens (Poked peer word value) s s')
@@ -360,7 +360,7 @@ poke_happens (Ok v) peer word value s s' peer_states shape after = λ world fron
     happened (Poked peer word value) s s' old.0 old.0 old.1 (ap (λ v. v.items) peer_states ∙ sym (get_set s.peer_states.items peer old.0 old.1)) shape (λ f past a. (after f past a, refl)) world front events there small runs
 poke_happens (Err e) peer word value s s' peer_states shape after = tt
 
--- So many turns, and the acts so far
+-- n turns, and the acts so far
 
 one_more : {A : Type 0} (xs : List A) (n : ℕ) (x : A) → (xs ++ replicate n x) ++ x ∷ [] ≡ xs ++ replicate (n + 1) x
 one_more xs n x = append_assoc xs (replicate n x) (x ∷ []) ∙ ap (λ r. xs ++ r) (replicate-append-replicate n 1 x)
@@ -378,7 +378,7 @@ act_length (act.Sample peer from) = refl
 act_length (act.Turn peer steps) = length-replicate steps (TurnTaken peer)
 act_length (act.Poke peer word value) = refl
 
--- the events of the acts so far, and of one more
+-- The events of the acts so far, and of one more.
 schedule_more : (acts : List Act) (i : ℕ) (a : Act) → i < length acts → a ≡ get_or acts i a → schedule (take (i + 1) acts) ≡ schedule (take i acts) ++ events_of a
 schedule_more acts i a inside is =
     ap (λ (xs : List Act). schedule xs) (take_more acts i a inside ∙ ap (λ (b : Act). take i acts ++ b ∷ []) (sym is)) ∙ flat_map-append events_of (take i acts) (a ∷ []) ∙ ap (λ es. schedule (take i acts) ++ es) (append-nil (events_of a))
@@ -394,7 +394,7 @@ one_act world front acts i a s inside is runs = subst (λ (es : List Event). Run
 take_drop_turns : (acts : List Act) (i : ℕ) → turns_of (take i acts) ≤ turns_of acts
 take_drop_turns acts i = let all = sym (sum_by-append cost (take i acts) (drop i acts)) ∙ ap turns_of (take-append-drop i acts) in omega arith
 
--- the acts so far, with the next one, ask for no more than all
+-- The acts so far, with the next one, cost at most as much as all.
 pub few_so_far : (acts : List Act) (i : ℕ) (a : Act) → i < length acts → a ≡ get_or acts i a → length (schedule (take i acts)) + cost a ≤ turns_of acts
 few_so_far acts i a inside is =
     let more = ap length (schedule_more acts i a inside is) ∙ length-append (schedule (take i acts)) (events_of a) in
@@ -405,7 +405,7 @@ few_so_far acts i a inside is =
 
 -- The peer states at the start
 
--- an element of a list with one more is one of the list, or the last
+-- An element of a list with one more is one of the list, or the last.
 last_or : (xs : List sits.PeerState) (x : sits.PeerState) (k : ℕ) (found : sits.PeerState) → slice_get (xs ++ x ∷ []) k ≡ Some found → (P : ℕ → sits.PeerState → Type 0) →
     ((q : ℕ) (s : sits.PeerState) → slice_get xs q ≡ Some s → P q s) → P (length xs) x → P k found
 last_or [] x zero found at P all here = subst (λ (s : sits.PeerState). P 0 s) (same_Some x found at) here
@@ -421,13 +421,13 @@ one_seat world count peer_states peer_state start fresh =
       fresh = λ p found at. last_or peer_states peer_state p found at (λ q s. seat_of s ≡ (initial_state world).peer_states q) start.fresh (rw length_is fresh);
     }
 
--- a simulator at the start
+-- A simulator at the start.
 pub begun : (world : World) (front : List ℕ) (s : Simulator) → IsWorld world → AreAtStart world world.geometry.peers s.peer_states.items → s.world_state.region.shape ≡ world.geometry → WorldStateAfter front [] s.world_state → RunsTo world front [] s
 begun world front s is start shape after = record { is_world = is; there = tt; few = omega arith; shape = shape; after = after; count = start.length_is; peer_states = start.fresh }
 
 -- The whole record
 
--- what stands in front of the lines
+-- The text before the lines.
 abbrev pub front_of : World → List ℕ
 front_of world = line_of_row pieces_of_line (row Head (1 ∷ []) []) ++ spelling world
 
@@ -436,11 +436,11 @@ allowed_nth w [] i a all inside is = absurd (omega arith)
 allowed_nth w (x ∷ acts) zero a all inside is = subst (λ (b : Act). IsAllowed w b) (sym is) all.0
 allowed_nth w (x ∷ acts) (suc i) a all inside is = allowed_nth w acts i a all.1 (omega arith) is
 
--- an act of a world is allowed in it
+-- An act of a world is allowed in it.
 pub act_at : (w : World) (i : ℕ) (a : Act) → IsWorld w → i < length w.acts → a ≡ get_or w.acts i a → IsAllowed w a
 act_at w i a is inside at = allowed_nth w w.acts i a (recursion_from_All (IsAllowed w) w.acts is.allowed) inside at
 
--- the record of a simulator that took all acts, with its end
+-- The record of a simulator that played all acts, with its end.
 pub whole_record : (world : World) (i : ℕ) (s : Simulator) → length world.acts ≤ i → RunsTo world (front_of world) (schedule (take i world.acts)) s →
     s.world_state.told.text.items ++ line_of_row pieces_of_line (row End (s.world_state.told.count ∷ []) []) ≡ record_of world (history world)
 whole_record world i s whole runs =

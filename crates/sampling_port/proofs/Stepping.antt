@@ -1,4 +1,4 @@
--- What every port keeps, step by step.
+-- The invariant of every port, step by step.
 use Rattle.std.proofs.Common.{◌≡◌, ℕ, zero, suc, ◌+◌, ◌*◌, ◌^◌, ◌<◌, ◌≤◌, Bool, true, false, List, [], ◌++◌, length, take, arith, refl, ◌∙◌, length-set}
 use Rattle.std.specs.Prelude.{if◌then◌else◌}
 use Rattle.std.proofs.lemmas.Bool.Decides.{nat_tests}
@@ -9,7 +9,7 @@ use Rattle.sampling_port.specs.declared.place.Place.TheVariants as place
 use Rattle.sampling_port.specs.Calls.{is_length}
 use Rattle.sampling_port.specs.Views.{PortView, IsPort, IsPlace, writing_place, reading_place, closed, got, port_after}
 
--- a port at another place, with other bytes in hand
+-- A port at another place, with other bytes in hand.
 moved : (port : PortView) (at : Place) (hand : List ℕ) → IsPort port → length hand ≤ port.most → IsPlace (record port { place = at; hand = hand }) at → IsPort (record port { place = at; hand = hand })
 moved port at hand is few there = record {
   shaped = is.shaped;
@@ -68,7 +68,7 @@ second_kept port from sequence false is = closed_kept port is
 four : (value : ℕ) → length (word_bytes value) ≡ 4
 four value = refl
 
--- a step of an open call keeps what every port keeps
+-- A step of an open call preserves the invariant.
 pub port_kept : (port : PortView) (p : Place) (value : ℕ) → port.place ≡ p → IsPort port → IsPlace port p → IsPort (port_after port p value)
 port_kept port place.Closed value at is there = is
 port_kept port place.WritingLength value at is there = writing port 0 (words_for (length port.hand)) is (omega arith) there.1

@@ -1,4 +1,4 @@
--- What a line that is told leaves of the words and of the record.
+-- The words and the record after one more line.
 use Rattle.std.proofs.Common.{mul-le-mul_right, ◌≡◌, ℕ, ◌+◌, ◌*◌, ◌<◌, ◌≤◌, Bool, true, false, List, [], ◌∷◌, ◌++◌, length, arith, refl, sym, ap, ◌∙◌, inl, inr}
 use Rattle.std.specs.Prelude.{◌==◌, nat_lt, nat_le, ◌&&◌, ◌||◌, if◌then◌else◌, Some, None, Result, Ok, Err, OnOk, reverse, slice_get, slice_index, slice_set}
 use Rattle.std.proofs.lemmas.Bool.Decides.{nat_tests}
@@ -25,13 +25,13 @@ use Rattle.sampling_port.specs.Memory.{value_after, last_write}
 use Rattle.sampling_port.specs.History.{may_write}
 use Rattle.sampling_port.specs.Simulator.{Holds, RecordAfter, WorldStateAfter, CanPerform}
 
--- a line that stores nothing
+-- A line that stores nothing.
 pub quiet_told : {T E : Type 0} (r : Result T E) (front : List ℕ) (past : List Line) (line : Line) (s : WorldState) (told : Record) → ((at before : ℕ) → value_after line at before ≡ before) → WorldStateAfter front past s →
     OnOk r (RecordAfter front (line ∷ past) told) → OnOk r (WorldStateAfter front (line ∷ past) (record { region = s.region; told = told }))
 quiet_told (Ok v) front past line s told quiet after kept = record { words = λ word inside. after.words word inside ∙ sym (quiet word (last_write past word)); told = kept }
 quiet_told (Err e) front past line s told quiet after kept = tt
 
--- a word after a write to a word
+-- A word after a write to a word.
 pub written : (words : List ℕ) (past : List Line) (peer at value : ℕ) → Holds words past → Holds (slice_set words at value) (Wrote peer at value ∷ past)
 written words past peer at value holds = λ word inside. one words past at value word inside holds
   where
@@ -79,7 +79,7 @@ told_marked me (access.State state) value mark past = refl
 told_marked me (access.Ring target vector) value mark past = refl
 told_marked me access.Nothing value mark past = refl
 
--- the message that was got is the one in hand
+-- The message that was got is the one in hand.
 second_got : (port : PortView) (from sequence value number : ℕ) (b : Bool) → (if b then Some (note.Got sequence) else Some (note.Again sequence value)) ≡ Some (note.Got number) →
     (if b then got port from sequence else closed port).message ≡ port.hand
 second_got port from sequence value number true is = refl
@@ -111,7 +111,7 @@ mark_is port p value note.Nothing is = refl
 mark_is port p value (note.Again first second) is = refl
 mark_is port p value (note.Refuse field v) is = refl
 
--- what a step of a port asks of the region
+-- What a step of a port requires of the region.
 pub can : (port : PortView) (a : Access) → IsPort port → IsInReach port a → CanPerform port.shape port.me a
 can port (access.Read word) is reach =
     let below = reach.1 in
@@ -126,7 +126,7 @@ can port (access.State state) is reach = reach
 can port (access.Ring target vector) is reach = reach
 can port access.Nothing is reach = reach
 
--- a word was stored
+-- A word was stored.
 pub stored_told : {T E : Type 0} (r : Result T E) (front : List ℕ) (past : List Line) (peer word value : ℕ) (s : WorldState) (region : Words) (told : Record) → region ≡ record s.region { words = slice_set s.region.words word value } →
     WorldStateAfter front past s → OnOk r (RecordAfter front (Wrote peer word value ∷ past) told) → OnOk r (WorldStateAfter front (Wrote peer word value ∷ past) (record { region = region; told = told }))
 stored_told (Ok v) front past peer word value s region told is after kept = record { words = rw is (written s.region.words past peer word value after.words); told = kept }

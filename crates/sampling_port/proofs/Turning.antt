@@ -1,4 +1,5 @@
--- A turn of a peer, beside an honest writer: the facts of the lines are kept, and the reader and the writer stand at their next places.
+-- A turn of a peer, with an honest writer in the world. The facts of the lines hold, and the reader
+-- and the writer are at their next places.
 use Rattle.std.proofs.Common.{◌⊎◌, ◌≡◌, ◌≢◌, ℕ, zero, suc, ◌+◌, ◌/◌, ◌%◌, ◌<◌, ◌≤◌, Bool, true, false, List, [], ◌∷◌, ◌++◌, length, refl, sym, ◌∙◌, ap, subst, arith, eq-eqb}
 use Rattle.std.specs.Prelude.{◌==◌, nat_lt, if◌then◌else◌, Option, Some, None, reverse, slice_index, slice_set}
 use Rattle.std.proofs.lemmas.Bool.{eqb-true, eqb-false, ne_eqb}
@@ -63,7 +64,7 @@ same_read world q me word value (Some mark) past = λ w inside. refl
 no_publish : (q me : ℕ) (line : Line) (past : List Line) → publishes q line ≡ 0 → published_by q (line ∷ past) ≡ published_by q past
 no_publish q me line past none = let s = sum_by-cons (publishes q) line past in omega arith
 
--- a mark of a sample publishes nothing
+-- A mark of a sample publishes nothing.
 abbrev IsOfSample : Option PortMark → Type 0
 IsOfSample None = Unit {0}
 IsOfSample (Some (Publish number)) = ⊥
@@ -114,7 +115,7 @@ look_beside world q p from word value messages n past port new done is other ins
 
 -- A step of a sample
 
--- where a sample reads
+-- The word that a sample reads next.
 abbrev pub ReadsFrom : PortView → Place → ℕ → Type 0
 ReadsFrom port (place.AtSequence from) word = word ≡ theirs port from
 ReadsFrom port (place.AtLength from sequence) word = word ≡ theirs port from + length_place port.most sequence
@@ -146,7 +147,7 @@ second_beside : (port : PortView) (q from sequence : ℕ) (b : Bool) → from �
 second_beside port q from sequence true other = (set_other port.lasts from q sequence other, tt)
 second_beside port q from sequence false other = (refl, tt)
 
--- one read of a sample, whomever it samples
+-- One read of a sample, of any peer.
 pub sample_step : (world : World) (q me : ℕ) (messages : List (List ℕ)) (past : List Line) (port : PortView) (done : List (List ℕ)) (p : Place) (word value : ℕ) → IsWorld world → q < world.geometry.peers → port.shape ≡ world.geometry → port.most ≡ world.most →
     IsPort port → IsPlace port p → port.place ≡ p → Before world q messages past done → Reader world q me past port done → ReadsFrom port p word → value ≡ last_write past word →
     Looked world q me messages past word value (marked (from_at p) port.hand (note_at port p value)) (port_after port p value) done
@@ -235,7 +236,7 @@ sample_step world q me messages past port done (place.AtSecond from sequence) wo
 abbrev pub Grown : List (List ℕ) → List (List ℕ) → Type 0
 Grown done new = (new ≡ done) ⊎ ((m : List ℕ) × (new ≡ m ∷ done))
 
--- what a step of a peer leaves
+-- What a step of a peer leaves.
 pub record Stepped (world : World) (q me : ℕ) (messages : List (List ℕ)) (past next : List Line) (old new : PortView) (done : List (List ℕ)) : Type 0 where
   pub then_done : List (List ℕ)
   pub facts : Facts world q messages None next
@@ -245,7 +246,7 @@ pub record Stepped (world : World) (q me : ℕ) (messages : List (List ℕ)) (pa
   pub mine : me ≡ q → Writer world q next new then_done × (reverse then_done ++ hand_messages new ≡ reverse done ++ hand_messages old)
   pub beside : me ≢ q → Same world q past next × (then_done ≡ done)
 
--- what is known of the peer that steps
+-- What is known of the peer that steps.
 pub record Stands (world : World) (q me : ℕ) (port : PortView) (past : List Line) (done : List (List ℕ)) : Type 0 where
   pub port_is : IsPort port
   pub shape : port.shape ≡ world.geometry
@@ -280,7 +281,7 @@ note_of_sample port (place.AtSecond from sequence) value hand word reads = by _
     by true = tt
     by false = tt
 
--- a port that samples writes nothing after a step either
+-- A port that samples writes nothing after a step either.
 record Reading (world : World) (q : ℕ) (past : List Line) (port new : PortView) : Type 0 where
   published : new.published ≡ port.published
   writing : Opened world q past new new.place
@@ -359,7 +360,7 @@ hand_writing : (port : PortView) (at count : ℕ) → hand_at (record port { pla
 hand_writing port at zero = refl
 hand_writing port at (suc more) = refl
 
--- a word of the message, or its length
+-- A word of the message, or its length.
 pub write_stepped : (world : World) (q me : ℕ) (messages : List (List ℕ)) (past : List Line) (port : PortView) (done : List (List ℕ)) (word written k count : ℕ) → IsWorld world → Before world q messages past done → Stands world q me port past done →
     InSection world.geometry me word → hand_messages port ≡ port.hand ∷ [] → (me ≡ q → Writer world q (Wrote me word written ∷ past) (record port { place = writing_place k count }) done) →
     Stepped world q me messages past (Wrote me word written ∷ past) port (record port { place = writing_place k count }) done
@@ -382,7 +383,7 @@ published_mine q me number past e =
 published_other : (q me number : ℕ) (past : List Line) → me ≢ q → published_by q (Marked me (Publish number) ∷ past) ≡ published_by q past
 published_other q me number past other = no_publish q me (Marked me (Publish number)) past (rw (ne_eqb me q other) refl)
 
--- the number of the message, with which it is published
+-- The number of the message, with which it is published.
 pub sequence_stepped : (world : World) (q me : ℕ) (messages : List (List ℕ)) (past : List Line) (port : PortView) (done : List (List ℕ)) → IsWorld world → Before world q messages past done → Stands world q me port past done → port.place ≡ place.WritingSequence → (b : Bool) → (me == q) ≡ b →
     Stepped world q me messages past (Marked me (Publish (port.published + 1)) ∷ Wrote me (head_of world me) (port.published + 1) ∷ past) port (port_after port place.WritingSequence 0) done
 sequence_stepped world q me messages past port done is before refines at true e =

@@ -1,4 +1,4 @@
--- A schedule has one lawful history at most.
+-- A schedule has at most one lawful history.
 use Rattle.std.proofs.Common.{◌≡◌, ℕ, Bool, true, false, List, [], ◌∷◌, ◌++◌, refl, sym, ◌∙◌, ap, subst, append_assoc, inl, inr, map}
 use Rattle.std.specs.Prelude.{◌==◌, if◌then◌else◌, Option, Some, reverse}
 use Rattle.std.specs.List.{flat_map}
@@ -15,12 +15,12 @@ use Rattle.sampling_port.specs.Memory.{IsConsistent, MemoryLaw, last_write}
 use Rattle.sampling_port.specs.Order.{Progress, initial_progress, begins, CallStep, IsMade, EventStep, noted, IsCallSequence}
 use Rattle.sampling_port.specs.Lawful.{IsLawfulBy, HasOneHistory}
 
--- the law holds of the older lines
+-- The law holds of the older lines.
 pub older_law : (g : Shape) (new old : List Line) → MemoryLaw g (new ++ old) → MemoryLaw g old
 older_law g [] old law = law
 older_law g (line ∷ new) old law = older_law g new old law.1
 
--- and of the first of some new lines
+-- The law holds of the first of some new lines.
 pub first_law : (g : Shape) (past : List Line) (first : Line) (others : List Line) → MemoryLaw g (reverse (first ∷ others) ++ past) → IsConsistent g first past
 first_law g past first others law =
     let e : reverse (first ∷ others) ++ past ≡ reverse others ++ (first ∷ past) = ap (λ r. r ++ past) (reverse-append (first ∷ []) others) ∙ append_assoc (reverse others) (first ∷ []) past in
@@ -30,7 +30,7 @@ first_law g past first others law =
 read_is : (g : Shape) (past : List Line) (p word value : ℕ) (mark : Option PortMark) → MemoryLaw g (reverse (step_lines p (port_step (access.Read word) value mark)) ++ past) → value ≡ last_write past word
 read_is g past p word value mark law = first_law g past (Read p word value) (mark_lines p mark) law
 
--- two steps by which a call goes on after the same lines are one
+-- Two steps by which a call goes on after the same lines are equal.
 same_goes : (g : Shape) (past : List Line) (p : ℕ) (tree : PortTree) (step step' : PortStep) (new new' : PortTree) → Goes tree step new → Goes tree step' new' →
     MemoryLaw g (reverse (step_lines p step) ++ past) → MemoryLaw g (reverse (step_lines p step') ++ past) → (step ≡ step') × (new ≡ new')
 same_goes g past p Ended step step' new new' goes goes' law law' = absurd goes
@@ -59,7 +59,7 @@ same_moves g past p peer Ended went went' new new' m m' law law' = (m.0 ∙ sym 
 same_moves g past p peer (Does a mark rest) went went' new new' m m' law law' = same_goes_on g past p peer (Does a mark rest) went went' new new' m m' law law'
 same_moves g past p peer (Reads word mark rest) went went' new new' m m' law law' = same_goes_on g past p peer (Reads word mark rest) went went' new new' m m' law law'
 
--- a write that was denied and one that was made can't both keep the law
+-- A denied write and one that was made can't both keep the law.
 same_made : (g : Shape) (past : List Line) (p word value : ℕ) (went went' : Option PortStep) → IsMade word value went → IsMade word value went' →
     MemoryLaw g (reverse (lines_by (Poked p word value) went) ++ past) → MemoryLaw g (reverse (lines_by (Poked p word value) went') ++ past) → went ≡ went'
 same_made g past p word value went went' (inl is) (inl is') law law' = is ∙ sym is'
@@ -71,26 +71,26 @@ same_made g past p word value went went' (inr is) (inl is') law law' =
     absurd ((first_law g past (Denied p word) [] (subst (λ (w : Option PortStep). MemoryLaw g (reverse (lines_by (Poked p word value) w) ++ past)) is law))
     (first_law g past (Wrote p word value) [] (subst (λ (w : Option PortStep). MemoryLaw g (reverse (lines_by (Poked p word value) w) ++ past)) is' law')))
 
--- what comes of an event after the same lines
+-- The result of an event after the same lines.
 same_acts : (world : World) (past : List Line) (q : ℕ) (peer : Progress) (event : Event) (went went' : Option PortStep) (new new' : Progress) → EventStep world q peer event went new → EventStep world q peer event went' new' →
     MemoryLaw world.geometry (reverse (lines_by event went) ++ past) → MemoryLaw world.geometry (reverse (lines_by event went') ++ past) → (went ≡ went') × (new ≡ new')
 same_acts world past q peer (CallQueued p call) went went' new new' a a' law law' = (a.0 ∙ sym a'.0, a.1 ∙ sym a'.1)
 same_acts world past q peer (TurnTaken p) went went' new new' a a' law law' = same_moves world.geometry past p (begins world q peer) (begins world q peer).left went went' new new' a a' law law'
 same_acts world past q peer (Poked p word value) went went' new new' a a' law law' = (same_made world.geometry past p word value went went' a.0 a'.0 law law', a.1 ∙ sym a'.1)
 
--- the peers, where one of them is at another place
+-- The peers with another progress for one of them.
 abbrev with_peer : (ℕ → Progress) → ℕ → Progress → ℕ → Progress
 with_peer peers p next q = if p == q then next else peers q
 
 abbrev pub owner : EventRecord → ℕ
 owner entry = event_peer entry.event
 
--- what is known of the entries to come
+-- What is known of the event records to come.
 record Follows (world : World) (past : List Line) (peers : ℕ → Progress) (entries : List EventRecord) : Type 0 where
   law : MemoryLaw world.geometry (reverse (flat_map lines_of entries) ++ past)
   calls : (p : ℕ) → (end : Progress) × IsCallSequence world p (peers p) (own_entries p entries) end
 
--- the first of them
+-- The first of them.
 record First (world : World) (past : List Line) (peers : ℕ → Progress) (entry : EventRecord) (entries : List EventRecord) : Type 0 where
   next : Progress
   acts : EventStep world (owner entry) (peers (owner entry)) entry.event entry.went next
@@ -107,7 +107,7 @@ law_splits g past entry entries law =
 own_first : (entry : EventRecord) (entries : List EventRecord) → own_entries (owner entry) (entry ∷ entries) ≡ entry ∷ own_entries (owner entry) entries
 own_first entry entries = rw (eq-eqb (owner entry) (owner entry) refl) refl
 
--- the other peers, and the peer of the first entry after it, serve the others
+-- The other peers, and the peer of the first event record after it, continue with the others.
 serves_on : (world : World) (peers : ℕ → Progress) (p q : ℕ) (next : Progress) (entry : EventRecord) (entries : List EventRecord) (b : Bool) → (p == q) ≡ b →
     ((end : Progress) × IsCallSequence world p next (own_entries p entries) end) →
     ((end : Progress) × IsCallSequence world q (peers q) (if b then entry ∷ own_entries q entries else own_entries q entries) end) →

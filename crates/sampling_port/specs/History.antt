@@ -1,4 +1,5 @@
--- The lawful history of a schedule of ports, computed: the plain program beside the relation of `Lawful`.
+-- The lawful history of a schedule of ports, computed: a function to compare with the relation of
+-- `Lawful`.
 use Rattle.std.specs.Prelude.{ℕ, ◌+◌, ◌==◌, ◌&&◌, ◌||◌, nat_le, nat_lt, if◌then◌else◌, Bool, true, false, Option, Some, None, List, [], ◌∷◌, ◌++◌, reverse}
 use Rattle.section_map.specs.Geometry.{Shape, section_start}
 use Rattle.split_ring.specs.declared.steps.Access.{Access}
@@ -12,12 +13,12 @@ use Rattle.sampling_port.specs.EventRecords.{Line, EventRecord, lines_of}
 use Rattle.sampling_port.specs.Memory.{last_write}
 use Rattle.sampling_port.specs.Lawful.{IsLawful}
 
--- a peer's port, and the calls that wait for it, the oldest first
+-- A peer's port, and the calls that wait for it, the oldest first.
 pub record PeerState : Type 0 where
   pub port : PortView
   pub waiting : List PortCall
 
--- the lines so far, of which the newest is the first, and where each peer is
+-- The lines so far, the newest first, and the state of each peer.
 pub record HistoryState : Type 0 where
   pub past : List Line
   pub peer_states : ℕ → PeerState
@@ -28,7 +29,7 @@ abbrev pub opening : PortView → PortCall → PortView
 opening port (Publish message) = publishing port message
 opening port (Sample from) = sampling port from
 
--- where no call is open, the oldest that waits is opened
+-- A peer state after the oldest waiting call was opened, if no call was open.
 abbrev pub opened_by : PeerState → Bool → List PortCall → PeerState
 opened_by peer_state true waiting = peer_state
 opened_by peer_state false [] = peer_state
@@ -37,7 +38,7 @@ opened_by peer_state false (call ∷ waiting) = record { port = opening peer_sta
 abbrev pub opened : PeerState → PeerState
 opened peer_state = opened_by peer_state (is_busy peer_state.port) peer_state.waiting
 
--- a read meets what was written last
+-- The value that an access reads: the one written last.
 abbrev pub met : List Line → Access → ℕ
 met past (access.Read word) = last_write past word
 met past _ = 0
@@ -45,7 +46,7 @@ met past _ = 0
 abbrev pub met_by : List Line → PortView → ℕ
 met_by past port = met past (access_at port port.place)
 
--- the step of the open call, if there is one, and the port after it
+-- The next step of the open call, if there is one.
 abbrev pub step_of_turn : PortView → List Line → Option PortStep
 step_of_turn port past = if is_busy port then Some (step_of_port port (met_by past port)) else None
 
@@ -54,7 +55,8 @@ port_of_turn port past = if is_busy port then port_after port port.place (met_by
 
 -- An event
 
--- whether a peer may write a word: it lies in the peer's output section or in the common section
+-- Whether a peer may write a word: the word is in the peer's output section or in the common
+-- section.
 abbrev pub may_write : Shape → ℕ → ℕ → Bool
 may_write g peer word =
     (nat_le (section_start g peer) word && nat_lt word (section_start g peer + g.out)) || (nat_le g.table word && nat_lt word (g.table + g.common))
@@ -62,7 +64,7 @@ may_write g peer word =
 abbrev pub poked_step : Shape → (peer word value : ℕ) → Option PortStep
 poked_step g peer word value = if may_write g peer word then Some (port_step (access.Write word value) 0 None) else None
 
--- the step that is made in an event, and where its peer is after it
+-- The step made in an event, and the peer's state after it.
 abbrev pub step_in : Shape → PeerState → List Line → Event → Option PortStep
 step_in g peer_state past (CallQueued peer call) = None
 step_in g peer_state past (TurnTaken peer) = step_of_turn (opened peer_state).port past
@@ -76,7 +78,7 @@ seat_in peer_state past (Poked peer word value) = peer_state
 abbrev pub entry_of : Shape → HistoryState → Event → EventRecord
 entry_of g moment event = record { event = event; went = step_in g (moment.peer_states (event_peer event)) moment.past event }
 
--- the peer states where this peer's is another one
+-- The peer states with another one for `peer`.
 abbrev pub seats_with : ℕ → PeerState → (ℕ → PeerState) → ℕ → PeerState
 seats_with peer peer_state peer_states p = if peer == p then peer_state else peer_states p
 
@@ -90,18 +92,18 @@ abbrev pub run : Shape → List Event → HistoryState → HistoryState
 run g [] moment = moment
 run g (event ∷ events) moment = run g events (after_event g moment event)
 
--- each peer has a port that did nothing yet
+-- The initial history state: each peer has a port without calls.
 abbrev pub initial_state : World → HistoryState
 initial_state world = record { past = []; peer_states = λ peer. record { port = fresh_port world.geometry peer world.most; waiting = [] } }
 
--- the moment to which these events lead
+-- The history state after these events.
 abbrev pub moment_of : World → List Event → HistoryState
 moment_of world events = run world.geometry events (initial_state world)
 
--- the history of the schedule
+-- The history of the schedule.
 abbrev pub history : World → List Line
 history world = reverse (moment_of world (schedule world.acts)).past
 
--- a schedule has a lawful history, and this is it
+-- A schedule has a lawful history, and this is it.
 abbrev pub HistoryIsLawful : Type 0
 HistoryIsLawful = (world : World) → IsWorld world → IsLawful world (history world)

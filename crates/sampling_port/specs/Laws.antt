@@ -1,4 +1,4 @@
--- What holds of every port, and why there is none.
+-- Laws of every port, and the faults of a geometry without a port.
 use Rattle.std.specs.Prelude.{ℕ, ◌≡◌, ◌+◌, ◌*◌, ◌<◌, ◌≤◌, ◌⊎◌, true, List, [], ◌∷◌, ◌++◌, length, map, false, slice_index}
 use Rattle.section_map.specs.Geometry.{Shape, section_start}
 use Rattle.section_map.specs.MayWrite.{InSection}
@@ -15,13 +15,13 @@ use Rattle.sampling_port.specs.Trees.{PortTree, Ended, PortStep, port_step, Goes
 use Rattle.sampling_port.specs.Calls.{publish, sample}
 use Rattle.sampling_port.specs.Views.{PortView, is_busy, from_at, own, theirs, access_at, note_at, port_after, left, publishing, sampling}
 
--- why a geometry has no port for messages of so many bytes; sizes are in bytes
+-- The fault of a geometry without a port for messages of `most` bytes; sizes are in bytes.
 abbrev pub IsPortFault : Shape → ℕ → PortFault → Type 0
 IsPortFault shape most (BadMessage found) = (¬ IsMessageSize most) × (found ≡ most)
 IsPortFault shape most (TooSmall need found) = IsMessageSize most × (need ≡ 4 * port_words most) × (found ≡ 4 * shape.out) × (found < need)
 IsPortFault shape most NoMemory = Unit {0}
 
--- the access writes a word of the own section, or reads one of a peer's
+-- The access writes a word of the port's own section, or reads one of a peer's.
 abbrev pub IsInReach : PortView → Access → Type 0
 IsInReach port (access.Read word) = (from : ℕ) × (from < port.shape.peers) × InSection port.shape from word
 IsInReach port (access.Write word value) = InSection port.shape port.me word
@@ -29,7 +29,7 @@ IsInReach port (access.State state) = ⊥
 IsInReach port (access.Ring target vector) = ⊥
 IsInReach port access.Nothing = ⊥
 
--- two peers, as the call grammar of the link sees them: the first makes the calls
+-- Two peers as ends of a link in the call grammar; `me` makes the calls.
 abbrev pub config_of : Shape → (me from : ℕ) → EndConfig
 config_of shape me from = record {
   me = me;
@@ -41,14 +41,14 @@ config_of shape me from = record {
   vector = 0;
 }
 
--- a publish and a sample stay in reach as the calls of a link's end do
+-- A publish and a sample make only accesses that the call grammar permits the end of a link.
 pub record CallsStayInReach : Type 0 where
   pub publishes : (shape : Shape) (me from most number : ℕ) (message : List ℕ) → IsMessageSize most → port_words most ≤ shape.out → length message ≤ most →
       StaysInReach (config_of shape me from) (unmarked (publish (section_start shape me) most number message))
   pub samples : (shape : Shape) (me from most last : ℕ) → IsMessageSize most → port_words most ≤ shape.out →
       StaysInReach (config_of shape me from) (unmarked (sample from (section_start shape from) most last))
 
--- a sample's reads: no word twice, or the first word once more behind those
+-- The words that a sample reads: no word twice, or the first word once more after the others.
 abbrev pub IsReadOnce : ℕ → List ℕ → Type 0
 IsReadOnce sequence reads = AreDistinct reads ⊎ ((front : List ℕ) × (reads ≡ sequence ∷ (front ++ sequence ∷ [])) × AreDistinct (sequence ∷ front))
 
@@ -56,11 +56,11 @@ abbrev pub FieldsAreReadOnce : Type 0
 FieldsAreReadOnce = (from theirs most last : ℕ) (steps : List PortStep) → Makes (sample from theirs most last) steps
     → IsReadOnce theirs (reads_of (map unmarked_step steps))
 
--- the step of a port that met this value: a message got is the one in hand
+-- The step of a port that read this value; a message got is the one in hand.
 abbrev pub step_of_port : PortView → ℕ → PortStep
 step_of_port port value = port_step (access_at port port.place) value (marked (from_at port.place) port.hand (note_at port port.place value))
 
--- a port goes along its call, and along nothing else
+-- A port follows its call, and nothing else.
 pub record PortsFollowCalls : Type 0 where
   pub publishes : (port : PortView) (message : List ℕ) → left (publishing port message) ≡ publish (own port) port.most (port.published + 1) message
   pub samples : (port : PortView) (from : ℕ) → left (sampling port from) ≡ sample from (theirs port from) port.most (slice_index port.lasts from)

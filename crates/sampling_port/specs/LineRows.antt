@@ -10,7 +10,7 @@ use Rattle.sampling_port.specs.declared.notes.PortField.TheVariants.{Sequence, L
 use Rattle.sampling_port.specs.Marks as mark
 use Rattle.sampling_port.specs.EventRecords.{Line, Read, Wrote, Denied, Idle, Marked}
 
--- what stands in the fields of a line of this form
+-- The fields of a line of this form.
 abbrev pub pieces_of_line : Form → List Piece
 pieces_of_line form.Head = Word (codes "portrecord") ∷ Number 1 1 ∷ []
 pieces_of_line form.Read = Word (codes "r") ∷ u32_number ∷ u32_number ∷ u32_number ∷ []
@@ -25,12 +25,12 @@ pieces_of_line form.RefuseSequence = Word (codes "refuse") ∷ u32_number ∷ Wo
 pieces_of_line form.RefuseLength = Word (codes "refuse") ∷ u32_number ∷ Word (codes "Length") ∷ u32_number ∷ []
 pieces_of_line form.End = Word (codes "end") ∷ any_number ∷ []
 
--- the form of a refusal, by the word of its field
+-- The form of a refusal, by its field.
 abbrev pub refusal_form : PortField → Form
 refusal_form Sequence = form.RefuseSequence
 refusal_form Length = form.RefuseLength
 
--- the row whose line is this one
+-- The row of a line.
 abbrev pub row_of_line : Line → Row Form
 row_of_line (Read peer word value) = row form.Read (peer ∷ word ∷ value ∷ []) []
 row_of_line (Wrote peer word value) = row form.Wrote (peer ∷ word ∷ value ∷ []) []

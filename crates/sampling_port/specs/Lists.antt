@@ -1,4 +1,4 @@
--- What a finished publish and a finished sample are, as lists of steps.
+-- Finished publishes and finished samples as lists of steps.
 use Rattle.std.specs.Prelude.{ℕ, zero, suc, ◌≡◌, ◌≢◌, ◌+◌, ◌<◌, ◌≤◌, ◌⊎◌, Some, None, Option, List, [], ◌∷◌, ◌++◌, length}
 use Rattle.split_ring.specs.declared.steps.Access.TheVariants.{Read, Write}
 use Rattle.call_grammar.specs.Words.{words_for, frame_word, frame_in}
@@ -14,39 +14,39 @@ write_step word written mark = port_step (Write word written) 0 mark
 abbrev pub read_step : (word value : ℕ) → Option PortMark → PortStep
 read_step word value mark = port_step (Read word) value mark
 
--- so many words of the message from this one on
+-- The writes of `count` words of the message from word `at` on.
 abbrev pub write_steps : (own most number : ℕ) → List ℕ → (at count : ℕ) → List PortStep
 write_steps own most number message at zero = []
 write_steps own most number message at (suc more) =
     write_step (own + data_place most number + at) (frame_word message at) None ∷ write_steps own most number message (at + 1) more
 
--- a publish: the length, the words, and then the number
+-- A publish: the length, the words, and then the number.
 abbrev pub publish_steps : (own most number : ℕ) → List ℕ → List PortStep
 publish_steps own most number message =
     write_step (own + length_place most number) (length message) None ∷
     (write_steps own most number message 0 (words_for (length message)) ++ write_step own number (Some (Publish number)) ∷ [])
 
--- a length that is refused isn't one of these
+-- The lengths that are in range.
 abbrev pub IsLength : (most bytes : ℕ) → Type 0
 IsLength most bytes = (1 ≤ bytes) × (bytes ≤ most)
 
--- the reads of these words of a message from this place on
+-- The reads of these words of a message from word `at` on.
 abbrev pub word_steps : (theirs most number at : ℕ) → List ℕ → List PortStep
 word_steps theirs most number at [] = []
 word_steps theirs most number at (word ∷ words) = read_step (theirs + data_place most number + at) word None ∷ word_steps theirs most number (at + 1) words
 
--- the number is below the one got last
+-- The number read is below the one got last.
 pub record RefusesSequence (from theirs last : ℕ) (steps : List PortStep) : Type 0 where
   pub value : ℕ
   pub below : value < last
   pub steps_are : steps ≡ read_step theirs value (Some (Refuse from Sequence value)) ∷ []
 
--- nothing was published, and nothing was got before
+-- The writer published nothing, and nothing was got before.
 pub record FindsNothing (from theirs last : ℕ) (steps : List PortStep) : Type 0 where
   pub none_before : last ≡ 0
   pub steps_are : steps ≡ read_step theirs 0 (Some (Nothing from)) ∷ []
 
--- the length is that of no message
+-- The length is out of range.
 pub record RefusesLength (from theirs most last : ℕ) (steps : List PortStep) : Type 0 where
   pub number : ℕ
   pub not_below : last ≤ number
@@ -55,8 +55,8 @@ pub record RefusesLength (from theirs most last : ℕ) (steps : List PortStep) :
   pub beyond : ¬ IsLength most bytes
   pub steps_are : steps ≡ read_step theirs number None ∷ read_step (theirs + length_place most number) bytes (Some (Refuse from Length bytes)) ∷ []
 
--- a message is read whole: its bytes are the first of those that its words gave, as many as the length; it is got where the number is the same at
--- the second look
+-- A message is read whole. Its bytes are the first of those that its words gave, and the length is
+-- their number. The message is got if the number is the same at the second look.
 pub record ReadsMessage (from theirs most last : ℕ) (steps : List PortStep) : Type 0 where
   pub number : ℕ
   pub not_below : last ≤ number
@@ -69,13 +69,13 @@ pub record ReadsMessage (from theirs most last : ℕ) (steps : List PortStep) : 
   pub steps_are : steps ≡ read_step theirs number None ∷ read_step (theirs + length_place most number) bytes None ∷
       (word_steps theirs most number 0 words ++ read_step theirs second (second_mark from number (frame_in bytes words) second) ∷ [])
 
--- a finished sample is one of these four lists
+-- A finished sample is one of these four lists.
 abbrev pub IsSample : (from theirs most last : ℕ) → List PortStep → Type 0
 IsSample from theirs most last steps =
     RefusesSequence from theirs last steps ⊎ (FindsNothing from theirs last steps
     ⊎ (RefusesLength from theirs most last steps ⊎ ReadsMessage from theirs most last steps))
 
--- a list of steps is a whole call exactly where it is one of these
+-- A list of steps is a whole call exactly if it is one of these.
 pub record CallsAreLists : Type 0 where
   pub published : (own most number : ℕ) (message : List ℕ) (steps : List PortStep) → Makes (publish own most number message) steps
       → steps ≡ publish_steps own most number message

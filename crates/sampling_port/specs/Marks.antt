@@ -1,11 +1,15 @@
--- What is marked on a step of a port.
+-- The marks of a port's steps.
 use Rattle.std.specs.Prelude.{ℕ, List, Option, option_map}
 use Rattle.sampling_port.specs.declared.notes.PortField.{PortField}
 use Rattle.sampling_port.specs.declared.notes.PortNote.{PortNote}
 use Rattle.sampling_port.specs.declared.notes.PortNote.TheVariants as note
 
--- a message published, by its number; and of the peer that is sampled: a message got whole, by its number and its bytes; nothing published yet; a sequence
--- that changed during the sample, from the first number to the second; a value refused
+-- The mark of a port's step.
+-- - `Publish`: a message published, by its number.
+-- - `Got`: a message of the peer sampled, got whole, by its number and bytes.
+-- - `Nothing`: the peer sampled has published nothing yet.
+-- - `Again`: its sequence changed during the sample, from the first number to the second.
+-- - `Refuse`: a value of its field was refused.
 pub data PortMark : Type 0 where
   Publish : (number : ℕ) → PortMark
   Got : (from number : ℕ) (message : List ℕ) → PortMark
@@ -13,7 +17,8 @@ pub data PortMark : Type 0 where
   Again : (from first second : ℕ) → PortMark
   Refuse : (from : ℕ) (field : PortField) (value : ℕ) → PortMark
 
--- the mark of a note; a port's note leaves out the peer that is sampled and the bytes of a message got, which are those of the message in hand
+-- The mark of a note. The note itself lacks the peer that is sampled and the bytes of a message
+-- got, which is the message in hand.
 abbrev pub mark_of : ℕ → List ℕ → PortNote → PortMark
 mark_of from message (note.Publish number) = Publish number
 mark_of from message (note.Got number) = Got from number message

@@ -1,20 +1,21 @@
--- The memory law: a read gives what was written last, and a peer writes where it may. Of lines so far the newest is the first.
+-- The memory law: a read returns the value written last, and a peer writes only where it may. Lines
+-- so far are listed newest first.
 use Rattle.std.specs.Prelude.{ℕ, ◌≡◌, ◌==◌, if◌then◌else◌, List, [], ◌∷◌}
 use Rattle.section_map.specs.Geometry.{Shape}
 use Rattle.section_map.specs.MayWrite.{MayWrite}
 use Rattle.sampling_port.specs.EventRecords.{Line, Read, Wrote, Denied}
 
--- what a word holds after a line, where it held this before
+-- The value of word `at` after a line, if its value was `before`.
 abbrev pub value_after : Line → ℕ → ℕ → ℕ
 value_after (Wrote peer word value) at before = if word == at then value else before
 value_after _ at before = before
 
--- what a word holds after these lines; it is 0 at the start
+-- The value of a word after these lines; it is 0 at the start.
 abbrev pub last_write : List Line → ℕ → ℕ
 last_write [] at = 0
 last_write (line ∷ older) at = value_after line at (last_write older at)
 
--- what the law asks of a line after the older ones
+-- The law for a line after the older ones.
 abbrev pub IsConsistent : Shape → Line → List Line → Type 0
 IsConsistent g (Read peer word value) older = value ≡ last_write older word
 IsConsistent g (Wrote peer word value) older = MayWrite g peer word

@@ -1,9 +1,9 @@
--- What the fields of a port are.
+-- The view of a port's fields.
 use Rattle.std.specs.Prelude.{◌≡◌, ◌≤◌, take, vec_len}
 use Rattle.sampling_port.specs.Views.{PortView, IsPort}
 use Rattle.sampling_port.specs.declared.port.Port.TheInside.{Inside}
 
--- the message in hand and the message got last are the first bytes of their buffers
+-- The view: the message in hand and the message got last are prefixes of their buffers.
 abbrev pub seen : Inside → PortView
 seen a = record {
   shape = a.geometry;
@@ -16,7 +16,7 @@ seen a = record {
   message = take a.received a.message.items;
 }
 
--- both buffers hold the longest message
+-- Both buffers have the length of the longest message.
 pub record IsWellFormed (a : Inside) : Type 0 where
   pub port : IsPort (seen a)
   pub hand : vec_len a.hand ≡ a.most

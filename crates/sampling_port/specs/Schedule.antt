@@ -4,30 +4,30 @@ use Rattle.std.specs.List.{flat_map}
 use Rattle.port_text.specs.declared.acts.Act.{Act}
 use Rattle.port_text.specs.declared.acts.Act.TheVariants as act
 
--- a call that a peer is told to make: the publish of a message, or a sample of a peer
+-- A call of a peer: the publish of a message, or a sample of a peer.
 pub data PortCall : Type 0 where
   Publish : (message : List ℕ) → PortCall
   Sample : (from : ℕ) → PortCall
 
--- what happens: a peer is told to make a call; it takes its turn; or it writes a word of its own accord
+-- An event: a call is queued for a peer, a peer takes its turn, or a hostile peer writes a word.
 pub data Event : Type 0 where
   CallQueued : (peer : ℕ) (call : PortCall) → Event
   TurnTaken : (peer : ℕ) → Event
   Poked : (peer word value : ℕ) → Event
 
--- whose event it is
+-- The peer of an event.
 abbrev pub event_peer : Event → ℕ
 event_peer (CallQueued peer call) = peer
 event_peer (TurnTaken peer) = peer
 event_peer (Poked peer word value) = peer
 
--- the events of an act; `turn P K` is K turns of P
+-- The events of an act; `turn P K` is K turns of P.
 abbrev pub events_of : Act → List Event
 events_of (act.Publish peer message) = CallQueued peer (Publish message) ∷ []
 events_of (act.Sample peer from) = CallQueued peer (Sample from) ∷ []
 events_of (act.Turn peer steps) = replicate steps (TurnTaken peer)
 events_of (act.Poke peer word value) = Poked peer word value ∷ []
 
--- the events of a schedule
+-- The events of a schedule.
 abbrev pub schedule : List Act → List Event
 schedule acts = flat_map events_of acts

@@ -1,4 +1,4 @@
--- What the simulator keeps: its region, its record and its peer states stand for a moment of the history.
+-- What the simulator represents: its region, its record and its peer states refine a history state.
 use Rattle.std.specs.Prelude.{ℕ, ◌≡◌, ◌+◌, ◌≤◌, ◌<◌, Some, List, [], ◌∷◌, ◌++◌, length, map, replicate, reverse, slice_get, slice_index}
 use Rattle.std.specs.List.{AllByRecursion}
 use Rattle.section_map.specs.Geometry.{Shape, word_count}
@@ -21,20 +21,20 @@ use Rattle.sampling_port.specs.Memory.{last_write}
 use Rattle.sampling_port.specs.Record.{text_of_lines}
 use Rattle.sampling_port.specs.History.{PeerState, initial_state, moment_of}
 
--- the call that waits
+-- The call of the grammar that a waiting call is.
 abbrev pub call_of : Call → PortCall
 call_of (waiting.Publish message) = Publish message
 call_of (waiting.Sample from) = Sample from
 
--- a peer state as the computed history keeps it
+-- The peer state of the computed history that a peer state refines.
 abbrev pub seat_of : sits.PeerState → PeerState
 seat_of peer_state = record { port = peer_state.port; waiting = map call_of peer_state.waiting.items }
 
--- each word is what was written last, of lines with the newest first
+-- Each word has the value written last; the lines are listed newest first.
 abbrev pub Holds : List ℕ → List Line → Type 0
 Holds words past = (word : ℕ) → word < length words → slice_index words word ≡ last_write past word
 
--- the record has these lines after what stands in front of them
+-- The record has these lines after the text `front`.
 pub record RecordAfter (front : List ℕ) (past : List Line) (told : kept.Record) : Type 0 where
   pub text : told.text.items ≡ front ++ text_of_lines (reverse past)
   pub count : told.count ≡ length past
@@ -43,24 +43,24 @@ pub record WorldStateAfter (front : List ℕ) (past : List Line) (world_state : 
   pub words : Holds world_state.region.words past
   pub told : RecordAfter front past world_state.told
 
--- a step of a port reads a word of the region, or writes one that its peer may write
+-- A step of a port reads a word of the region, or writes one that its peer may write.
 abbrev pub CanPerform : Shape → ℕ → Access → Type 0
 CanPerform g me (access.Read word) = word < word_count g
 CanPerform g me (access.Write word value) = MayWrite g me word
 CanPerform g me _ = ⊥
 
--- a call that a port may be given
+-- The calls that a port may make.
 abbrev pub IsPermittedCall : World → PortCall → Type 0
 IsPermittedCall world (Publish message) = (1 ≤ length message) × (length message ≤ world.most)
 IsPermittedCall world (Sample from) = from < world.geometry.peers
 
--- the event is of a peer of the world, and the call is one that it may be given
+-- The event is of a peer of the world, and its call is one that the port may make.
 abbrev pub IsPermittedEvent : World → Event → Type 0
 IsPermittedEvent world (CallQueued peer call) = (peer < world.geometry.peers) × IsPermittedCall world call
 IsPermittedEvent world (TurnTaken peer) = peer < world.geometry.peers
 IsPermittedEvent world (Poked peer word value) = peer < world.geometry.peers
 
--- the simulator is at the moment to which these events lead
+-- The simulator refines the history state after these events.
 pub record RunsTo (world : World) (front : List ℕ) (events : List Event) (simulator : Simulator) : Type 0 where
   pub is_world : IsWorld world
   pub there : AllByRecursion (IsPermittedEvent world) events
@@ -70,37 +70,41 @@ pub record RunsTo (world : World) (front : List ℕ) (events : List Event) (simu
   pub count : length simulator.peer_states.items ≡ world.geometry.peers
   pub peer_states : (p : ℕ) (peer_state : sits.PeerState) → slice_get simulator.peer_states.items p ≡ Some peer_state → seat_of peer_state ≡ (moment_of world events).peer_states p
 
--- so many peer states at the start
+-- `count` initial peer states.
 pub record AreAtStart (world : World) (count : ℕ) (peer_states : List sits.PeerState) : Type 0 where
   pub length_is : length peer_states ≡ count
   pub fresh : (p : ℕ) (peer_state : sits.PeerState) → slice_get peer_states p ≡ Some peer_state → seat_of peer_state ≡ (initial_state world).peer_states p
 
--- the event happens: from where any events led, the simulator goes on to where they lead with this one after them
+-- The event happens: if the simulator refines the state after any events, the new one refines the
+-- state after them and this event.
 abbrev pub Happens : Event → Simulator → Simulator → Type 0
 Happens event old new = (world : World) (front : List ℕ) (events : List Event) → IsPermittedEvent world event → length events < 4000000
     → RunsTo world front events old → RunsTo world front (events ++ event ∷ []) new
 
--- what the act asks for happens
+-- The events of the act happen.
 abbrev pub Plays : Act → Simulator → Simulator → Type 0
 Plays act old new = (world : World) (front : List ℕ) (events : List Event) → IsAllowed world act → length events + cost act ≤ 4000000
     → RunsTo world front events old → RunsTo world front (events ++ events_of act) new
 
--- some events led the simulator here, in a world that has the peer, and so many more may happen
+-- The simulator refines the state after some events, in a world that has the peer, and `more`
+-- further events may happen.
 abbrev pub IsRunning : Simulator → (peer more : ℕ) → Type 0
 IsRunning simulator peer more = (world : World) × (front : List ℕ) × (events : List Event) × RunsTo world front events simulator
     × (peer < world.geometry.peers) × (length events + more ≤ 4000000)
 
--- so many turns of the peer happen
+-- `steps` turns of the peer happen.
 abbrev pub Turns : (peer steps : ℕ) → Simulator → Simulator → Type 0
 Turns peer steps old new = (world : World) (front : List ℕ) (events : List Event) → IsPermittedEvent world (TurnTaken peer) → length events + steps ≤ 4000000
     → RunsTo world front events old → RunsTo world front (events ++ replicate steps (TurnTaken peer)) new
 
--- some events led the simulator here, in a world in which the act is allowed, and what it counts for may happen
+-- The simulator refines the state after some events, in a world that allows the act, and the act's
+-- events may happen.
 abbrev pub MayPlay : Simulator → Act → Type 0
 MayPlay simulator act = (world : World) × (front : List ℕ) × (events : List Event) × RunsTo world front events simulator × IsAllowed world act
     × (length events + cost act ≤ 4000000)
 
--- what a peer state needs for its next turn: its port is one of the region, and what waits may be given to it
+-- What a peer's next turn requires: its port is one of the region, and it may make the calls that
+-- wait.
 pub record IsReady (world : World) (me : ℕ) (peer_state : PeerState) : Type 0 where
   pub port : IsPort peer_state.port
   pub shape : peer_state.port.shape ≡ world.geometry

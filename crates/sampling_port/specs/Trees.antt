@@ -1,4 +1,4 @@
--- A call of a port as a tree of steps, of the same kind as the calls of a link's end: only its marks are others.
+-- A call of a port as a tree of steps, like the calls of a link's end. Only its marks differ.
 use Rattle.std.specs.Prelude.{ℕ, ◌≡◌, Option, List, [], ◌∷◌}
 use Rattle.split_ring.specs.declared.steps.Access.{Access}
 use Rattle.split_ring.specs.declared.steps.Access.TheVariants.{Read}
@@ -6,7 +6,7 @@ use Rattle.call_grammar.specs.Steps.{Step, value_given}
 use Rattle.call_grammar.specs.Trees as call
 use Rattle.sampling_port.specs.Marks.{PortMark}
 
--- one step: the access, the value that it gave, and its mark, if it has one
+-- One step: the access, the value read, and its mark if it has one.
 pub record PortStep : Type 0 where
   pub access : Access
   pub value : ℕ
@@ -15,19 +15,20 @@ pub record PortStep : Type 0 where
 abbrev pub port_step : Access → ℕ → Option PortMark → PortStep
 port_step a value mark = record { access = a; value = value_given a value; mark = mark }
 
--- what is left of a call: nothing; an access with its mark, and what follows; a read of a word, and for each value that it may give the mark and what follows
+-- What is left of a call: nothing, an access with its mark and the rest, or a read of a word. A
+-- read has a mark and a rest for each value.
 pub data PortTree : Type 0 where
   Ended : PortTree
   Does : (access : Access) (mark : Option PortMark) (rest : PortTree) → PortTree
   Reads : (word : ℕ) (mark : ℕ → Option PortMark) (rest : ℕ → PortTree) → PortTree
 
--- the call goes on by this step, and this is left of it then
+-- The call goes on by this step, and the second tree is left of it.
 abbrev pub Goes : PortTree → PortStep → PortTree → Type 0
 Goes Ended step new = ⊥
 Goes (Does access mark rest) step new = (step ≡ port_step access 0 mark) × (new ≡ rest)
 Goes (Reads word mark rest) step new = (value : ℕ) × (step ≡ port_step (Read word) value (mark value)) × (new ≡ rest value)
 
--- these steps are the whole call, whatever its reads gave
+-- These steps are the whole call, for the values that its reads gave.
 abbrev pub Makes : PortTree → List PortStep → Type 0
 Makes Ended steps = steps ≡ []
 Makes (Does access mark rest) [] = ⊥
@@ -35,7 +36,7 @@ Makes (Does access mark rest) (step ∷ steps) = (step ≡ port_step access 0 ma
 Makes (Reads word mark rest) [] = ⊥
 Makes (Reads word mark rest) (step ∷ steps) = (value : ℕ) × (step ≡ port_step (Read word) value (mark value)) × Makes (rest value) steps
 
--- the same call without its marks, as a call of the link is one
+-- The same call without its marks, as a call of the link.
 abbrev pub unmarked : PortTree → call.CallTree
 unmarked Ended = call.Ended
 unmarked (Does access mark rest) = call.Does access [] (unmarked rest)

@@ -1,4 +1,4 @@
--- A port, as contracts see it, and what a step does to it.
+-- A port as contracts see it, and the effect of a step on it.
 use Rattle.std.specs.Prelude.{ℕ, zero, suc, ◌≡◌, ◌+◌, ◌*◌, ◌^◌, ◌<◌, ◌≤◌, ◌==◌, nat_lt, if◌then◌else◌, Bool, true, false, Option, Some, None, List, [], ◌++◌, length, take, replicate, slice_index, slice_set}
 use Rattle.section_map.specs.Geometry.{Shape, IsShape, section_start}
 use Rattle.split_ring.specs.declared.steps.Access.{Access}
@@ -13,8 +13,10 @@ use Rattle.sampling_port.specs.Layout.{IsMessageSize, port_words, length_place, 
 use Rattle.sampling_port.specs.Trees.{PortTree, Ended}
 use Rattle.sampling_port.specs.Calls.{publish, write_words, write_sequence, sample, read_length, read_words, look_again, is_length}
 
--- the sizes of the region, whose port it is, the most bytes of a message; how many messages it published, and the number got last of each peer, or 0; the place
--- in the open call; the bytes of the message that it publishes, or those read so far of one that it samples; and the message got last
+-- The sizes of the region, the port's peer, and the most bytes of a message. The number of messages
+-- published, and the number of the last message got from each peer, or 0. The place in the open
+-- call. The bytes of the message in hand: the one that the port publishes, or those read so far of
+-- the one that it samples. The message got last.
 pub record PortView : Type 0 where
   pub shape : Shape
   pub me : ℕ
@@ -25,7 +27,7 @@ pub record PortView : Type 0 where
   pub hand : List ℕ
   pub message : List ℕ
 
--- the peer that is sampled at a place; a publish samples nobody
+-- The peer that is sampled at a place, or 0 in a publish.
 abbrev pub from_at : Place → ℕ
 from_at (AtSequence from) = from
 from_at (AtLength from sequence) = from
@@ -33,11 +35,11 @@ from_at (AtWord from sequence bytes at more) = from
 from_at (AtSecond from sequence) = from
 from_at _ = 0
 
--- a port of these numbers that did nothing yet
+-- The initial port of these numbers.
 abbrev pub fresh_port : Shape → (me most : ℕ) → PortView
 fresh_port shape me most = record { shape = shape; me = me; most = most; published = 0; lasts = replicate 8 0; place = Closed; hand = []; message = [] }
 
--- a call is open
+-- A call is open.
 abbrev pub is_open : Place → Bool
 is_open Closed = false
 is_open _ = true
@@ -45,14 +47,14 @@ is_open _ = true
 abbrev pub is_busy : PortView → Bool
 is_busy port = is_open port.place
 
--- the first word of its own section, and of another's
+-- The first word of the port's own section, and of another peer's.
 abbrev pub own : PortView → ℕ
 own port = section_start port.shape port.me
 
 abbrev pub theirs : PortView → ℕ → ℕ
 theirs port from = section_start port.shape from
 
--- What opens a call
+-- The opening of a call
 
 abbrev pub publishing : PortView → List ℕ → PortView
 publishing port message = record port { place = WritingLength; hand = message }
@@ -80,7 +82,7 @@ access_at port (AtLength from sequence) = access.Read (theirs port from + length
 access_at port (AtWord from sequence bytes at more) = access.Read (theirs port from + data_place port.most sequence + at)
 access_at port (AtSecond from sequence) = access.Read (theirs port from)
 
--- the note of a step that met this value
+-- The note of a step that read this value.
 abbrev pub note_at : PortView → Place → ℕ → Option PortNote
 note_at port WritingSequence value = Some (note.Publish (port.published + 1))
 note_at port (AtSequence from) value =
@@ -89,15 +91,15 @@ note_at port (AtLength from sequence) value = if is_length port.most value then 
 note_at port (AtSecond from sequence) value = if value == sequence then Some (note.Got sequence) else Some (note.Again sequence value)
 note_at port _ value = None
 
--- the call is over
+-- The port after the end of the call.
 abbrev pub closed : PortView → PortView
 closed port = record port { place = Closed; hand = [] }
 
--- the message in hand is the one with this number of this peer
+-- The port after the message in hand was got, with this number, from this peer.
 abbrev pub got : PortView → (from sequence : ℕ) → PortView
 got port from sequence = record port { lasts = slice_set port.lasts from sequence; place = Closed; hand = []; message = port.hand }
 
--- the port after that step
+-- The port after that step.
 abbrev pub port_after : PortView → Place → ℕ → PortView
 port_after port Closed value = port
 port_after port WritingLength value = record port { place = writing_place 0 (words_for (length port.hand)) }
@@ -116,7 +118,7 @@ port_after port (AtWord from sequence bytes at more) value = record port {
 }
 port_after port (AtSecond from sequence) value = if value == sequence then got port from sequence else closed port
 
--- the numbers that were handed in stay
+-- The fixed parameters of the port don't change.
 pub record KeepsNumbers (old new : PortView) : Type 0 where
   pub shape : new.shape ≡ old.shape
   pub me : new.me ≡ old.me
@@ -137,9 +139,9 @@ left_at port (AtSecond from sequence) = look_again from (theirs port from) seque
 abbrev pub left : PortView → PortTree
 left port = left_at port port.place
 
--- What every port keeps
+-- What holds of every port
 
--- what holds at a place of its call
+-- What holds at a place of the open call.
 abbrev pub IsPlace : PortView → Place → Type 0
 IsPlace port Closed = Unit {0}
 IsPlace port WritingLength = (1 ≤ length port.hand) × (port.published + 1 < 2 ^ 32)

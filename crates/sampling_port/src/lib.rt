@@ -1,8 +1,11 @@
-//! Sampling ports (profile): each peer publishes its latest message in its own output section, and every peer may sample it; nobody
-//! waits. It stands on `section_map` for the sections, on `split_ring` and `call_grammar` for accesses and steps, and on `port_text` for
-//! schedules. A port makes no access itself: `next` tells the access and `took` takes what it gave. The contracts promise that each
-//! publish and each sample of a port is a call of `specs/Calls`, over any values handed to `took`, and that `ports` gives the one lawful
-//! history of a schedule.
+//! Sampling ports (profile): each peer publishes its latest message in its own output section, and
+//! every peer may sample it. No peer waits for another.
+//!
+//! The crate uses `section_map` for the sections, `split_ring` and `call_grammar` for accesses and
+//! steps, and `port_text` for schedules. A port performs no access. `next` returns the next access;
+//! the caller performs it and passes the value read to `took`. The contracts promise that each
+//! publish and each sample of a port is a call of `specs/Calls`, for all values handed to `took`.
+//! They promise too that `ports` returns the one lawful history of a schedule.
 #![tactic(auto)]
 
 mod laws;

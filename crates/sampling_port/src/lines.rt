@@ -8,7 +8,7 @@ use crate::notes::PortField;
 use line_format::{FieldKind, put_line};
 use std::alloc::AllocError;
 
-/// A form of a record's lines. Two words at one place are two forms.
+/// A form of a record's lines. Two words at one position make two forms.
 #[derive(Clone, Copy, Debug, PartialEq, Eq)]
 pub enum Form {
     /// `portrecord 1`
@@ -42,7 +42,7 @@ const ANY: FieldKind = FieldKind::Number(0, u64::MAX);
 const U32: FieldKind = FieldKind::Number(0, u32::MAX as u64);
 
 impl Form {
-    /// The form of the line of a refusal.
+    /// Returns the form of the line of a refusal.
     pub fn of_refusal(field: PortField) -> Form
         ensures { result ≡ refusal_form field }
     {
@@ -52,7 +52,7 @@ impl Form {
         }
     }
 
-    /// What stands in the fields of the form.
+    /// Returns the fields of the form.
     pub fn slots(self) -> &'static [FieldKind]
         ensures { pieces result.now ≡ pieces_of_line self }
     {
@@ -83,7 +83,7 @@ impl Form {
     }
 }
 
-/// Puts the line of a form last.
+/// Appends the line of a form.
 #[tactic(auto, unfolding(line_format::specs::Rows::line_of_row))]
 pub fn put(out: &mut Vec<u8>, form: Form, numbers: &[u64], bytes: &[u8]) -> Result<(), AllocError>
     ensures { OnOk result (out.new.items ≡ out.old.items ++ line_of_row pieces_of_line (row form numbers.now bytes.now)) }

@@ -1,4 +1,4 @@
-//! The peer state of a peer: its port and the calls that wait for it.
+//! The state of one peer: its port and the calls that wait for it.
 ghost use Rattle.std.specs.Prelude.{◌≡◌, ℕ, ◌<◌, ◌^◌, List, [], ◌∷◌, ◌++◌, OnOk, true, false, reverse};
 ghost use Rattle.port_text.specs.Scenario.{World, IsWorld};
 ghost use Rattle.sampling_port.specs.Views.{IsPort, is_busy, port_after};
@@ -23,7 +23,7 @@ pub enum Call {
     Sample(u32),
 }
 
-/// A port, and the calls that it is to make.
+/// A port, and the calls that it makes next.
 #[derive(Drop)]
 pub struct PeerState {
     pub port: Port,
@@ -43,7 +43,7 @@ fn open(port: &mut Port, call: Call)
     }
 }
 
-/// Opens the oldest call that waits, where none is open.
+/// Opens the oldest call that waits, if no call is open.
 fn open_next(peer_state: &mut PeerState)
     requires { (world : World) × (me : ℕ) × IsReady world me (seat_of peer_state.old) }
     ensures { seat_of peer_state.new ≡ opened (seat_of peer_state.old) }
@@ -56,7 +56,7 @@ fn open_next(peer_state: &mut PeerState)
     }
 }
 
-/// The next step of the open call.
+/// Makes the next step of the open call.
 fn step(me: u32, port: &mut Port, world_state: &mut WorldState) -> Result<(), NoMemory>
     requires port { IsPort port.old }
     requires busy { is_busy port.old ≡ true }
@@ -76,7 +76,7 @@ fn step(me: u32, port: &mut Port, world_state: &mut WorldState) -> Result<(), No
     }
 }
 
-/// A turn of the peer of a peer state.
+/// Takes a turn of the peer.
 pub fn turn(
     me: u32,
     peer_state: &mut PeerState,

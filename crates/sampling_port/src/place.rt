@@ -1,12 +1,14 @@
-//! Where an open publish or sample is.
+//! The place of an open publish or sample.
 ghost use Rattle.std.specs.Prelude.{◌≡◌};
 ghost use Rattle.sampling_port.specs.Views.{writing_place, reading_place};
 
-/// The place of a call between two steps, before the access that it is named after. `at` counts the words of the message, `more` how
-/// many come after the one at hand; `bytes` are those of the message.
+/// The place of a call between two steps, before the access that it is named after. `at` is the
+/// number of a word of the message, and `more` the number of words after it. `bytes` is the length
+/// of the message in bytes.
 ///
-/// The sequence comes last in a publish, since a sampler reads the message once it has seen its number; it is read again at the end
-/// of a sample, since a number that stayed says that nobody wrote the buffer.
+/// A publish writes the sequence last, since a sampler reads the message once it has read its
+/// number. A sample reads it again at its end: if the number hasn't changed, the buffer wasn't
+/// written in between.
 #[derive(Clone, Copy, Debug)]
 pub enum Place {
     /// No call is open.
@@ -44,7 +46,7 @@ pub enum Place {
     },
 }
 
-/// Where a publish writes next, with so many words of its message to come.
+/// Returns the place of a publish before word `at`, with `count` words of its message to write.
 pub fn writing_place(at: u32, count: u32) -> Place
     ensures { result ≡ writing_place at count }
 {
@@ -57,7 +59,7 @@ pub fn writing_place(at: u32, count: u32) -> Place
     }
 }
 
-/// Where a sample reads next, with so many words of its message to come.
+/// Returns the place of a sample before word `at`, with `count` words of its message to read.
 pub fn reading_place(from: u32, sequence: u32, bytes: u32, at: u32, count: u32) -> Place
     ensures { result ≡ reading_place from sequence bytes at count }
 {

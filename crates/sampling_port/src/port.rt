@@ -1,4 +1,4 @@
-//! A port: it publishes messages in the own section, and samples those of others.
+//! A port: it publishes messages in its own section and samples those of others.
 ghost use Rattle.std.specs.Prelude.{ℕ, ◌≡◌, ◌+◌, ◌-◌, ◌*◌, ◌/◌, ◌^◌, ◌<◌, ◌≤◌, ◌++◌, IfOk, IfErr, true, false, length, min, take, slice_index};
 ghost use Rattle.call_grammar.specs.Words.{words_for, frame_word, word_bytes};
 ghost use Rattle.section_map.specs.Geometry.{section_start};
@@ -14,13 +14,15 @@ use split_ring::steps::Access;
 use std::alloc::Global;
 use std::marker::Model;
 
-/// The bytes of the longest message that a port may have.
+/// The length of the longest message that a port may have, in bytes.
 const LONGEST: u32 = 65_536;
 
-/// The port of one peer. It keeps how many messages it published, the number got last of each peer, its place in the open call, and two
-/// buffers: the message in hand, which it publishes or has read so far, and the message got last.
+/// The port of one peer. It holds the number of messages that it published, the number of the last
+/// message got from each peer, and its place in the open call. It has two buffers: the message in
+/// hand, which it publishes or has read so far, and the message got last.
 ///
-/// It makes no access itself: `next` says which one comes, and `took` is handed what it gave. After `new` no call answers NoMemory.
+/// A port performs no access: `next` returns the next one, and `took` receives the value read.
+/// No call after `new` returns `NoMemory`.
 #[derive(Debug, Drop)]
 pub struct Port {
     geometry: Geometry,
@@ -46,7 +48,7 @@ impl Model for Port {
     ghost invariant = { IsWellFormed };
 }
 
-/// Copies a message to the front of the buffer.
+/// Copies a message to the start of the buffer.
 fn put_first(buffer: &mut [u8], message: &[u8])
     requires { length message.now ≤ length buffer.old }
     ensures { take (length message.now) buffer.new ≡ message.now }
@@ -54,7 +56,8 @@ fn put_first(buffer: &mut [u8], message: &[u8])
     buffer[..message.len()].copy_from_slice(message);
 }
 
-/// Puts word `at` of a message of so many bytes to its place in the buffer: its four bytes, or the last ones of the message.
+/// Writes word `at` of a message of `bytes` bytes to its offset in the buffer: four bytes, or the
+/// last ones of the message.
 fn put_word(buffer: &mut [u8], bytes: usize, at: usize, word: u32)
     requires within { 4 * at < bytes }
     requires room { bytes ≤ length buffer.old }
@@ -66,10 +69,12 @@ fn put_word(buffer: &mut [u8], bytes: usize, at: usize, word: u32)
 }
 
 impl Port {
-    /// The port of peer `me` for messages of at most `message` bytes, in a region of this geometry.
+    /// Returns the port of peer `me` for messages of at most `message` bytes, in a region of this
+    /// geometry.
     ///
-    /// BadMessage comes exactly where `message` isn't a multiple of 4 from 4 to 65,536, and else TooSmall exactly where two messages
-    /// of that many bytes, with their lengths and the sequence, don't fit into a section.
+    /// Returns `BadMessage` exactly if `message` isn't a multiple of 4 from 4 to 65,536. Otherwise
+    /// returns `TooSmall` exactly if two messages of `message` bytes, with their lengths and the
+    /// sequence, don't fit into a section.
     pub fn new(alloc: Global, me: u32, geometry: &Geometry, message: u32) -> Result<Port, PortFault>
         requires few { geometry.now.peers ≤ 8 }
         requires me { me < geometry.now.peers }
@@ -99,7 +104,7 @@ impl Port {
         })
     }
 
-    /// Is a call open?
+    /// Whether a call is open.
     pub fn busy(&self) -> bool
         ensures value { result ≡ is_busy self.now }
         ensures kept { IsPort self.now }
@@ -107,14 +112,14 @@ impl Port {
         !matches!(self.place, Place::Closed)
     }
 
-    /// How many messages were published: the number of the last one.
+    /// Returns the number of messages published, which is the number of the last one.
     pub fn published(&self) -> u32
         ensures { result ≡ self.now.published }
     {
         self.published
     }
 
-    /// The number of the message that was got last of this peer, or 0.
+    /// Returns the number of the last message got from the peer `from`, or 0.
     pub fn last(&self, from: u32) -> u32
         requires { from < self.now.shape.peers }
         ensures { result ≡ slice_index self.now.lasts from }
@@ -122,14 +127,15 @@ impl Port {
         self.lasts[from as usize]
     }
 
-    /// The bytes of the message that was got last, of any peer; none before the first.
+    /// Returns the bytes of the message got last, from any peer. They are empty before the first
+    /// one.
     pub fn message(&self) -> &[u8]
         ensures { result.now ≡ self.now.message }
     {
         &self.message[..self.received as usize]
     }
 
-    /// The peer that the open call samples; a publish samples nobody.
+    /// Returns the peer that the open call samples, or 0 for a publish.
     pub(crate) fn sampled(&self) -> u32
         ensures { result ≡ from_at self.now.place }
     {
@@ -143,6 +149,9 @@ impl Port {
     }
 
     /// Opens the publish of a message, which is copied.
+    // claim value with Port::sample.value, Port::new.value, Port::new.made, Port::new.fault,
+    //    Port::busy.value, Port::published, Port::last, Port::message: A port begins a publication
+    //    or a sample exactly if it is idle. A port is made exactly if its sizes fit the section.
     pub fn publish(&mut self, bytes: &[u8])
         requires idle { is_busy self.old ≡ false }
         requires some { 1 ≤ length bytes.now }
@@ -155,7 +164,7 @@ impl Port {
         self.place = Place::WritingLength;
     }
 
-    /// Opens a sample of this peer, which may be the own one.
+    /// Opens a sample of the peer `from`, which may be the port's own peer.
     pub fn sample(&mut self, from: u32)
         requires idle { is_busy self.old ≡ false }
         requires peer { from < self.old.shape.peers }
@@ -164,7 +173,9 @@ impl Port {
         self.place = Place::AtSequence { from };
     }
 
-    /// The next access of the open call.
+    /// Returns the next access of the open call.
+    // claim reach with calls_stay_in_reach: A call writes its own section alone, and reads the
+    //    section of the sampled peer alone.
     pub fn next(&self) -> Access
         requires { is_busy self.now ≡ true }
         ensures access { result ≡ access_at self.now self.now.place }
@@ -197,7 +208,11 @@ impl Port {
         }
     }
 
-    /// Takes the step of the access that `next` told, and gives its note. `value` is what a read gave; a write makes no use of it.
+    /// Completes the access that `next` returned, and returns the note of the step. `value` is the
+    /// value read; a write ignores it.
+    // claim note, value, kept with Port::next.access, Port::busy.kept: Each step is that of the
+    //    table: the message is written before its number, and a sample ends with a message,
+    //    nothing, a changed number, or a refused field.
     pub fn took(&mut self, value: u32) -> Option<PortNote>
         requires { is_busy self.old ≡ true }
         ensures note { result ≡ note_at self.old self.old.place value }
@@ -234,9 +249,9 @@ impl Port {
     }
 }
 
-/// The words of a port.
+/// Offsets of a port's words.
 impl Port {
-    /// The first word of the own section.
+    /// Returns the first word of the port's own section.
     fn own_start(&self) -> u32
         ensures value { result ≡ section_start self.now.shape self.now.me }
         ensures within { result + self.now.shape.out ≤ 4194304 }
@@ -244,7 +259,7 @@ impl Port {
         self.geometry.section_start(self.me)
     }
 
-    /// The first word of a peer's section.
+    /// Returns the first word of a peer's section.
     fn start_of(&self, peer: u32) -> u32
         requires { peer < self.now.shape.peers }
         ensures value { result ≡ section_start self.now.shape peer }
@@ -253,7 +268,8 @@ impl Port {
         self.geometry.section_start(peer)
     }
 
-    /// The word of the length of the message with this number, from the section's start.
+    /// Returns the offset of the length of the message with this number, in words from the
+    /// section's start.
     fn length_place(&self, number: u32) -> u32
         ensures value { result ≡ length_place self.now.most number }
         ensures small { result ≤ 16386 }
@@ -265,14 +281,14 @@ impl Port {
         }
     }
 
-    /// The first word of its data.
+    /// Returns the offset of the first data word of the message with this number, in words.
     fn data_place(&self, number: u32) -> u32
         ensures { result ≡ data_place self.now.most number }
     {
         self.length_place(number) + 1
     }
 
-    /// Word `at` of the message in hand: bytes after its last are 0.
+    /// Returns word `at` of the message in hand; bytes after the last one are 0.
     fn hand_word(&self, at: u32) -> u32
         requires { at < words_for (length self.now.hand) }
         ensures { result ≡ frame_word self.now.hand at }
@@ -285,7 +301,7 @@ impl Port {
 
 /// The steps of a sample, one for each place.
 impl Port {
-    /// The call is over.
+    /// Ends the call.
     fn close(&mut self)
         ensures { self.new ≡ closed self.old }
     {
@@ -293,7 +309,7 @@ impl Port {
         self.filled = 0;
     }
 
-    /// The first read of the sequence.
+    /// Completes the first read of the sequence.
     fn took_sequence(&mut self, from: u32, value: u32) -> Option<PortNote>
         requires { self.old.place ≡ Place.AtSequence from }
         ensures note { result ≡ note_at self.old self.old.place value }
@@ -318,7 +334,7 @@ impl Port {
         None
     }
 
-    /// The read of the length, which is read once.
+    /// Completes the read of the length, the only one.
     fn took_length(&mut self, from: u32, sequence: u32, value: u32) -> Option<PortNote>
         requires { self.old.place ≡ Place.AtLength from sequence }
         ensures note { result ≡ note_at self.old self.old.place value }
@@ -337,7 +353,7 @@ impl Port {
         None
     }
 
-    /// The read of a word of the message.
+    /// Completes the read of a word of the message.
     fn took_word(
         &mut self,
         from: u32,
@@ -358,7 +374,8 @@ impl Port {
         None
     }
 
-    /// The second read of the sequence: where it stayed, nobody wrote into the buffer since the first.
+    /// Completes the second read of the sequence. If it hasn't changed, the buffer wasn't written
+    /// since the first read.
     fn took_second(&mut self, from: u32, sequence: u32, value: u32) -> Option<PortNote>
         requires { self.old.place ≡ Place.AtSecond from sequence }
         ensures note { result ≡ note_at self.old self.old.place value }

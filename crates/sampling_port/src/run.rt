@@ -16,7 +16,7 @@ use ivs_base::NoMemory;
 use port_text::{PortsFault, Scenario, parse, put_scenario};
 use std::alloc::Global;
 
-/// The record of a schedule.
+/// Returns the record of a schedule.
 fn record(alloc: Global, scenario: &Scenario) -> Result<Vec<u8>, NoMemory>
     ensures { IfOk result (λ text. text.items ≡ record_of (world_of scenario.now) (history (world_of scenario.now))) }
 {
@@ -32,14 +32,17 @@ fn record(alloc: Global, scenario: &Scenario) -> Result<Vec<u8>, NoMemory>
     Ok(text)
 }
 
-/// The record of the schedule that a text spells: the text, and the one history that its schedule has. Else the first fault of the text.
-/// NoMemory says that memory ran out.
+/// Returns the record of the schedule that a text spells: the text, and the one lawful history of
+/// its schedule. Otherwise returns the first fault of the text. Returns `NoMemory` if an allocation
+/// fails.
+// claim found, only, fault: A text that spells a schedule gives that text with the one lawful
+//    history of the schedule, or NoMemory. Another text is refused by its first fault.
 pub fn ports(alloc: Global, bytes: &[u8]) -> Result<Vec<u8>, PortsFault>
-    // What is given is the text read, with the lawful history of its schedule.
+    // The result is the text read, with the lawful history of its schedule.
     ensures found { IfOk result (λ text. IsRecord bytes.now text.items) }
-    // A text that spells a schedule is refused for want of memory alone.
+    // For a text that spells a schedule the one fault is a failed allocation.
     ensures only { (w : World) → IsSpelling w bytes.now → IfErr result (λ fault. fault ≡ OutOfMemory) }
-    // Which fault it is.
+    // The fault that is returned.
     ensures fault { IfErr result (λ fault. Refuses fault (answer bytes.now)) }
 {
     history_is_lawful();

@@ -1,4 +1,4 @@
-//! The simulator: the region, the record and the peer states of all peers, event by event.
+//! The simulator: the region, the record and the states of all peers, event by event.
 ghost use Rattle.std.specs.Prelude.{◌≡◌, ℕ, ◌+◌, ◌<◌, ◌≤◌, List, [], ◌∷◌, ◌++◌, OnOk, IfOk, length, replicate, reverse};
 ghost use Rattle.port_text.specs.Scenario.{World, IsAllowed};
 ghost use Rattle.port_text.specs.Spelling.{world_of};
@@ -17,14 +17,14 @@ use section_map::Region;
 use std::alloc::Global;
 use std::collections::VecDeque;
 
-/// A world state, and the peer state of each peer, from peer 0.
+/// A world state, and the state of each peer, from peer 0.
 #[derive(Drop)]
 pub struct Simulator {
     pub world_state: WorldState,
     pub peer_states: Vec<PeerState>,
 }
 
-/// The peer states of all peers, of which no port did anything yet. A hostile peer's port is told nothing.
+/// Returns the initial states of all peers. A hostile peer has a port too, which gets no call.
 fn seats_of(alloc: Global, scenario: &Scenario) -> Result<Vec<PeerState>, NoMemory>
     ensures { IfOk result (λ peer_states. AreAtStart (world_of scenario.now) scenario.now.geometry.peers peer_states.items) }
 {
@@ -41,7 +41,7 @@ fn seats_of(alloc: Global, scenario: &Scenario) -> Result<Vec<PeerState>, NoMemo
 }
 
 impl Simulator {
-    /// The simulator on which nothing has happened, with a record that has no line of the history yet.
+    /// Returns the initial simulator, whose record holds `text` and no line of the history.
     pub fn new(alloc: Global, scenario: &Scenario, text: Vec<u8>) -> Result<Simulator, NoMemory>
         ensures { IfOk result (λ simulator. RunsTo (world_of scenario.now) text.items [] simulator) }
     {
@@ -54,7 +54,7 @@ impl Simulator {
         })
     }
 
-    /// Tells a peer to make a call.
+    /// Queues a call of a peer.
     fn ask(&mut self, peer: u32, call: Call) -> Result<(), NoMemory>
         requires { peer < length self.old.peer_states.items }
         ensures { OnOk result (Happens (CallQueued peer (call_of call)) self.old self.new) }
@@ -63,7 +63,7 @@ impl Simulator {
         Ok(())
     }
 
-    /// One turn of a peer.
+    /// Takes one turn of a peer.
     fn turn(&mut self, peer: u32) -> Result<(), NoMemory>
         requires { IsRunning self.old peer 1 }
         ensures { OnOk result (Happens (TurnTaken peer) self.old self.new) }
@@ -75,7 +75,7 @@ impl Simulator {
         )
     }
 
-    /// So many turns of a peer.
+    /// Takes `steps` turns of a peer.
     fn turns(&mut self, peer: u32, steps: u32) -> Result<(), NoMemory>
         requires { IsRunning self.old peer steps }
         ensures { OnOk result (Turns peer steps self.old self.new) }
@@ -86,7 +86,7 @@ impl Simulator {
         Ok(())
     }
 
-    /// A write of a peer's own accord; where it may not write the word, it is denied.
+    /// Writes a word for a hostile peer, or denies the write if the peer may not write the word.
     fn poke(&mut self, peer: u32, word: u32, value: u32) -> Result<(), NoMemory>
         requires { IsRunning self.old peer 1 }
         ensures { OnOk result (Happens (Poked peer word value) self.old self.new) }
@@ -94,7 +94,7 @@ impl Simulator {
         self.world_state.poke(peer, word, value)
     }
 
-    /// What one act asks for.
+    /// Plays one act.
     pub fn act(&mut self, alloc: Global, act: &Act) -> Result<(), NoMemory>
         requires { MayPlay self.old act.now }
         ensures { OnOk result (Plays act.now self.old self.new) }
@@ -110,7 +110,7 @@ impl Simulator {
         }
     }
 
-    /// The record.
+    /// Returns the record.
     pub fn into_record(self) -> Record
         ensures { result ≡ self.world_state.told }
     {

@@ -1,4 +1,4 @@
-//! The region, and the record so far. Whatever a peer does there is told by its line.
+//! The region, and the record so far. Each access of a peer adds one line.
 ghost use Rattle.std.specs.Prelude.{◌≡◌, ℕ, ◌+◌, ◌<◌, ◌≤◌, ◌^◌, List, ◌∷◌, ◌++◌, OnOk, IfOk, reverse, Some};
 ghost use Rattle.line_format.specs.Rows.{row};
 ghost use Rattle.section_map.specs.Geometry.{word_count};
@@ -18,7 +18,7 @@ use ivs_base::NoMemory;
 use section_map::Region;
 use split_ring::steps::Access;
 
-/// The text of a record so far, and how many lines of the history it has.
+/// The text of a record so far, and the number of its history lines.
 #[derive(Drop)]
 pub struct Record {
     pub text: Vec<u8>,
@@ -26,7 +26,7 @@ pub struct Record {
 }
 
 impl Record {
-    /// Tells the line of a form.
+    /// Records the line of a form.
     pub fn tell(&mut self, form: Form, numbers: &[u64], bytes: &[u8]) -> Result<(), NoMemory>
         requires room { self.old.count < 2 ^ 63 }
         ensures told { (front : List ℕ) (past : List Line) (line : Line) → row_of_line line ≡ row form numbers.now bytes.now → RecordAfter front past self.old →
@@ -47,7 +47,7 @@ pub struct WorldState {
 }
 
 impl WorldState {
-    /// A peer reads a word of the region.
+    /// Reads a word of the region for a peer.
     fn read(&mut self, peer: u32, word: u32) -> Result<u32, NoMemory>
         requires seated { peer < self.old.region.shape.peers }
         requires inside { word < word_count self.old.region.shape }
@@ -66,7 +66,7 @@ impl WorldState {
         Ok(value)
     }
 
-    /// A peer writes a word that it may write.
+    /// Writes a word that the peer may write.
     fn write(&mut self, peer: u32, word: u32, value: u32) -> Result<(), NoMemory>
         requires seated { peer < self.old.region.shape.peers }
         requires may { MayWrite self.old.region.shape peer word }
@@ -83,7 +83,7 @@ impl WorldState {
         self.told.tell(Form::Wrote, &numbers, &[])
     }
 
-    /// A peer writes a word if it may, and is denied it else.
+    /// Writes a word if the peer may write it, and denies the write otherwise.
     pub fn poke(&mut self, peer: u32, word: u32, value: u32) -> Result<(), NoMemory>
         requires seated { peer < self.old.region.shape.peers }
         requires room { self.old.told.count < 2 ^ 63 }
@@ -103,7 +103,7 @@ impl WorldState {
         }
     }
 
-    /// A peer took a turn without a step.
+    /// Records a turn of a peer without a step.
     pub fn idle(&mut self, peer: u32) -> Result<(), NoMemory>
         requires room { self.old.told.count < 2 ^ 63 }
         ensures after { (front : List ℕ) (past : List Line) → WorldStateAfter front past self.old → OnOk result (WorldStateAfter front (Idle peer ∷ past) self.new) }
@@ -112,7 +112,7 @@ impl WorldState {
         self.told.tell(Form::Idle, &[u64::from(peer)], &[])
     }
 
-    /// A peer makes the access of a step. Returns what a read gave, else 0.
+    /// Performs the access of a peer's step. Returns the value read, or 0 for a write.
     pub fn perform(&mut self, peer: u32, access: Access) -> Result<u32, NoMemory>
         requires seated { peer < self.old.region.shape.peers }
         requires can { CanPerform self.old.region.shape peer access }
@@ -132,7 +132,7 @@ impl WorldState {
         }
     }
 
-    /// A step of a peer has a mark: its note, with the peer that is sampled and the message that was got.
+    /// Records the mark of a step: the port's note, with the peer sampled and the message got.
     pub fn mark(
         &mut self,
         peer: u32,

@@ -1,4 +1,5 @@
--- Rows of acts: each act form's row is an act's, and an act is allowed exactly where its row can follow.
+-- Rows of acts: each act form's row is an act's, and an act is allowed exactly if its row can
+-- follow.
 use Rattle.std.proofs.Common.{◌≡◌, ℕ, ◌+◌, ◌-◌, ◌^◌, ◌≤◌, Bool, true, false, List, [], get_or, Some, refl, sym, ap, ◌∙◌, arith}
 use Rattle.std.specs.Prelude.{option_and_then, slice_get, decimal}
 use Rattle.std.specs.Option.{option_map_or}
@@ -148,7 +149,7 @@ is_at d (acts.MsixWrite p offset value) at b c same is = rw at (is ∙ same)
 is_at d (acts.Lose p) at b c same is = rw at (is ∙ same)
 is_at d (acts.Again p vector) at b c same is = rw at (is ∙ same)
 
--- at the acts the order is that of the acts before
+-- At the acts the order is that of the acts before.
 pub order_is : (d : SoFar) (a : Act) → d.position ≡ AtActs → Fit (pieces_of (row_of_act a).form) (row_of_act a).numbers
     → is_out_of_order d (row_of_act a).form (fields_of_row pieces_of (row_of_act a)) ≡ is_too_late d.acts (row_of_act a).form (peer_of a)
 order_is d a at fit = is_at d a at _ _ refl (turn_is d a fit)

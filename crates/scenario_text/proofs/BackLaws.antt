@@ -30,7 +30,7 @@ text-append rs r rest =
 line-cons : (line : List ℕ) (lines : List (List ℕ)) → text_of_lines (line ∷ lines) ≡ line ++ 10 ∷ text_of_lines lines
 line-cons line lines = flat_map-cons (λ l. l ++ 10 ∷ []) line lines ∙ append_assoc line (10 ∷ []) (text_of_lines lines)
 
--- what holds after a line that is taken
+-- What holds after a line that was taken.
 pub record After (d : SoFar) (line : List ℕ) (e : SoFar) : Type 0 where
   pub good : Good e.position e
   pub text : (rest : List ℕ) → text_of pieces_of (before d.position d) ++ (line ++ 10 ∷ rest) ≡ text_of pieces_of (before e.position e) ++ rest
@@ -50,7 +50,7 @@ after d line e good is =
           ∙ ap (λ (rs : List (Row Form)). text_of pieces_of rs ++ rest) (sym rows);
     }
 
--- what holds at the end
+-- What holds at the end.
 record Whole (d : SoFar) (lines : List (List ℕ)) (e : SoFar) : Type 0 where
   good : Good e.position e
   ended : has_ended e ≡ true
@@ -71,7 +71,7 @@ whole d (line ∷ next ∷ more) e good leads =
 whole_pages : (size : ℕ) → size % 4096 ≡ 0 → 4 * (size / 4) ≡ size
 whole_pages size is = omega arith
 
--- what has a region has a shape
+-- Sizes that have a region have a shape.
 pub shape_is : (peers table common out : ℕ) → HasRegion peers table common out → IsShape (shape_of peers table common out)
 shape_is peers table common out is =
     let table_some = is.table_pages.0 in
@@ -97,7 +97,7 @@ shape_is peers table common out is =
     swap : (p n : ℕ) → 4 * (p * n) ≡ p * (4 * n)
     swap p n = omega arith
 
--- what the lines up to the end say is a scenario
+-- The value of the lines up to the end is a scenario.
 pub is_world : (e : SoFar) → Good Ended e → IsWorld (world_so_far e)
 is_world e good = record {
   version = refl;
@@ -124,7 +124,8 @@ rows_are e good =
 pub ended_is : (e : SoFar) → has_ended e ≡ true → e.position ≡ Ended
 ended_is e is = sym (same_position e.position Ended is)
 
--- what is read: the lines up to the end say a scenario, and the text is its spelling
+-- The text that was read: the lines up to the end have a scenario as their value, and the text is
+-- its spelling.
 pub record IsRead (bytes : List ℕ) (e : SoFar) : Type 0 where
   pub ended : e.position ≡ Ended
   pub good : Good Ended e

@@ -1,4 +1,4 @@
--- Where the last acts of each kind stand, act by act.
+-- The positions of the last acts of each kind, act by act.
 use Rattle.std.proofs.Common.{◌≡◌, ℕ, zero, suc, drop, length, get_or, ◌+◌, ◌≤◌, ◌<◌, nat_lt, Bool, true, false, eqb, ◌&&◌, ◌||◌, List, [], ◌∷◌, ◌++◌, refl, sym, ap, ◌∙◌, arith, length-append}
 use mathlib.Core.Logic.{dite}
 use native.Mathlib.Decide.{dec_le}
@@ -24,7 +24,7 @@ reset_at _ p = refl
 within : (length from : ℕ) → nat_lt length from ≡ false → from ≤ length
 within length from is = grind (arith, nat_tests)
 
--- an act more that passes the test is the last one; any other leaves the end where it was
+-- One more act that passes the test is the last one; any other doesn't change the end.
 end_added : (test : Act → Bool) (xs : List Act) (x : Act) (from next k : ℕ) → next ≡ (if test x then length xs + 1 else from) → ((j : ℕ) → list_any test (drop j xs) ≡ nat_lt j from) →
     list_any test (drop k (xs ++ x ∷ [])) ≡ nat_lt k next
 end_added test xs x from next k to tells =
@@ -56,7 +56,7 @@ pub other_ended : (acts : List Act) (act : Act) (k from next end : ℕ) (on : Bo
 unfolding has_other
 other_ended acts act k from next end on is to at tells = end_added is_other acts act from next k (to ∙ rw (is, at) refl) tells
 
--- ---- where there are no acts
+-- ---- no acts
 
 pub no_turns : (p : ℕ) → has_turn [] p ≡ false
 unfolding has_turn

@@ -34,7 +34,7 @@ use Rattle.scenario_text.proofs.ActRowLaws.{act_of-row, follows_act}
 
 -- ---- rows that follow one another
 
--- each row can follow, and none is the end
+-- Each row can follow, and none is the end.
 abbrev Along : SoFar → List (Row Form) → SoFar → Type 0
 Along d [] e = d ≡ e
 Along d (r ∷ rs) e = CanFollow d r × (has_ended (with_row r d) ≡ false) × Along (with_row r d) rs e
@@ -47,7 +47,7 @@ leads-cons : (d now : SoFar) (line : List ℕ) (lines : List (List ℕ)) (e : So
 leads-cons d now line [] e plain is on leads = absurd leads
 leads-cons d now line (next ∷ more) e plain is on leads = (now, plain, is, on, leads)
 
--- rows up to the last are lines that lead to the end
+-- Rows up to the last are lines that lead to the end.
 leads : (d : SoFar) (rs : List (Row Form)) (e : SoFar) (r : Row Form) (f : SoFar) → Along d rs e → CanFollow e r → with_row r e ≡ f → has_ended f ≡ true → Leads machine d (map (bare pieces_of) (rs ++ r ∷ [])) f
 leads d [] e r f along can gives ended =
     let can' = subst (λ (x : SoFar). CanFollow x r) (sym along) can in
@@ -62,14 +62,14 @@ quiet : (o : Option ℕ) → option_map_or (λ p. false) o false ≡ false
 quiet (Some n) = refl
 quiet None = refl
 
--- a head of these sizes, up to the wiring
+-- A head of these sizes, up to the wiring.
 abbrev at_wiring : (version peers table common out mtu : ℕ) → SoFar
 at_wiring version peers table common out mtu = record { position = AtWiring; version = version; peers = peers; table = table; common = common; out = out; mtu = mtu; wiring = wirings.Intx; honest = []; acts = [] }
 
 abbrev sizes_rows : (version peers table common out mtu : ℕ) → List (Row Form)
 sizes_rows version peers table common out mtu = row Version (version ∷ []) [] ∷ row Peers (peers ∷ []) [] ∷ row Table (table ∷ []) [] ∷ row Common (common ∷ []) [] ∷ row Out (out ∷ []) [] ∷ row Mtu (mtu ∷ []) [] ∷ []
 
--- after the first line
+-- After the first line.
 abbrev at_version : ℕ → SoFar
 at_version version = record at_start { position = AtPeers; version = version }
 
@@ -109,7 +109,7 @@ sizes_along version peers table common out mtu few t c o m geometry known queue 
       subst (λ v. Along (at_version v) later (at_wiring version peers table common out mtu)) itself (after_version version peers table common out mtu few t c o m geometry queue),
     )
 
--- with these first flags; where there is one for each peer, `begin` comes next
+-- With these first flags; if each peer has one, `begin` comes next.
 abbrev at_peers : (version peers table common out mtu : ℕ) → Wiring → List Bool → SoFar
 at_peers version peers table common out mtu wiring front = record { position = cond (eqb (length front) peers) AtBegin AtPeer; version = version; peers = peers; table = table; common = common; out = out; mtu = mtu; wiring = wiring; honest = front; acts = [] }
 
@@ -154,14 +154,14 @@ peers_along version peers table common out mtu wiring front (b ∷ rest) p same 
 
 -- ---- the acts
 
--- at the acts of this world, after these
+-- At the acts of this world, after these.
 abbrev pub at_acts : World → List Act → SoFar
 at_acts w front = record { position = AtActs; version = w.version; peers = w.geometry.peers; table = 4 * w.geometry.table; common = 4 * w.geometry.common; out = 4 * w.geometry.out; mtu = w.queue.mtu; wiring = w.wiring; honest = w.honest; acts = front }
 
 quarter : (n : ℕ) → 4 * n / 4 ≡ n
 quarter n = omega arith
 
--- the sizes in bytes are those in words
+-- The sizes in bytes are those in words.
 pub world_is : (w : World) (front : List Act) → IsWorld w → world_so_far (at_acts w front) ≡ record w { acts = front }
 world_is w front is =
     rw (quarter w.geometry.table, quarter w.geometry.common, quarter w.geometry.out, is.version, ← is.out) refl
@@ -240,7 +240,7 @@ begun w = flagged w ++ row Begin [] [] ∷ []
 abbrev acted : World → List (Row Form)
 acted w = begun w ++ map row_of_act w.acts
 
--- up to `begin`
+-- Up to `begin`.
 head_along : (w : World) → IsWorld w → Along at_start (begun w) (at_acts w [])
 head_along w is =
     let g = w.geometry in
@@ -273,7 +273,7 @@ head_along w is =
 rows_same : (w : World) → acted w ++ row End [] [] ∷ [] ≡ rows_of w
 rows_same w = refl
 
--- the lines of a scenario's rows lead to its end
+-- The lines of a scenario's rows lead to its end.
 pub spelled_leads : (w : World) → IsWorld w → Leads machine at_start (map (bare pieces_of) (rows_of w)) (at_end w)
 spelled_leads w world =
     let acts = acts_along w [] w.acts world refl in

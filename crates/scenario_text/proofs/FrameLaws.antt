@@ -1,4 +1,4 @@
--- Digits that are too many or too few spell no frame.
+-- A wrong number of digits spells no frame.
 use Rattle.std.proofs.Common.{◌≡◌, ℕ, ◌/◌, Bool, true, false, cond, List, length, Option, Some, None, refl, sym, ap, ◌∙◌, arith}
 use Rattle.std.specs.Prelude.{option_and_then}
 use Rattle.line_format.specs.Forms.{hex_bytes}

@@ -1,4 +1,4 @@
--- A line of the head is taken where the sizes that it completes fit.
+-- A line of the head is taken if the sizes that it completes fit.
 use Rattle.std.proofs.Common.{◌≡◌, ℕ, true, false, [], ◌∷◌, Ok, Err, refl}
 use Rattle.scenario_text.specs.declared.faults.Cause.TheVariants.{BadGeometry}
 use Rattle.scenario_text.specs.declared.forms.Form.TheVariants.{Out, Mtu}

@@ -1,4 +1,4 @@
--- The scenario of a load is one.
+-- The scenario of a load is a scenario.
 use Rattle.std.proofs.Common.{◌≡◌, ℕ, zero, suc, ◌+◌, ◌*◌, ◌/◌, ◌%◌, ◌<◌, ◌≤◌, Bool, true, List, [], ◌∷◌, ◌++◌, length, get_or, map, Some, refl, sym, ap, subst, ◌∙◌, arith, append_assoc, zero-add}
 use Rattle.std.specs.Prelude.{slice_get, All}
 use Rattle.std.specs.List.{range_with_len, flat_map}
@@ -21,7 +21,7 @@ use Rattle.scenario_text.specs.Loads.{load_frame, load_offers, load_rounds, load
 use Rattle.scenario_text.specs.Sizes.{is_queue}
 use Rattle.scenario_text.proofs.SizeLaws.{has_queue}
 
--- the world of a load with any acts
+-- The world of a load with any acts.
 abbrev world_with : List Act → World
 world_with acts = record {
   version = 1;
@@ -34,7 +34,7 @@ world_with acts = record {
 
 -- ---- each act is allowed
 
--- an act that is allowed after any acts
+-- An act that is allowed after any acts.
 abbrev IsFree : List Act → Act → Type 0
 IsFree acts act = (before : List Act) → IsAllowed (world_with acts) before act
 
@@ -97,7 +97,7 @@ all_allowed count rest few free zero act at = subst (IsAllowed _ []) (same_some 
 all_allowed count rest few free (suc zero) act at = subst (IsAllowed _ (Auto 0 0 ∷ [])) (same_some (Auto 1 count) act at) (second_auto _ count few)
 all_allowed count rest few free (suc (suc k)) act at = one_of (IsFree _) rest k act free at _
 
--- ---- how many acts they count for
+-- ---- the number that the acts count for
 
 offers_cost : (a n : ℕ) → turns_of (map (λ k. Offer 0 (load_frame k)) (range_with_len a n)) ≡ n
 offers_cost a zero = refl
@@ -145,7 +145,7 @@ has_shape = record {
   room = omega arith;
 }
 
--- for every count from 1 to 80,000
+-- For every count from 1 to 80,000.
 pub load_is_world : (count : ℕ) → count ≤ 80000 → IsWorld (load_world count)
 unfolding load_world
 load_is_world count few = let turns = load_turns count in record {
@@ -160,7 +160,7 @@ load_is_world count few = let turns = load_turns count in record {
   turns = omega arith;
 }
 
--- made of its parts
+-- The scenario from its parts.
 pub made_of : (geometry : Shape) (queue : Sizes) (honest : List Bool) (acts : List Act) (count : ℕ) → geometry ≡ shape_of 2 4096 0 16384 → queue ≡ record { version = 1; out = 16384; mtu = 256 } → honest ≡ true ∷ true ∷ [] → acts ≡ load_acts count →
     ◌≡◌ {A = World} (record { version = 1; geometry = geometry; queue = queue; wiring = Msix 2; honest = honest; acts = acts }) (load_world count)
 unfolding load_world

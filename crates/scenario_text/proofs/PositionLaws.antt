@@ -1,4 +1,4 @@
--- What holds of the lines so far at each position, and that each row that can follow keeps it.
+-- The invariant of the lines so far at each position. Each row that can follow preserves it.
 use Rattle.std.proofs.Common.{◌≡◌, ℕ, zero, suc, ◌+◌, ◌^◌, ◌<◌, ◌≤◌, Bool, true, false, cond, eqb, ◌||◌, not, List, [], ◌∷◌, ◌++◌, length, get_or, take, map, Some, refl, sym, ap, subst, ◌∙◌, append_assoc, arith, ◌⊎◌, inl, inr}
 use Rattle.std.specs.Prelude.{option_and_then, slice_get, codes, max}
 use Rattle.std.specs.Option.{option_map_or}
@@ -53,13 +53,13 @@ before AtBegin d = head_so_far d
 before AtActs d = acts_so_far d
 before Ended d = acts_so_far d ++ row End [] [] ∷ []
 
--- ---- what holds at a position
+-- ---- the invariant of a position
 
 pub record Clean (honest : List Bool) (acts : List Act) : Type 0 where
   pub honest_none : honest ≡ []
   pub acts_none : acts ≡ []
 
--- the same after the version
+-- The same after the version.
 pub record Versioned (version : ℕ) (honest : List Bool) (acts : List Act) : Type 0 where
   pub known : IsVersion version
   pub honest_none : honest ≡ []
@@ -68,7 +68,7 @@ pub record Versioned (version : ℕ) (honest : List Bool) (acts : List Act) : Ty
 abbrev pub IsFew : ℕ → Type 0
 IsFew peers = (2 ≤ peers) × (peers ≤ 8)
 
--- the head's sizes are right
+-- The head's sizes are right.
 pub record Measured (version peers table common out mtu : ℕ) (wiring : Wiring) : Type 0 where
   pub few : IsFew peers
   pub region : HasRegion peers table common out
@@ -78,7 +78,7 @@ pub record Measured (version peers table common out mtu : ℕ) (wiring : Wiring)
 abbrev pub IsMeasured : SoFar → Type 0
 IsMeasured d = Measured d.version d.peers d.table d.common d.out d.mtu d.wiring
 
--- the acts so far are a scenario's
+-- The acts so far are a scenario's.
 pub record Acted (d : SoFar) : Type 0 where
   pub flags : length d.honest ≡ d.peers
   pub allowed : AreAllowed (world_so_far d)
@@ -149,7 +149,7 @@ peers-push k (c ∷ bs) b = ap (λ (t : List (Row Form)). row_of_peer k c ∷ t)
 head-push : (d : SoFar) (b : Bool) → sizes_rows d ++ row_of_wiring d.wiring ∷ rows_of_peers 0 (d.honest ++ b ∷ []) ≡ head_so_far d ++ row_of_peer (length d.honest) b ∷ []
 head-push d b = rw (peers-push 0 d.honest b) (ap (λ (p : ℕ). head_so_far d ++ row_of_peer p b ∷ []) (omega arith))
 
--- a peer line has the number of the next peer
+-- A peer line has the number of the next peer.
 next_peer : (d : SoFar) (w v : List ℕ) (ns frame : List ℕ) → Fit (Word w ∷ any_number ∷ Word v ∷ []) ns
     → option_map_or (λ p. not (eqb p (length d.honest))) (option_and_then number_of (slice_get (spell (Word w ∷ any_number ∷ Word v ∷ []) ns frame) 1)) false ≡ false
     → length d.honest ∷ [] ≡ ns
@@ -181,7 +181,7 @@ peer_good d b good false is =
 
 -- ---- acts
 
--- what is allowed doesn't depend on what comes later
+-- Whether an act is allowed doesn't depend on later acts.
 allowed_in : (w : World) (before later : List Act) (a : Act) → IsAllowed w before a → IsAllowed (record w { acts = later }) before a
 allowed_in w before later a is = record { values = is.values; bytes = is.bytes; order = is.order; range = is.range; peer = is.peer; frame = is.frame }
 
@@ -287,6 +287,6 @@ adds End ns frame d can good =
     record { rows = rw at (ap (λ (r : Row Form). acts_so_far d ++ r ∷ []) same); good = (g.0, record { flags = g.1.flags; allowed = g.1.allowed; turns = g.1.turns }) }
 adds form ns frame d can good = adds_act d form ns frame refl refl can good
 
--- a row that can follow keeps what holds, and adds its line
+-- A row that can follow preserves the invariant, and adds its line.
 pub row_adds : (d : SoFar) (r : Row Form) → CanFollow d r → Good d.position d → Adds d r
 row_adds d r can good = adds r.form r.numbers r.frame d can good

@@ -29,7 +29,7 @@ peers-more front honest p b lt is =
 line_text_is : (r : Row Form) → text_of pieces_of (r ∷ []) ≡ line_of_row pieces_of r
 line_text_is r = flat_map-cons (line_of_row pieces_of) r [] ∙ append-nil (line_of_row pieces_of r)
 
--- the parts of a scenario's text, one after the other
+-- The parts of a scenario's text, one after the other.
 pub parts : (front : List ℕ) (w : World) → (((((front ++ text_of pieces_of (sizes_rows w)) ++ line_of_row pieces_of (row_of_wiring w.wiring)) ++ text_of pieces_of (rows_of_peers 0 w.honest)) ++ line_of_row pieces_of (row Begin [] [])) ++ text_of pieces_of (map row_of_act w.acts)) ++ line_of_row pieces_of (row End [] []) ≡ front ++ spelling w
 parts front w =
     let sizes = sizes_rows w in

@@ -29,7 +29,8 @@ pub none_last : (p : ℕ) → is_reset_last [] p ≡ false
 unfolding is_reset_last
 none_last p = refl
 
--- behind one act more, a turn, no reset is the last; a reset is; and any other act says nothing
+-- After one more act, a turn, no reset is the last; after a reset it is; any other act changes
+-- nothing.
 last_added : (acts : List Act) (act : Act) (p : ℕ) → is_reset_last (acts ++ act ∷ []) p ≡ ((is_reset_of p act || is_reset_last acts p) && not (is_turn_of p act))
 unfolding is_reset_last has_turn
 last_added [] (Turn q steps) p = none (eqb q p)
@@ -60,7 +61,7 @@ begun true last = refl
 begun false true = refl
 begun false false = refl
 
--- the same by a flag that is put where the act is a turn or a reset
+-- The same by a flag that is set if the act is a turn or a reset.
 chosen : (act : Act) (p : ℕ) (last : Bool) → (if not (is_other act) && eqb (peer_of act) p then is_reset_of (peer_of act) act else last) ≡ ((is_reset_of p act || last) && not (is_turn_of p act))
 chosen (Turn q steps) p last = ended (eqb q p) last
 chosen (Reset q) p last = rw eqb_refl (begun (eqb q p) last)
@@ -70,7 +71,7 @@ pub reset_added : (acts : List Act) (act : Act) (p : ℕ) (old new on value : Bo
     new ≡ is_reset_last (acts ++ act ∷ []) p
 reset_added acts act p old new on value e f g is = is ∙ (rw (e, f, g) (chosen act p (is_reset_last acts p)) ∙ sym (last_added acts act p))
 
--- the step of the search for the first act that breaks the form
+-- The step of the search for the first act that breaks the form.
 pub break_at : (acts : List Act) (i line : ℕ) (act : Act) → i < length acts → act ≡ get_or acts i act →
     first_break (take i acts) (drop i acts) line ≡ (if breaks (take i acts) act (drop (i + 1) acts) then Some line else first_break (take (i + 1) acts) (drop (i + 1) acts) (line + 1))
 break_at acts i line act inside is = ap (λ l. first_break (take i acts) l line) (at_drop_more (λ l. l) acts i act inside ∙ ap (λ (a : Act). a ∷ drop (i + 1) acts) (sym is))
@@ -111,12 +112,12 @@ peer_in w (MsixWrite p offset value) few is = peer_below p _ few is
 peer_in w (Lose p) few is = peer_below p _ few is
 peer_in w (Again p vector) few is = peer_below p _ few is
 
--- the acts of a scenario name peers below 8
+-- The acts of a scenario name peers below 8.
 pub all_below : (w : World) (acts : List Act) → IsWorld w → acts ≡ w.acts → All (λ (act : Act). peer_of act < 8) acts
 all_below w acts is same k default inside = let act = get_or acts k default in
     let at : slice_get acts k ≡ Some act = slice_get_read acts (length acts) k act refl inside (get_or_default acts k default act inside) in
     peer_in w act is.few (is.allowed k act (subst (λ (xs : List Act). slice_get xs k ≡ Some act) same at)).peer
 
--- one of them
+-- One of them.
 pub below : (acts : List Act) (k : ℕ) (act : Act) → All (λ (a : Act). peer_of a < 8) acts → k < length acts → act ≡ get_or acts k act → peer_of act < 8
 below acts k act all inside is = subst (λ (a : Act). peer_of a < 8) (sym is) (all k act inside)

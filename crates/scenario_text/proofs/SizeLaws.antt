@@ -1,4 +1,4 @@
--- The tests of the sizes say what a region and a queue ask for.
+-- The tests of the sizes are the conditions of a region and a queue.
 use Rattle.std.proofs.Common.{mul-le-mul_right, ◌≡◌, ℕ, ◌*◌, ◌/◌, ◌^◌, ◌≤◌, Bool, true, false, Option, Some, None, Result, Ok, Err, refl, sym, ap, subst, ◌∙◌, arith, eq-eqb}
 use Rattle.std.specs.Prelude.{IfOk, IfErr, IsSome, is_some, unwrap_or}
 use Rattle.std.specs.Result.{is_ok}
@@ -20,7 +20,7 @@ never : (b : Bool) → (b ≡ true → ⊥) → b ≡ false
 never true fails = absurd (fails refl)
 never false fails = refl
 
--- what the test of a geometry says
+-- What the test of a geometry says.
 pub record HasRegion (peers table common out : ℕ) : Type 0 where
   pub count : IsPeerCount peers
   pub table_pages : IsSomePages table
@@ -69,7 +69,7 @@ refused peers table common out (BadPage Out size) is has = is.3 has.out_pages
 refused peers table common out (TableTooSmall need found) is has = let states = has.states in let less = is.4 in omega arith
 refused peers table common out (TooLarge bytes) is has = let room = has.room in let more = is.5 in let same = is.6 in omega arith
 
--- what is accepted has a region
+-- Sizes that are accepted have a region.
 pub accepted : (peers table common out : ℕ) → IsShape (shape_of peers table common out) → IsSomePages table × IsPages common × IsSomePages out → HasRegion peers table common out
 accepted peers table common out shape pages =
     let t = pages.0.1 in
@@ -129,7 +129,7 @@ pub queue_is : (q : Sizes) (r : Result Sizes QueueFault) → IsVersion q.version
 queue_is q (Ok made) known section is fault = sym (is_queue-true q (subst IsQueue is.0 is.1))
 queue_is q (Err e) known section is fault = sym (never _ (λ yes. queue_refused q e fault (has_queue q known section yes)))
 
--- a section of a region has at most 16,777,216 bytes
+-- A section of a region has at most 16,777,216 bytes.
 pub small_section : (peers table common out : ℕ) → HasRegion peers table common out → out ≤ 2 ^ 24
 small_section peers table common out is =
     let room = is.room in

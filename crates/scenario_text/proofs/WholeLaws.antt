@@ -1,4 +1,4 @@
--- A text is read exactly where it is the spelling of what is read.
+-- A text is read exactly if it is the spelling of what is read.
 use Rattle.std.proofs.Common.{◌≡◌, ◌==◌, ℕ, true, List, Result, Ok, Err, sym, ap, subst, ◌∙◌}
 use Rattle.std.specs.Result.{IsErrAnd}
 use Rattle.line_format.specs.declared.reading.TextFault.{TextFault}
@@ -15,7 +15,7 @@ use Rattle.scenario_text.proofs.ReadLaws.{text_fails, same_fault}
 use Rattle.scenario_text.proofs.ForwardLaws.{is_answered}
 use Rattle.scenario_text.proofs.BackLaws.{is_read, is_world}
 
--- at the end the lines say a scenario
+-- At the end the value of the lines is a scenario.
 pub is_whole : (bytes : List ℕ) (d : SoFar) → reading bytes ≡ Ok d → (has_ended d ≡ true) × IsWorld (world_so_far d)
 is_whole bytes d is =
     let r = is_read bytes d is in

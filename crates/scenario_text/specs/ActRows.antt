@@ -6,7 +6,7 @@ use Rattle.scenario_text.specs.declared.acts.Act.TheVariants as acts
 use Rattle.scenario_text.specs.declared.forms.Form.{Form}
 use Rattle.scenario_text.specs.declared.forms.Form.TheVariants.{Tick, Offer, Poll, Stop, Auto, Storm, Turn, Reset, Poke, Peek, Set, Ring, CfgRead, CfgWrite, MmioRead, MmioWrite, MsixRead, MsixWrite, Lose, Again}
 
--- the row whose line is the act's
+-- The row whose line is the act's.
 abbrev pub row_of_act : Act → Row Form
 row_of_act (acts.Tick p) = row Tick (p ∷ []) []
 row_of_act (acts.Offer p frame) = row Offer (p ∷ []) frame

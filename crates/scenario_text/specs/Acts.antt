@@ -4,16 +4,16 @@ use Rattle.std.specs.List.{list_any}
 use Rattle.scenario_text.specs.declared.acts.Act.{Act}
 use Rattle.scenario_text.specs.declared.acts.Act.TheVariants.{Tick, Offer, Poll, Stop, Auto, Storm, Turn, Reset, Poke, Peek, Set, Ring, CfgRead, CfgWrite, MmioRead, MmioWrite, MsixRead, MsixWrite, Lose, Again}
 
--- `turn P K` counts for K acts, and any other for 1
+-- `turn P K` counts for K acts, and any other for 1.
 abbrev pub cost : Act → ℕ
 cost (Turn p k) = k
 cost _ = 1
 
--- how many acts these count for
+-- The number that these acts count for.
 abbrev pub turns_of : List Act → ℕ
 turns_of acts = sum_by cost acts
 
--- the peer that the act's line names
+-- The peer that the act's line names.
 abbrev pub peer_of : Act → ℕ
 peer_of (Tick p) = p
 peer_of (Offer p frame) = p
@@ -36,17 +36,17 @@ peer_of (MsixWrite p offset value) = p
 peer_of (Lose p) = p
 peer_of (Again p vector) = p
 
--- P chooses its calls from here on
+-- Peer p chooses its calls from this act on.
 abbrev pub is_auto : ℕ → Act → Bool
 is_auto p (Auto q expect) = q == p
 is_auto p _ = false
 
--- P's turns are generated writes from here on
+-- The turns of peer p are generated writes from this act on.
 abbrev pub is_storm : ℕ → Act → Bool
 is_storm p (Storm q seed) = q == p
 is_storm p _ = false
 
--- a call line of P
+-- A call line of peer p.
 abbrev pub is_call : ℕ → Act → Bool
 is_call p (Tick q) = q == p
 is_call p (Offer q frame) = q == p

@@ -1,4 +1,4 @@
--- A draft as what its lines say.
+-- A draft as the value of its lines.
 use Rattle.scenario_text.specs.declared.drafts.Draft.{Draft}
 use Rattle.scenario_text.specs.Judge.{SoFar}
 

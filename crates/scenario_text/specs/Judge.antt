@@ -1,4 +1,4 @@
--- Reading line by line: what a good line adds, and what is wrong with a bad one.
+-- Reading line by line: the effect of a line, and the fault of a faulty one.
 use Rattle.std.specs.Prelude.{ℕ, ◌+◌, ◌==◌, ◌||◌, ◌&&◌, not, nat_lt, if◌then◌else◌, Bool, true, false, List, [], ◌∷◌, ◌++◌, length, slice_index, slice_get, max, Option, Some, None, Result, Ok, Err, option_and_then}
 use Rattle.std.specs.List.{list_all}
 use Rattle.std.specs.Option.{option_map_or}
@@ -25,7 +25,8 @@ use Rattle.scenario_text.specs.Acts.{cost, turns_of}
 use Rattle.scenario_text.specs.Sizes.{is_geometry, is_queue}
 use Rattle.scenario_text.specs.Scenario.{World, is_too_late, is_in_range, is_its_peer, is_frame_size}
 
--- what the lines so far say, with sizes in bytes; what no line has said yet is version 1, 0, INTx or empty
+-- The value of the lines so far, with sizes in bytes. The default of a line that wasn't read is
+-- version 1, 0, INTx or empty.
 pub record SoFar : Type 0 where
   pub position : Position
   pub version : ℕ
@@ -38,7 +39,7 @@ pub record SoFar : Type 0 where
   pub honest : List Bool
   pub acts : List Act
 
--- the world that they describe
+-- The world of the lines so far.
 abbrev pub world_so_far : SoFar → World
 world_so_far d = record {
   version = d.version;
@@ -64,7 +65,7 @@ ordinal_of AtBegin = 8
 ordinal_of AtActs = 9
 ordinal_of Ended = 10
 
--- where a form can stand
+-- The position of a form.
 abbrev pub position_of : Form → Position
 position_of Version = AtVersion
 position_of Peers = AtPeers
@@ -79,13 +80,14 @@ position_of Hostile = AtPeer
 position_of Begin = AtBegin
 position_of _ = AtActs
 
--- the rules of order that speak of P: the head's peers come in order, and acts as they are allowed
+-- The order rules about peer p: the head's peers come in order, and acts come as they are allowed.
 abbrev pub is_out_of_turn : SoFar → Form → ℕ → Bool
 is_out_of_turn d Honest p = not (p == length d.honest)
 is_out_of_turn d Hostile p = not (p == length d.honest)
 is_out_of_turn d form p = is_too_late d.acts form p
 
--- they are tested here only where P's field is a number
+-- The line is out of order at this position; the rules about a peer apply only if the peer's field
+-- is a number.
 abbrev pub is_out_of_order : SoFar → Form → List (List ℕ) → Bool
 is_out_of_order d form fields =
     not (ordinal_of (position_of form) == ordinal_of d.position)
@@ -105,19 +107,19 @@ frame_in d form fields =
 
 -- ---- BadGeometry
 
--- the geometry is judged on the `out` line, and the queue on the `mtu` line
+-- The geometry is judged on the `out` line, and the queue on the `mtu` line.
 abbrev pub fits_sizes : SoFar → Form → List ℕ → Bool
 fits_sizes d Out ns = is_geometry d.peers d.table d.common (slice_index ns 0)
 fits_sizes d Mtu ns = is_queue (record { version = d.version; out = d.out; mtu = slice_index ns 0 })
 fits_sizes d _ ns = true
 
--- ---- what a line adds
+-- ---- the effect of a line
 
 abbrev pub is_end : Form → Bool
 is_end End = true
 is_end _ = false
 
--- the form is that of an act
+-- Whether the form is that of an act.
 abbrev pub is_act : Form → Bool
 is_act form = ordinal_of (position_of form) == 9 && not (is_end form)
 
@@ -129,7 +131,7 @@ with_peer b d =
 abbrev pub with_act : Act → SoFar → SoFar
 with_act act d = record d { acts = d.acts ++ act ∷ [] }
 
--- the act of a row, where the form is that of an act
+-- The act of a row, if the form is that of an act.
 abbrev pub act_of : Form → List ℕ → List ℕ → Option Act
 act_of Tick ns frame = Some (acts.Tick (slice_index ns 0))
 act_of Offer ns frame = Some (acts.Offer (slice_index ns 0) frame)
@@ -168,7 +170,7 @@ add_head Begin ns d = record d { position = AtActs }
 add_head End ns d = record d { position = Ended }
 add_head _ ns d = d
 
--- a line of the head, where its sizes fit
+-- The value after a line of the head, if the sizes fit.
 abbrev pub head_with : Form → List ℕ → SoFar → Result SoFar Cause
 head_with form ns d = if fits_sizes d form ns then Ok (add_head form ns d) else Err BadGeometry
 
@@ -208,7 +210,7 @@ has_ended d = ordinal_of d.position == 10
 abbrev pub machine : Machine SoFar Cause
 machine = record { step = step; ended = has_ended }
 
--- what a text says, or what is wrong with it first
+-- The value of a text, or its first fault.
 abbrev pub reading : List ℕ → Result SoFar (Wrong Cause)
 reading bytes = read machine at_start bytes
 
@@ -223,13 +225,13 @@ fault_at BadFrame n = faults.BadFrame n
 fault_at BadGeometry n = faults.BadGeometry n
 fault_at TooManyTurns n = faults.TooManyTurns n
 
--- bytes after the end are a line that is bad
+-- Bytes after the end are a faulty line.
 abbrev pub fault_of : Wrong Cause → ScenarioFault
 fault_of (At cause n) = fault_at cause n
 fault_of (After n) = faults.BadLine n
 fault_of NoEnd = faults.NoEnd
 
--- the same with the fault that is answered
+-- The same with the fault that is returned.
 abbrev pub faulted : Result SoFar (Wrong Cause) → Result SoFar ScenarioFault
 faulted (Ok d) = Ok d
 faulted (Err wrong) = Err (fault_of wrong)
@@ -238,6 +240,6 @@ abbrev pub world_in : Result SoFar ScenarioFault → Result World ScenarioFault
 world_in (Ok d) = Ok (world_so_far d)
 world_in (Err fault) = Err fault
 
--- the scenario that a text spells, or its first fault
+-- The scenario that a text spells, or its first fault.
 abbrev pub answer : List ℕ → Result World ScenarioFault
 answer bytes = world_in (faulted (reading bytes))

@@ -1,5 +1,5 @@
--- The scenario of a load (profile): two honest peers that choose their calls, of which peer 0 offers so many frames, and peer 1
--- takes them.
+-- The scenario of a load (profile): two honest peers that choose their calls. Peer 0 offers the
+-- frames, and peer 1 delivers them.
 use Rattle.std.specs.Prelude.{ℕ, ◌+◌, ◌*◌, ◌/◌, ◌%◌, true, List, [], ◌∷◌, ◌++◌, map}
 use Rattle.std.specs.List.{range_with_len, flat_map}
 use Rattle.section_map.specs.Faults.{shape_of}
@@ -8,24 +8,24 @@ use Rattle.scenario_text.specs.declared.acts.Act.{Act}
 use Rattle.scenario_text.specs.declared.acts.Act.TheVariants.{Auto, Offer, Turn}
 use Rattle.scenario_text.specs.Scenario.{World}
 
--- the frames, from frame 0: each has 14 to 16 bytes
+-- The frames, from frame 0: each has 14 to 16 bytes.
 abbrev pub load_frame : ℕ → List ℕ
 load_frame k = map (λ j. (31 * k + 7 * j) % 256) (range_with_len 0 (14 + k % 3))
 
--- peer 0 offers so many frames
+-- The `count` offers of peer 0.
 unfoldable pub load_offers : ℕ → List Act
 load_offers count = map (λ k. Offer 0 (load_frame k)) (range_with_len 0 count)
 
--- so many rounds of one turn of each peer
+-- `count` rounds of one turn of each peer.
 unfoldable pub load_rounds : ℕ → List Act
 load_rounds count = flat_map (λ _. Turn 0 64 ∷ Turn 1 64 ∷ []) (range_with_len 0 count)
 
--- both peers choose their calls, peer 1 until it has delivered all frames; after the offers come 200 rounds, and one more for each
--- three frames
+-- Both peers choose their calls, peer 1 until it has delivered all frames. After the offers come
+-- 200 rounds, and one more for each three frames.
 abbrev pub load_acts : ℕ → List Act
 load_acts count = Auto 0 0 ∷ Auto 1 count ∷ load_offers count ++ load_rounds (200 + (count + 2) / 3)
 
--- the scenario of a load of so many frames, 1 to 80,000: sizes are in bytes
+-- The scenario of a load of `count` frames, 1 to 80,000; sizes are in bytes.
 unfoldable pub load_world : ℕ → World
 load_world count = record {
   version = 1;

@@ -1,4 +1,5 @@
--- What makes a scenario (profile). A head gives the world, and each act is allowed after the acts before it.
+-- The definition of a scenario (profile): a head gives the world, and each act is allowed after the
+-- acts before it.
 use Rattle.std.specs.Prelude.{◌≡◌, ℕ, ◌+◌, ◌*◌, ◌%◌, ◌≤◌, ◌==◌, ◌&&◌, ◌||◌, not, nat_lt, nat_le, if◌then◌else◌, Bool, true, false, List, length, take, slice_index, slice_index_or, slice_get, Some}
 use Rattle.line_format.specs.Forms.{Fit, FitBytes}
 use Rattle.section_map.specs.Geometry.{Shape, IsShape, word_count}
@@ -12,7 +13,7 @@ use Rattle.scenario_text.specs.Table.{pieces_of}
 use Rattle.scenario_text.specs.Acts.{turns_of, peer_of, has_auto, has_storm, has_call}
 use Rattle.scenario_text.specs.ActRows.{row_of_act}
 
--- what a scenario says
+-- The value of a scenario.
 pub record World : Type 0 where
   pub version : ℕ
   pub geometry : Shape
@@ -23,8 +24,8 @@ pub record World : Type 0 where
 
 -- ---- the order of acts
 
--- after these acts the form is out of order for P: an automatic peer queues no tick, poll or stop, `auto` comes at
--- most once and before any call line, and `storm` at most once
+-- Whether the form is out of order for peer p after these acts. An automatic peer queues no tick,
+-- poll or stop. `auto` comes at most once and before any call line, and `storm` at most once.
 abbrev pub is_too_late : List Act → Form → ℕ → Bool
 is_too_late acts Tick p = has_auto acts p
 is_too_late acts Poll p = has_auto acts p
@@ -33,13 +34,13 @@ is_too_late acts Auto p = has_auto acts p || has_call acts p
 is_too_late acts Storm p = has_storm acts p
 is_too_late acts _ p = false
 
--- ---- the ranges that aren't a first and a last number
+-- ---- the ranges that depend on other values
 
--- a place of 1, 2 or 4 bytes
+-- The offset of an aligned field of 1, 2 or 4 bytes.
 abbrev pub is_aligned : ℕ → ℕ → Bool
 is_aligned offset width = width == 1 || (width == 2 && offset % 2 == 0) || (width == 4 && offset % 4 == 0)
 
--- a word is in the region, and an offset is a multiple of what is read or written there
+-- A word is in the region, and an offset is a multiple of the width.
 abbrev pub is_in_range : World → Form → List ℕ → Bool
 is_in_range w Poke ns = nat_lt (slice_index ns 1) (word_count w.geometry)
 is_in_range w Peek ns = nat_lt (slice_index ns 1) (word_count w.geometry)
@@ -56,15 +57,15 @@ is_in_range w _ ns = true
 abbrev pub is_peer : World → ℕ → Bool
 is_peer w p = nat_lt p w.geometry.peers
 
--- an honest link peer: peer 0 or 1
+-- An honest link peer: peer 0 or 1.
 abbrev pub is_link : World → ℕ → Bool
 is_link w p = nat_lt p 2 && slice_index_or w.honest p false
 
 abbrev pub is_hostile : World → ℕ → Bool
 is_hostile w p = is_peer w p && not (slice_index_or w.honest p false)
 
--- the peer of the act is there, and of the kind that the form asks for: calls are for honest link peers, and what
--- touches the region or the State by hand is for hostile ones
+-- Whether the scenario has the act's peer, and it is of the kind that the form requires. Calls are
+-- for honest link peers, and direct accesses to the region or State are for hostile ones.
 abbrev pub is_its_peer : World → Form → List ℕ → Bool
 is_its_peer w Tick ns = is_link w (slice_index ns 0)
 is_its_peer w Offer ns = is_link w (slice_index ns 0)
@@ -90,14 +91,14 @@ is_its_peer w _ ns = true
 
 -- ---- frames
 
--- an offered frame has 14 to MTU + 18 bytes
+-- An offered frame has 14 to MTU + 18 bytes.
 abbrev pub is_frame_size : World → Form → ℕ → Bool
 is_frame_size w Offer size = nat_le 14 size && nat_le size (w.queue.mtu + 18)
 is_frame_size w _ size = true
 
 -- ---- a scenario
 
--- the act is allowed in this world after these acts
+-- The act is allowed in this world after these acts.
 pub record IsAllowed (w : World) (before : List Act) (act : Act) : Type 0 where
   pub values : Fit (pieces_of (row_of_act act).form) (row_of_act act).numbers
   pub bytes : FitBytes (pieces_of (row_of_act act).form) (row_of_act act).frame
@@ -106,12 +107,13 @@ pub record IsAllowed (w : World) (before : List Act) (act : Act) : Type 0 where
   pub peer : is_its_peer w (row_of_act act).form (row_of_act act).numbers ≡ true
   pub frame : is_frame_size w (row_of_act act).form (length (row_of_act act).frame) ≡ true
 
--- each act is allowed after the ones before it
+-- Each act is allowed after the ones before it.
 abbrev pub AreAllowed : World → Type 0
 AreAllowed w = (k : ℕ) (act : Act) → slice_get w.acts k ≡ Some act → IsAllowed w (take k w.acts) act
 
--- a scenario: its version is that of its link, its sizes have a region and a queue, each peer has a flag, each act is allowed in its place, and all
--- acts together count for at most 4,000,000
+-- A scenario. Its version is that of its link, and its sizes have a region and a queue. Each peer
+-- has a flag. Each act is allowed at its position, and all acts together count for at most
+-- 4,000,000.
 pub record IsWorld (w : World) : Type 0 where
   pub version : w.version ≡ w.queue.version
   pub geometry : IsShape w.geometry

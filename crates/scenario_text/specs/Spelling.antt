@@ -10,7 +10,7 @@ use Rattle.scenario_text.specs.Table.{pieces_of}
 use Rattle.scenario_text.specs.ActRows.{row_of_act}
 use Rattle.scenario_text.specs.Scenario.{World, IsWorld}
 
--- what the scenario says
+-- The value of the scenario.
 abbrev pub world_of : Scenario → World
 world_of s = record { version = s.version; geometry = s.geometry; queue = s.queue; wiring = s.wiring; honest = s.honest; acts = s.acts }
 
@@ -22,12 +22,12 @@ abbrev pub row_of_peer : ℕ → Bool → Row Form
 row_of_peer p true = row Honest (p ∷ []) []
 row_of_peer p false = row Hostile (p ∷ []) []
 
--- the peers in their order, from p on
+-- The peers in their order, from p on.
 abbrev pub rows_of_peers : ℕ → List Bool → List (Row Form)
 rows_of_peers p [] = []
 rows_of_peers p (b ∷ bs) = row_of_peer p b ∷ rows_of_peers (p + 1) bs
 
--- the version and the sizes, in bytes
+-- The version and the sizes, in bytes.
 abbrev pub sizes_rows : World → List (Row Form)
 sizes_rows w =
     row Version (w.version ∷ []) []
@@ -38,18 +38,18 @@ sizes_rows w =
     ∷ row Mtu (w.queue.mtu ∷ []) []
     ∷ []
 
--- the rows before `begin`
+-- The rows before `begin`.
 abbrev pub head_rows : World → List (Row Form)
 head_rows w = sizes_rows w ++ row_of_wiring w.wiring ∷ rows_of_peers 0 w.honest
 
--- the head, `begin`, the acts, `end`
+-- The head, `begin`, the acts, `end`.
 abbrev pub rows_of : World → List (Row Form)
 rows_of w = head_rows w ++ row Begin [] [] ∷ [] ++ map row_of_act w.acts ++ row End [] [] ∷ []
 
--- the one text of a scenario
+-- The one text of a scenario.
 abbrev pub spelling : World → List ℕ
 spelling w = text_of pieces_of (rows_of w)
 
--- the bytes spell the scenario
+-- The bytes spell the scenario.
 abbrev pub IsSpelling : World → List ℕ → Type 0
 IsSpelling w bytes = IsWorld w × (bytes ≡ spelling w)

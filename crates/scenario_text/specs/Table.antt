@@ -13,15 +13,15 @@ u32_number = Number 0 (2 ^ 32 - 1)
 abbrev pub u16_number : Piece
 u16_number = Number 0 65535
 
--- a byte of the configuration space
+-- The offset of a byte of the configuration space.
 abbrev pub space_place : Piece
 space_place = Number 0 255
 
--- a byte of the register page or of the MSI-X region
+-- The offset of a byte of the register page or of the MSI-X region.
 abbrev pub page_place : Piece
 page_place = Number 0 4095
 
--- what stands in the fields of a line of this form
+-- The fields of a line of this form.
 abbrev pub pieces_of : Form → List Piece
 pieces_of Version = Word (codes "ivshm") ∷ Number 1 3 ∷ []
 pieces_of Peers = Word (codes "peers") ∷ Number 2 8 ∷ []

@@ -1,4 +1,4 @@
-//! What the lines after `begin` ask for.
+//! The acts of a scenario: the lines after `begin`.
 ghost use Rattle.std.specs.Prelude.{◌≡◌, ◌++◌, [], ◌∷◌, OnOk, OnErr};
 ghost use Rattle.scenario_text.specs.Acts.{cost, peer_of};
 
@@ -6,46 +6,48 @@ use ivs_base::{Frame, NoMemory};
 use std::alloc::Global;
 use std::marker::Model;
 
-/// One line after `begin`: what happens next in the world. `peer` is the peer that the line names.
+/// One line after `begin`: the next act in the world. `peer` is the peer that the line names.
 #[derive(Debug, Drop)]
 pub enum Act {
-    /// Queues a call that looks at the other's state. The peer is an honest link peer.
+    /// Queues a Tick, which reads the other's state. The peer is an honest link peer.
     Tick {
         peer: u32,
     },
-    /// Queues a call that sends this frame; an automatic peer takes it into its list. The peer is an honest link peer.
+    /// Queues an Offer of this frame; an automatic peer appends the frame to its list instead. The
+    /// peer is an honest link peer.
     Offer {
         peer: u32,
         frame: Frame,
     },
-    /// Queues a call that takes what the other sent. The peer is an honest link peer.
+    /// Queues a Poll, which delivers the other's frames. The peer is an honest link peer.
     Poll {
         peer: u32,
     },
-    /// Queues a call that leaves the link. The peer is an honest link peer.
+    /// Queues a Stop, which leaves the link. The peer is an honest link peer.
     Stop {
         peer: u32,
     },
-    /// The peer, an honest link peer, chooses its calls from now on, until it has delivered this many frames.
+    /// From now on the peer, an honest link peer, chooses its calls until it has delivered `expect`
+    /// frames.
     Auto {
         peer: u32,
         expect: u64,
     },
-    /// The turns of the peer, a hostile one, are generated writes from now on.
+    /// From now on the turns of the peer, a hostile one, are generated writes.
     Storm {
         peer: u32,
         seed: u64,
     },
-    /// This many steps of the peer, at most 4,000,000.
+    /// Takes `steps` turns of the peer, at most 4,000,000.
     Turn {
         peer: u32,
         steps: u32,
     },
-    /// A device reset of the peer.
+    /// Resets the peer's device.
     Reset {
         peer: u32,
     },
-    /// The peer, a hostile one, writes a word of the region, or is denied.
+    /// The peer, a hostile one, writes a word of the region, or is denied the write.
     Poke {
         peer: u32,
         word: u32,
@@ -102,11 +104,11 @@ pub enum Act {
         offset: u32,
         value: u32,
     },
-    /// The next delivery to the peer that isn't lost already is lost.
+    /// The next delivery to the peer that isn't lost yet is lost.
     Lose {
         peer: u32,
     },
-    /// An interrupt with this vector, below 64, comes to the peer once more.
+    /// An interrupt with this vector, below 64, is repeated at the peer.
     Again {
         peer: u32,
         vector: u32,
@@ -114,7 +116,7 @@ pub enum Act {
 }
 
 impl Act {
-    /// The peer that the line names.
+    /// Returns the peer that the line names.
     pub fn peer(&self) -> u32
         ensures { result ≡ peer_of self.now }
     {
@@ -142,7 +144,7 @@ impl Act {
         }
     }
 
-    /// How many acts the line counts for: `turn P K` for K, any other for 1.
+    /// Returns the number of acts that the line counts for: `turn P K` for K, any other for 1.
     pub fn cost(&self) -> u64
         ensures { result ≡ cost self.now }
     {
@@ -168,7 +170,7 @@ impl Model for Flags {
 }
 
 impl Flags {
-    /// The empty list.
+    /// Returns the empty list.
     pub fn new(alloc: Global) -> Self
         ensures { result ≡ [] }
     {
@@ -177,7 +179,7 @@ impl Flags {
         }
     }
 
-    /// Puts the flag last. After NoMemory the list is unchanged.
+    /// Appends the flag. After `NoMemory` the list is unchanged.
     pub fn push(&mut self, item: bool) -> Result<(), NoMemory>
         ensures ok { OnOk result (self.new ≡ self.old ++ item ∷ []) }
         ensures err { OnErr result (self.new ≡ self.old) }
@@ -186,7 +188,7 @@ impl Flags {
         Ok(())
     }
 
-    /// The whole list.
+    /// Returns the whole list.
     pub fn items(&self) -> &[bool]
         ensures { result.now ≡ self.now }
     {
@@ -210,7 +212,7 @@ impl Model for Acts {
 }
 
 impl Acts {
-    /// The empty list.
+    /// Returns the empty list.
     pub fn new(alloc: Global) -> Self
         ensures { result ≡ [] }
     {
@@ -219,7 +221,11 @@ impl Acts {
         }
     }
 
-    /// Puts the act last. After NoMemory the list is unchanged and the act is dropped.
+    /// Appends the act. After `NoMemory` the list is unchanged and the act is dropped.
+    // claim ok, err with Acts::new, Acts::items, Flags::new, Flags::push.ok, Flags::push.err,
+    //    Flags::items, Draft::new, Draft::finish: A list has the items that were appended, in
+    //    order; a failed call changes nothing. A draft becomes the scenario of what was read so
+    //    far.
     pub fn push(&mut self, item: Act) -> Result<(), NoMemory>
         ensures ok { OnOk result (self.new ≡ self.old ++ item ∷ []) }
         ensures err { OnErr result (self.new ≡ self.old) }
@@ -228,7 +234,7 @@ impl Acts {
         Ok(())
     }
 
-    /// The whole list.
+    /// Returns the whole list.
     pub fn items(&self) -> &[Act]
         ensures { result.now ≡ self.now }
     {

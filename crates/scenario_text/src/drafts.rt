@@ -1,4 +1,4 @@
-//! What the lines so far say.
+//! The value of the lines so far.
 ghost use Rattle.std.specs.Prelude.{◌≡◌, ◌≤◌, ◌<◌, ◌^◌, ℕ, Some, slice_index_or, false};
 ghost use Rattle.section_map.specs.Faults.{shape_of};
 ghost use Rattle.split_ring.specs.Layout.{IsVersion};
@@ -11,8 +11,8 @@ use pci_space::Wiring;
 use section_map::Geometry;
 use split_ring::Queue;
 
-/// A scenario of which some lines are read. What no line has said yet is version 1, 0, none, INTx or
-/// empty; sizes are in bytes.
+/// A scenario of which a prefix of the lines was read. The default of a line that wasn't read is
+/// version 1, 0, none, INTx or empty. Sizes are in bytes.
 #[derive(Drop)]
 pub struct Draft {
     pub(crate) position: Position,
@@ -22,20 +22,20 @@ pub struct Draft {
     pub(crate) common: u64,
     pub(crate) out: u64,
     pub(crate) mtu: u32,
-    /// What the sizes up to the `out` line make.
+    /// The geometry of the sizes up to the `out` line.
     pub(crate) geometry: Option<Geometry>,
-    /// What the sizes up to the `mtu` line make.
+    /// The queue of the sizes up to the `mtu` line.
     pub(crate) queue: Option<Queue>,
     pub(crate) wiring: Wiring,
     pub(crate) honest: Flags,
     pub(crate) acts: Acts,
-    /// How many acts these count for.
+    /// The number that the acts count for.
     pub(crate) turns: u64,
-    /// Which peers choose their calls.
+    /// The peers that choose their calls.
     pub(crate) autos: [bool; 8],
-    /// Which peers are storms.
+    /// The peers that are storms.
     pub(crate) storms: [bool; 8],
-    /// Which peers have call lines.
+    /// The peers that have call lines.
     pub(crate) called: [bool; 8],
     ghost known: { IsVersion version },
     ghost few: { peers ≤ 8 },

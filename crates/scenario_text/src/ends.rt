@@ -1,4 +1,5 @@
-//! Where the last turn and the last reset of each peer stand, and the last act that is neither.
+//! The positions of the last turn and the last reset of each peer, and of the last act of another
+//! kind.
 ghost use Rattle.std.specs.Prelude.{◌≡◌, ◌<◌, ◌++◌, [], ◌∷◌, ◌+◌, ◌==◌, ◌&&◌, ℕ, List, All, length, slice_index_or, drop, if◌then◌else◌};
 ghost use Rattle.scenario_text.specs.declared.acts.Act as acts;
 ghost use Rattle.scenario_text.specs.Acts.{peer_of};
@@ -6,8 +7,8 @@ ghost use Rattle.scenario_text.specs.Running.{is_turn_of, is_reset_of, is_other,
 
 use crate::acts::Act;
 
-/// The ends of three kinds of acts. The end of a kind is how many acts there are up to its last one and with it, or 0
-/// where there is none.
+/// The ends of three kinds of acts. The end of a kind is the number of acts up to and including its
+/// last one, or 0 if there is none.
 #[derive(Drop)]
 pub struct Ends {
     /// The end of the acts that are neither turns nor resets.
@@ -19,21 +20,21 @@ pub struct Ends {
 }
 
 impl Act {
-    /// Is it a turn line?
+    /// Whether the act is a turn.
     pub fn is_turn(&self) -> bool
         ensures { result ≡ is_turn_of (peer_of self.now) self.now }
     {
         matches!(self, Act::Turn { .. })
     }
 
-    /// Is it a reset line?
+    /// Whether the act is a reset.
     pub fn is_reset(&self) -> bool
         ensures { result ≡ is_reset_of (peer_of self.now) self.now }
     {
         matches!(self, Act::Reset { .. })
     }
 
-    /// Is it neither?
+    /// Whether the act is neither a turn nor a reset.
     pub fn is_other(&self) -> bool
         ensures { result ≡ is_other self.now }
     {
@@ -41,14 +42,14 @@ impl Act {
     }
 }
 
-/// The end of this peer's acts, or 0 where it has no place.
+/// Returns the end of this peer's acts, or 0 if the peer is not below 8.
 fn end_of(ends: &[usize; 8], peer: u32) -> usize
     ensures { result ≡ slice_index_or ends.now peer 0 }
 {
     ends.get(peer as usize).copied().unwrap_or(0)
 }
 
-/// Puts the end of the peer's acts here where it is on.
+/// Sets the end of the peer's acts to `end` if `on` is set.
 fn extend(ends: &mut [usize; 8], peer: usize, on: bool, end: usize)
     requires { peer < 8 }
     ensures { (p : ℕ) → slice_index_or ends.new p 0 ≡ (if on && (peer == p) then end else slice_index_or ends.old p 0) }
@@ -58,7 +59,7 @@ fn extend(ends: &mut [usize; 8], peer: usize, on: bool, end: usize)
     }
 }
 
-/// Puts the end here where it is on.
+/// Sets `last` to `end` if `on` is set.
 fn lengthen(last: &mut usize, on: bool, end: usize)
     ensures { last.new ≡ (if on then end else last.old) }
 {
@@ -68,7 +69,7 @@ fn lengthen(last: &mut usize, on: bool, end: usize)
 }
 
 impl Ends {
-    /// No act is of any kind.
+    /// Returns the ends of no acts.
     fn nothing() -> Ends
         ensures { AreEnds result [] }
     {
@@ -79,7 +80,7 @@ impl Ends {
         }
     }
 
-    /// Adds an act, with which there are this many.
+    /// Adds an act, the last of `end` acts.
     fn add(&mut self, act: &Act, end: usize)
         requires { peer_of act.now < 8 }
         ensures { (said : List acts.Act) → AreEnds self.old said → end ≡ length said + 1 → AreEnds self.new (said ++ act.now ∷ []) }
@@ -90,7 +91,7 @@ impl Ends {
         lengthen(&mut self.others, act.is_other(), end);
     }
 
-    /// The ends in these acts.
+    /// Returns the ends of these acts.
     pub fn of(acts: &[Act]) -> Ends
         requires { All (λ act. peer_of act < 8) acts.now }
         ensures { AreEnds result acts.now }
@@ -102,21 +103,21 @@ impl Ends {
         ends
     }
 
-    /// Does an act that is neither a turn nor a reset stand behind the first `count` acts?
+    /// Whether an act that is neither a turn nor a reset comes after the first `count` acts.
     pub fn has_other(&self, count: usize) -> bool
         ensures { (acts : List acts.Act) → AreEnds self.now acts → result ≡ has_other (drop count acts) }
     {
         count < self.others
     }
 
-    /// Does a turn of the peer stand behind the first `count` acts?
+    /// Whether a turn of the peer comes after the first `count` acts.
     pub fn has_turn(&self, peer: u32, count: usize) -> bool
         ensures { (acts : List acts.Act) → AreEnds self.now acts → result ≡ has_turn (drop count acts) peer }
     {
         count < end_of(&self.turns, peer)
     }
 
-    /// Does a reset of the peer stand behind the first `count` acts?
+    /// Whether a reset of the peer comes after the first `count` acts.
     pub fn has_reset(&self, peer: u32, count: usize) -> bool
         ensures { (acts : List acts.Act) → AreEnds self.now acts → result ≡ has_reset (drop count acts) peer }
     {

@@ -1,4 +1,4 @@
-//! What is wrong with a scenario's text.
+//! The faults of a scenario's text.
 ghost use Rattle.std.specs.Prelude.{◌≡◌};
 ghost use Rattle.scenario_text.specs.Judge.{fault_at};
 ghost use Rattle.scenario_text.specs.Answers.{fault_of_text};
@@ -6,7 +6,7 @@ ghost use Rattle.scenario_text.specs.Answers.{fault_of_text};
 use line_format::TextFault;
 use thiserror::Error;
 
-/// What is wrong with a line: the first of these that fits, in this order.
+/// The fault of a line: the first of these that applies, in this order.
 #[derive(Clone, Copy, Debug, PartialEq, Eq, Error)]
 pub enum Cause {
     #[error("the line has no form")]
@@ -26,7 +26,7 @@ pub enum Cause {
 }
 
 impl Cause {
-    /// The fault of a text whose first bad line is this one, with lines from 1.
+    /// Returns the fault of a text whose first faulty line is this one, counted from 1.
     pub fn at(self, line: u64) -> ScenarioFault
         ensures { result ≡ fault_at self line }
     {
@@ -42,12 +42,12 @@ impl Cause {
     }
 }
 
-/// What is wrong with a text that spells no scenario. A number is that of the first bad line, from 1. Where several
-/// of these fit a line, the first of them in the order BadLine, BadOrder, BadNumber, BadPeer, BadFrame, BadGeometry,
-/// TooManyTurns is the answer.
+/// The fault of a text that spells no scenario. A number is that of the first faulty line, from 1.
+/// If several faults apply to a line, the first in this order is returned: BadLine, BadOrder,
+/// BadNumber, BadPeer, BadFrame, BadGeometry, TooManyTurns.
 #[derive(Clone, Copy, Debug, PartialEq, Eq, Error)]
 pub enum ScenarioFault {
-    /// The line is none of the forms, has a byte outside of 20h to 7Eh, or stands after `end`.
+    /// The line matches no form, has a byte outside of 20h to 7Eh, or comes after `end`.
     #[error("line {0} has no form")]
     BadLine(u64),
     /// A number field is no number or is out of its range.
@@ -56,22 +56,23 @@ pub enum ScenarioFault {
     /// The hexadecimal digits are no frame of 14 to MTU + 18 bytes.
     #[error("line {0} has no frame that fits")]
     BadFrame(u64),
-    /// The peer isn't there, or isn't of the kind that the act asks for.
+    /// The scenario has no such peer, or the peer isn't of the kind that the act requires.
     #[error("line {0} names a peer that cannot do this")]
     BadPeer(u64),
-    /// The `out` line with which the geometry is refused, or the `mtu` line with which the queue is.
+    /// The `out` line that completes a refused geometry, or the `mtu` line that completes a refused
+    /// queue.
     #[error("line {0} gives sizes that do not fit")]
     BadGeometry(u64),
     /// The form isn't allowed at this position.
     #[error("line {0} is out of order")]
     BadOrder(u64),
-    /// With this line the acts are more than 4,000,000.
+    /// With this line the acts count for more than 4,000,000.
     #[error("line {0} makes too many turns")]
     TooManyTurns(u64),
-    /// All whole lines are good, and there is no `end` line.
+    /// No line is faulty, and there is no `end` line.
     #[error("the text has no end")]
     NoEnd,
-    /// There was no memory left.
+    /// An allocation failed.
     #[error("out of memory")]
     NoMemory,
 }
@@ -79,7 +80,7 @@ pub enum ScenarioFault {
 impl From<TextFault<Cause>> for ScenarioFault {
     ghost from_gives = { λ fault result. result ≡ fault_of_text fault };
 
-    /// Bytes after the end are a line that has no form.
+    /// Returns the fault of the text. Bytes after the end are a line that matches no form.
     fn from(fault: TextFault<Cause>) -> ScenarioFault {
         match fault {
             TextFault::NoMemory => ScenarioFault::NoMemory,

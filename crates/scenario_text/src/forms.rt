@@ -6,7 +6,7 @@ ghost use Rattle.scenario_text.specs.Table.{pieces_of, all_forms};
 
 use line_format::{FieldKind, has_form};
 
-/// A form of a scenario's lines. Two words at one place are two forms.
+/// A form of a scenario's lines. Two words at one position make two forms.
 #[derive(Clone, Copy, Debug, PartialEq, Eq)]
 pub enum Form {
     /// `ivshm 1`
@@ -116,14 +116,14 @@ const U32: FieldKind = FieldKind::Number(0, u32::MAX as u64);
 
 const U16: FieldKind = FieldKind::Number(0, u16::MAX as u64);
 
-/// A byte of the configuration space.
+/// The offset of a byte of the configuration space.
 const BYTE: FieldKind = FieldKind::Number(0, 255);
 
-/// A byte of a region of one page.
+/// The offset of a byte of a one-page region.
 const PAGE: FieldKind = FieldKind::Number(0, 4095);
 
 impl Form {
-    /// What stands in the fields of the form.
+    /// Returns the fields of the form.
     pub fn slots(self) -> &'static [FieldKind]
         ensures value { pieces result.now ≡ pieces_of self }
         ensures few { length result.now ≤ 6 }
@@ -198,7 +198,7 @@ impl Form {
     }
 }
 
-/// The form of a line with these fields.
+/// Returns the form of a line with these fields, if it has one.
 #[tactic(auto, unfolding(line_format::specs::Rows::find_form))]
 pub fn form_of(fields: &[&[u8]]) -> Option<Form>
     ensures { result ≡ find_form pieces_of all_forms (texts fields.now) }

@@ -16,14 +16,14 @@ use crate::positions::Position;
 use ivs_base::Frame;
 use line_format::{number, number_at};
 
-/// The flag of this peer, where it has one.
+/// Returns the flag of peer `p`, or false if there is none.
 fn flag(flags: &[bool], p: u64) -> bool
     ensures { result ≡ slice_index_or flags.now p false }
 {
     flags.get(p as usize).copied().unwrap_or(false)
 }
 
-/// Do the rules of order that speak of the peer forbid the line here?
+/// Whether the order rules about peer `p` forbid the line here.
 fn is_out_of_turn(draft: &Draft, form: Form, p: u64) -> bool
     ensures { result ≡ is_out_of_turn (so_far draft.now) form p }
 {
@@ -36,7 +36,7 @@ fn is_out_of_turn(draft: &Draft, form: Form, p: u64) -> bool
     }
 }
 
-/// Isn't the line allowed at this position?
+/// Whether the line is forbidden at this position.
 pub fn is_out_of_order(draft: &Draft, form: Form, fields: &[&[u8]]) -> bool
     ensures { result ≡ is_out_of_order (so_far draft.now) form (texts fields.now) }
 {
@@ -52,21 +52,21 @@ pub fn is_out_of_order(draft: &Draft, form: Form, fields: &[&[u8]]) -> bool
     }
 }
 
-/// Is this a place of 1, 2 or 4 bytes?
+/// Whether `offset` is that of an aligned field of 1, 2 or 4 bytes.
 fn is_aligned(offset: u64, width: u64) -> bool
     ensures { result ≡ is_aligned offset width }
 {
     width == 1 || (width == 2 && offset % 2 == 0) || (width == 4 && offset % 4 == 0)
 }
 
-/// The words of the region.
+/// Returns the number of words of the region.
 fn words(draft: &Draft) -> u64
     ensures { result ≡ word_count (shape_of draft.now.peers draft.now.table draft.now.common draft.now.out) }
 {
     u64::from(draft.table / 4) + draft.common / 4 + u64::from(draft.peers) * (draft.out / 4)
 }
 
-/// Are the numbers in the ranges that depend on the scenario or on one another?
+/// Whether the numbers are in the ranges that depend on the scenario or on one another.
 pub fn is_in_range(draft: &Draft, form: Form, numbers: &[u64]) -> bool
     ensures { result ≡ is_in_range (world_so_far (so_far draft.now)) form numbers.now }
 {
@@ -98,7 +98,7 @@ fn is_hostile(draft: &Draft, p: u64) -> bool
     is_peer(draft, p) && !flag(draft.honest.items(), p)
 }
 
-/// Is the peer there, and of the kind that the form asks for?
+/// Whether the scenario has the peer, and the peer is of the kind that the form requires.
 pub fn is_its_peer(draft: &Draft, form: Form, numbers: &[u64]) -> bool
     ensures small { IsTrue result → IsTrue (is_act form) → slice_index numbers.now 0 < 8 }
     ensures value { result ≡ is_its_peer (world_so_far (so_far draft.now)) form numbers.now }
@@ -128,7 +128,7 @@ pub fn is_its_peer(draft: &Draft, form: Form, numbers: &[u64]) -> bool
     }
 }
 
-/// Has the frame of an offer 14 to MTU + 18 bytes?
+/// Whether the frame of an offer has 14 to MTU + 18 bytes.
 pub fn is_frame_size(draft: &Draft, form: Form, size: u64) -> bool
     ensures { result ≡ is_frame_size (world_so_far (so_far draft.now)) form size }
 {
@@ -138,7 +138,7 @@ pub fn is_frame_size(draft: &Draft, form: Form, size: u64) -> bool
     }
 }
 
-/// The act of a line, where its form is that of an act.
+/// Returns the act of a line, if its form is that of an act.
 pub fn act_of(form: Form, numbers: &[u64], frame: Frame) -> Option<Act>
     requires limits { AreInRange (pieces_of form) numbers.now }
     requires peer { IsTrue (is_act form) → slice_index numbers.now 0 < 8 }

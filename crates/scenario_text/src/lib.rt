@@ -1,18 +1,22 @@
-//! Scenarios as values and as text: a world's sizes, its kinds of peers, and the acts of a schedule. It stands on
-//! `line_format` for lines and forms, and on `section_map`, `split_ring` and `pci_space` for what the head of a
-//! scenario gives. Its contracts promise that a value has one spelling, that parsing answers exactly where the
-//! bytes are one, and that each fault is the first in the order of the format (docs/FORMATS.md).
+//! Scenarios as values and as text: a world's sizes, its kinds of peers, and the acts of a
+//! schedule. The crate uses `line_format` for lines and forms, and `section_map`, `split_ring` and
+//! `pci_space` for the head of a scenario. Its contracts promise that each value has one spelling.
+//! They promise that parsing succeeds exactly if the bytes are a spelling, and that each fault is
+//! the first in the order of the format (docs/FORMATS.md).
 //!
 //! # Design
 //!
-//! - `IsWorld` says what makes a scenario without any order of reading. `specs/Judge` says line by line what comes first of what is wrong.
-//!   The two are proved to agree, both ways.
-//! - A form has two variants where two words stand at one place (`irq msix V` and `irq intx`, `cfg P r ..` and `cfg P w ..`).
-//! - The geometry is made on the `out` line and the queue on the `mtu` line, each once, and kept in the draft: judging a line and making
-//!   its value are one act.
-//! - A draft's version is at least 1, also where a line of it says 0, which the form of that line doesn't allow (`add_head`). What a
-//!   scenario is, and what is refused, doesn't hang on it: it lets the queue be made of the draft without a test that never fails.
-//! - `Draft`, `Cause` and `put_scenario` are public for `record_text`, which hands its scenario part over line by line.
+//! - `IsWorld` defines a scenario without any order of reading. `specs/Judge` defines line by line
+//!   which fault comes first. The two are proved to agree, both ways.
+//! - A form has two variants if two words can be at one position (`irq msix V` and `irq intx`, `cfg
+//!   P r ..` and `cfg P w ..`).
+//! - The geometry is made on the `out` line and the queue on the `mtu` line, each once, and stored
+//!   in the draft. So judging a line and making its value are one operation.
+//! - A draft's version is at least 1, even if a line gives 0, which the form of that line doesn't
+//!   allow (`add_head`). Scenarios and refusals don't depend on this. It lets the queue be made
+//!   from the draft without a test that never fails.
+//! - `Draft`, `Cause` and `put_scenario` are public for `record_text`, which passes on its scenario
+//!   part line by line.
 #![tactic(auto)]
 
 mod acts;

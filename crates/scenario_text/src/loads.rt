@@ -1,4 +1,4 @@
-//! The scenario of a load: peer 0 offers frames, peer 1 takes them, and both choose their calls.
+//! The scenario of a load: peer 0 offers frames, peer 1 delivers them, and both choose their calls.
 ghost use Rattle.std.specs.Prelude.{◌≡◌, ◌≤◌, ◌<◌, ◌++◌, IfOk, OnOk};
 ghost use Rattle.section_map.specs.Faults.{shape_of};
 ghost use Rattle.scenario_text.specs.Spelling.{world_of};
@@ -12,10 +12,10 @@ use section_map::Geometry;
 use split_ring::Queue;
 use std::alloc::{AllocError, Global};
 
-/// How many steps a peer makes in its turn.
+/// The number of steps in a peer's turn line.
 const STEPS: u32 = 64;
 
-/// The bytes of the frame with this number, from 0.
+/// Returns the bytes of frame `number`, from 0.
 fn frame_bytes(alloc: Global, number: u32) -> Result<Vec<u8>, AllocError>
     ensures { IfOk result (λ bytes. bytes.items ≡ load_frame number) }
 {
@@ -26,7 +26,7 @@ fn frame_bytes(alloc: Global, number: u32) -> Result<Vec<u8>, AllocError>
         .collect(alloc)
 }
 
-/// The frame with this number, from 0.
+/// Returns frame `number`, from 0.
 fn frame(alloc: Global, number: u32) -> Result<Frame, NoMemory>
     ensures { IfOk result (λ frame. frame ≡ load_frame number) }
 {
@@ -34,7 +34,7 @@ fn frame(alloc: Global, number: u32) -> Result<Frame, NoMemory>
     Frame::of(alloc, &bytes)
 }
 
-/// Puts the offers of so many frames last.
+/// Appends `count` `offer` lines.
 fn push_offers(alloc: Global, acts: &mut Acts, count: u32) -> Result<(), NoMemory>
     ensures { OnOk result (acts.new ≡ acts.old ++ load_offers count) }
 {
@@ -45,7 +45,7 @@ fn push_offers(alloc: Global, acts: &mut Acts, count: u32) -> Result<(), NoMemor
     Ok(())
 }
 
-/// Puts so many rounds last, in each of which both peers take a turn.
+/// Appends `count` rounds. In each round both peers take their turns.
 fn push_rounds(acts: &mut Acts, count: u32) -> Result<(), NoMemory>
     ensures { OnOk result (acts.new ≡ acts.old ++ load_rounds count) }
 {
@@ -62,7 +62,7 @@ fn push_rounds(acts: &mut Acts, count: u32) -> Result<(), NoMemory>
     Ok(())
 }
 
-/// The acts of a load of so many frames.
+/// Returns the acts of a load of `count` frames.
 fn acts(alloc: Global, count: u32) -> Result<Acts, NoMemory>
     requires { count ≤ 80000 }
     ensures { IfOk result (λ acts. acts ≡ load_acts count) }
@@ -78,7 +78,7 @@ fn acts(alloc: Global, count: u32) -> Result<Acts, NoMemory>
     Ok(acts)
 }
 
-/// The region: a page for the table, and four for each of two peers.
+/// Returns the region: a page for the State Table, and four pages for each of two peers.
 fn region() -> Geometry
     ensures { result ≡ shape_of 2 4096 0 16384 }
 {
@@ -88,7 +88,7 @@ fn region() -> Geometry
     }
 }
 
-/// The queue of such a section, for the least MTU.
+/// Returns the queue of such a section, for the least MTU.
 fn section() -> Queue
     ensures { result ≡ record { version = 1; out = 16384; mtu = 256 } }
 {
@@ -98,9 +98,11 @@ fn section() -> Queue
     }
 }
 
-/// The scenario of a load of so many frames, 1 to 80,000 (profile): peer 0 offers them, peer 1 chooses its calls until
-/// it has delivered as many, and after the offers come 200 rounds of turns and one more for each three frames.
-/// NoMemory says that memory ran out.
+/// Returns the scenario of a load of `count` frames, 1 to 80,000 (profile). Peer 0 offers them, and
+/// peer 1 chooses its calls until it has delivered them. After the offers come 200 rounds of turns,
+/// and one more for each three frames. Returns `NoMemory` if an allocation fails.
+// claim: The scenario of a load of N frames has two automatic peers, N offers of peer 0, and 200
+//    rounds of turns plus one more for each three frames.
 pub fn load(alloc: Global, count: u32) -> Result<Scenario, NoMemory>
     requires some { 1 ≤ count }
     requires few { count ≤ 80000 }

@@ -1,10 +1,10 @@
-//! Which lines can come next in a scenario's text.
+//! The lines that can come next in a scenario's text.
 ghost use Rattle.std.specs.Prelude.{◌≡◌};
 ghost use Rattle.scenario_text.specs.Judge.{ordinal_of, position_of};
 
 use crate::forms::Form;
 
-/// Which line comes next: one of the head, an act or the end, or none.
+/// The kind of the next line: one of the head, an act or the end, or none.
 #[derive(Clone, Copy, Debug, PartialEq, Eq)]
 pub enum Position {
     AtVersion,
@@ -21,7 +21,7 @@ pub enum Position {
 }
 
 impl Position {
-    /// The number of the position in the order of the text, from 0.
+    /// Returns the number of the position in the order of the text, from 0.
     pub fn ordinal(self) -> u8
         ensures { result ≡ ordinal_of self }
     {
@@ -40,7 +40,7 @@ impl Position {
         }
     }
 
-    /// Where lines of the form can stand.
+    /// Returns the position at which lines of the form can be.
     pub fn of(form: Form) -> Position
         ensures { result ≡ position_of form }
     {

@@ -13,7 +13,7 @@ use line_format::put_line;
 use pci_space::Wiring;
 use std::alloc::{AllocError, Global};
 
-/// Puts the line of a form last.
+/// Appends the line of a form.
 #[tactic(auto, unfolding(line_format::specs::Rows::line_of_row))]
 fn put(out: &mut Vec<u8>, form: Form, numbers: &[u64], frame: &[u8]) -> Result<(), AllocError>
     ensures { OnOk result (out.new.items ≡ out.old.items ++ line_of_row pieces_of (row form numbers.now frame.now)) }
@@ -171,7 +171,7 @@ fn put_acts(out: &mut Vec<u8>, acts: &[Act]) -> Result<(), AllocError>
     Ok(())
 }
 
-/// The lines up to the sizes.
+/// Appends the lines up to the sizes.
 fn put_sizes(out: &mut Vec<u8>, scenario: &Scenario) -> Result<(), AllocError>
     ensures { OnOk result (out.new.items ≡ out.old.items ++ text_of pieces_of (sizes_rows (world_of scenario.now))) }
 {
@@ -194,7 +194,7 @@ fn put_sizes(out: &mut Vec<u8>, scenario: &Scenario) -> Result<(), AllocError>
     put(out, Form::Mtu, &[u64::from(scenario.queue.mtu())], &[])
 }
 
-/// Puts the text of the scenario last.
+/// Appends the text of the scenario.
 pub fn put_scenario(out: &mut Vec<u8>, scenario: &Scenario) -> Result<(), AllocError>
     ensures { OnOk result (out.new.items ≡ out.old.items ++ spelling (world_of scenario.now)) }
 {
@@ -207,7 +207,9 @@ pub fn put_scenario(out: &mut Vec<u8>, scenario: &Scenario) -> Result<(), AllocE
     Ok(())
 }
 
-/// The text of the scenario, which is its one spelling. NoMemory says that memory ran out.
+/// Returns the text of the scenario, which is its one spelling. Returns `NoMemory` if an allocation
+/// fails.
+// claim with put_scenario: `print` writes the one spelling.
 pub fn print(alloc: Global, scenario: &Scenario) -> Result<Vec<u8>, NoMemory>
     ensures { IfOk result (λ text. text.items ≡ spelling (world_of scenario.now)) }
 {

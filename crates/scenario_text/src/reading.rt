@@ -16,7 +16,7 @@ use pci_space::Wiring;
 use std::alloc::Global;
 
 impl Draft {
-    /// The draft of a text of which nothing is read.
+    /// Returns the draft of a text before its first line.
     pub fn new(alloc: Global) -> Draft
         ensures { so_far result ≡ at_start }
     {
@@ -40,7 +40,7 @@ impl Draft {
         }
     }
 
-    /// The scenario that the lines up to the end say.
+    /// Returns the scenario of the lines up to the end.
     pub fn finish(self) -> Scenario
         requires ended { has_ended (so_far self) ≡ true }
         requires world { IsWorld (world_so_far (so_far self)) }
@@ -69,14 +69,17 @@ impl Draft {
     }
 }
 
-/// The scenario that the text spells, or the first fault of the text, in one pass over it. NoMemory says that memory
-/// ran out.
+/// Returns the scenario that the text spells, or the first fault of the text, in one pass over it.
+/// Returns `NoMemory` if an allocation fails.
+// claim found, only: `parse` reads exactly what the bytes spell, or answers NoMemory. Each scenario
+//    is a world of 2 to 8 peers, with each act allowed in its place.
+// claim exact with fault_is_first, Cause::at: A refusal is the first fault, in the format's order.
 pub fn parse(alloc: Global, bytes: &[u8]) -> Result<Scenario, ScenarioFault>
-    // What is read is spelled so.
+    // The text is a spelling of the scenario that is read.
     ensures found { IfOk result (λ scenario. IsSpelling (world_of scenario) bytes.now) }
-    // What is spelled so is read, unless memory ran out.
+    // A spelling of a scenario is read as that scenario, unless an allocation fails.
     ensures only { (w : World) → IsSpelling w bytes.now → Answers result (Ok w) }
-    // Which fault it is.
+    // The fault that is returned.
     ensures exact { Answers result (answer bytes.now) }
 {
     let mut draft = Draft::new(alloc);

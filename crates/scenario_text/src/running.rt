@@ -1,4 +1,4 @@
-//! Whether each peer of a scenario can be driven by a thread of its own.
+//! Whether each peer of a scenario can run in a thread of its own.
 ghost use Rattle.std.specs.Prelude.{◌≡◌, ◌<◌, ◌++◌, [], ◌∷◌, ◌==◌, ◌&&◌, ℕ, List, false, slice_index_or, drop, if◌then◌else◌};
 ghost use Rattle.scenario_text.specs.declared.acts.Act as acts;
 ghost use Rattle.scenario_text.specs.Acts.{peer_of};
@@ -10,35 +10,35 @@ use crate::ends::Ends;
 use crate::scenarios::Scenario;
 use crate::taking::mark;
 
-/// The number of the first act's line in a scenario without peers; each peer has a line before it.
+/// The line number of the first act in a scenario without peers; each peer has a line before it.
 const FIRST_LINE: u64 = 9;
 
-/// Offset of Interrupt Control in the register page.
+/// The offset of Interrupt Control in the register page, in bytes.
 const INTERRUPT_CONTROL: u32 = 0x08;
 
-/// What the acts before an act say of each peer.
+/// The kinds of acts before an act, for each peer.
 #[derive(Drop)]
 struct Before {
-    /// Which peers choose their calls.
+    /// The peers that choose their calls.
     autos: [bool; 8],
-    /// Which peers are storms.
+    /// The peers that are storms.
     storms: [bool; 8],
-    /// Which peers have a turn line.
+    /// The peers that have a turn line.
     turned: [bool; 8],
-    /// Of which peers the last turn or reset line is a reset.
+    /// The peers whose last turn or reset line is a reset.
     reset: [bool; 8],
-    /// Which peers' devices are set by a line.
+    /// The peers whose devices are set by a line.
     set: [bool; 8],
 }
 
-/// The flag of this peer, where it has one.
+/// Returns the flag of this peer, or false if the peer is not below 8.
 fn flag(flags: &[bool; 8], peer: u32) -> bool
     ensures { result ≡ slice_index_or flags.now peer false }
 {
     flags.get(peer as usize).copied().unwrap_or(false)
 }
 
-/// Puts the flag of the peer to this value where it is on.
+/// Sets the flag of the peer to `value` if `on` is set.
 fn put(flags: &mut [bool; 8], peer: usize, on: bool, value: bool)
     requires { peer < 8 }
     ensures { (p : ℕ) → slice_index_or flags.new p false ≡ (if on && (peer == p) then value else slice_index_or flags.old p false) }
@@ -49,7 +49,11 @@ fn put(flags: &mut [bool; 8], peer: usize, on: bool, value: bool)
 }
 
 impl Act {
-    /// Does it write what says how interrupts reach a peer: its configuration space, its MSI-X region, or Interrupt Control?
+    /// Whether the act configures how interrupts reach a peer: it writes the configuration space,
+    /// the MSI-X region or Interrupt Control.
+    // claim with Act::peer, Act::cost, Act::is_turn, Act::is_reset, Act::is_other: An act sets a
+    //    device exactly if it writes a configuration space, an MSI-X region or Interrupt Control.
+    //    Its peer, its cost in steps and its kind are those of the definition.
     pub fn sets_device(&self) -> bool
         ensures { result ≡ sets_device self.now }
     {
@@ -62,7 +66,7 @@ impl Act {
 }
 
 impl Before {
-    /// Nothing stands before the first act.
+    /// Returns the value before the first act.
     fn nothing() -> Before
         ensures { Tells result [] }
     {
@@ -75,7 +79,8 @@ impl Before {
         }
     }
 
-    /// Does the act break the form? With it there are `count` acts so far, and the ends are those in all acts.
+    /// Whether the act breaks the form. It is act number `count`, and `ends` are the ends in all
+    /// acts.
     fn is_broken_by(&self, act: &Act, ends: &Ends, count: usize) -> bool
         ensures { (before all : List acts.Act) → Tells self.now before → AreEnds ends.now all → result ≡ breaks before act.now (drop count all) }
     {
@@ -112,7 +117,10 @@ impl Before {
     }
 }
 
-/// The first line that the running form doesn't allow (docs/FORMATS.md), or None where it allows them all.
+/// Returns the first line that the running form doesn't allow (docs/FORMATS.md), or `None` if it
+/// allows all lines.
+// claim: `not_running` names the first line that the running form does not allow, or none; it never
+//    answers NoMemory.
 pub fn not_running(scenario: &Scenario) -> Option<u64>
     ensures { result ≡ not_running (world_of scenario.now) }
 {

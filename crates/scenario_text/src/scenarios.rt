@@ -7,7 +7,7 @@ use pci_space::Wiring;
 use section_map::Geometry;
 use split_ring::Queue;
 
-/// A world, its kinds of peers, and what happens in it. There are just the scenarios that have a spelling.
+/// A world, its kinds of peers, and its schedule. Each value has a spelling.
 #[derive(Debug, Drop)]
 pub struct Scenario {
     /// The sizes of the region.
@@ -16,7 +16,7 @@ pub struct Scenario {
     pub queue: Queue,
     /// How the devices raise interrupts.
     pub wiring: Wiring,
-    /// For each peer, from peer 0, whether it is honest.
+    /// Whether each peer is honest, from peer 0.
     pub honest: Flags,
     /// The schedule.
     pub acts: Acts,

@@ -26,21 +26,21 @@ use std::alloc::Global;
 const MOST_TURNS: u64 = 4_000_000;
 
 impl Act {
-    /// Does the peer choose its calls from here on?
+    /// Whether the act makes its peer choose its calls.
     pub(crate) fn is_auto(&self) -> bool
         ensures { result ≡ is_auto (peer_of self.now) self.now }
     {
         matches!(self, Act::Auto { .. })
     }
 
-    /// Are the peer's turns generated writes from here on?
+    /// Whether the act makes its peer's turns generated writes.
     pub(crate) fn is_storm(&self) -> bool
         ensures { result ≡ is_storm (peer_of self.now) self.now }
     {
         matches!(self, Act::Storm { .. })
     }
 
-    /// Is it a call line?
+    /// Whether the act is a call line.
     fn is_call(&self) -> bool
         ensures { result ≡ is_call (peer_of self.now) self.now }
     {
@@ -51,7 +51,7 @@ impl Act {
     }
 }
 
-/// The numbers of the line, if each is one and in its range.
+/// Returns the numbers of the line, if each of them is a number in its range.
 fn numbers(draft: &Draft, form: Form, fields: &[&[u8]]) -> Option<ArrayVec<u64, 6>>
     ensures value { option_map (λ v. v.items) result ≡ numbers_in (so_far draft.now) form (texts fields.now) }
     ensures limits { IfSome result (λ v. AreInRange (pieces_of form) v.items) }
@@ -63,8 +63,8 @@ fn numbers(draft: &Draft, form: Form, fields: &[&[u8]]) -> Option<ArrayVec<u64, 
     Some(numbers)
 }
 
-/// The frame of the line, empty where its form has none, if its digits spell one that fits. Digits that are too many
-/// or too few are not read.
+/// Returns the frame of the line, if its digits spell one that fits. The frame is empty if the form
+/// has none. Digits of a wrong number are not read.
 fn frame(
     alloc: Global,
     draft: &Draft,
@@ -83,7 +83,7 @@ fn frame(
     Ok(Some(Frame::of(alloc, &bytes)?))
 }
 
-/// Sets the flag of the peer where it is on.
+/// Sets the flag of the peer if `on` is set.
 pub fn mark(flags: &mut [bool; 8], peer: usize, on: bool)
     requires { peer < 8 }
     ensures { (p : ℕ) → slice_index_or flags.new p false ≡ (slice_index_or flags.old p false || (on && (peer == p))) }
@@ -125,7 +125,7 @@ impl Draft {
         Ok(())
     }
 
-    /// Takes the size of a section, where there is a region of the sizes so far.
+    /// Takes the size of a section, if a region of the sizes so far exists.
     fn add_out(&mut self, out: u64) -> Result<(), LineFault<Cause>>
         ensures { Gives (so_far self.new) result (head_with Out (out ∷ []) (so_far self.old)) }
     {
@@ -138,7 +138,7 @@ impl Draft {
         Ok(())
     }
 
-    /// Takes the MTU, where a section has a queue for it.
+    /// Takes the MTU, if a section has a queue for it.
     fn add_mtu(&mut self, mtu: u32) -> Result<(), LineFault<Cause>>
         requires order { 4 < ordinal_of self.old.position }
         ensures { Gives (so_far self.new) result (head_with Mtu (mtu ∷ []) (so_far self.old)) }

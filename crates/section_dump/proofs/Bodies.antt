@@ -8,7 +8,7 @@ use Rattle.section_dump.specs.Image.{words_from, region_words, section_words, sh
 use Rattle.section_dump.specs.Lines.{Line, QueueSizes, NoQueue, State, End, line_of, text_of, Puts}
 use Rattle.section_dump.specs.Listing.{IsSection, AreTwoSections, AreSections, head_lines, queue_line, state_lines, IsBody, IsListing}
 
--- some lines and then more lines
+-- Lines and then more lines.
 lines_then : (first second : List Line) (old text new : List ℕ) → text ≡ old ++ text_of first → new ≡ text ++ text_of second → new ≡ old ++ text_of (first ++ second)
 lines_then first second old text new a b =
     b ∙ ap (λ bytes. bytes ++ text_of second) a ∙ append_assoc old (text_of first) (text_of second) ∙ ap (λ bytes. old ++ bytes) (sym (flat_map-append line_of first second))
@@ -16,7 +16,7 @@ lines_then first second old text new a b =
 one_line : (line : Line) (old new : List ℕ) → new ≡ old ++ line_of line → new ≡ old ++ text_of (line ∷ [])
 one_line line old new is = is ∙ ap (λ bytes. old ++ bytes) (sym (append-nil (line_of line)))
 
--- the state of one more peer
+-- The state of one more peer.
 pub state_more : (words : ℕ → ℕ) (peer value : ℕ) (old text new : List ℕ) → text ≡ old ++ text_of (state_lines words peer) → value ≡ words peer
     → new ≡ text ++ line_of (State peer value) → new ≡ old ++ text_of (state_lines words (peer + 1))
 state_more words peer value old text new before is puts =
@@ -33,7 +33,7 @@ section_at q r v w x y peer old new e f g h =
 same_words : (a image : List ℕ) (f g : ℕ) → a ≡ image → f ≡ g → words_from a f ≡ words_from image g
 same_words a image f g e h = ap (λ z. words_from z f) e ∙ ap (λ z. words_from image z) h
 
--- the sections of peers 0 and 1
+-- The sections of peers 0 and 1.
 pub two_sections : (image a b : List ℕ) (q r : Sizes) (f g : ℕ) (old text new : List ℕ)
     → q ≡ queue_in image → r ≡ queue_in image → a ≡ image → b ≡ image
     → f ≡ 8 + section_start (shape_in image) 0 → g ≡ 8 + section_start (shape_in image) 1
@@ -46,7 +46,7 @@ two_sections image a b q r f g old text new eq er ea eb ef eg first second =
     let t : Puts (IsSection (queue_in image) (section_words image 1) (section_words image 0) 1) text new = section_at r (queue_in image) (words_from b g) (section_words image 1) (words_from a f) (section_words image 0) 1 text new er v w second in
     (s.0 ++ t.0, (s.0, t.0, s.1, t.1, refl), lines_then s.0 t.0 old text new s.2 t.2)
 
--- the body where there is no queue
+-- The body without a queue.
 pub body_without : (image : List ℕ) (out peers : ℕ) (old text new : List ℕ) → out ≡ out_in image → peers ≡ peers_in image → queue_size out ≡ None
     → text ≡ old ++ line_of NoQueue → new ≡ text ++ text_of (state_lines (region_words image) peers) → Puts (IsBody image) old new
 body_without image out peers old text new eo ep none first states =
@@ -62,7 +62,7 @@ body_without image out peers old text new eo ep none first states =
           (states ∙ ap (λ n. text ++ text_of (state_lines (region_words image) n)) ep ∙ ap (λ lines. text ++ text_of lines) (sym (append-nil all))),
     )
 
--- the body where there is a queue
+-- The body with a queue.
 pub body_with : (image : List ℕ) (q : Sizes) (out peers : ℕ) (old text more new : List ℕ) → out ≡ out_in image → peers ≡ peers_in image
     → q ≡ record { version = 1; out = out; mtu = 256 } → queue_size out ≡ Some (size_of q)
     → text ≡ old ++ line_of (QueueSizes (size_of q) (rings_len (size_of q)) (q.out - rings_len (size_of q)))
@@ -83,7 +83,7 @@ body_with image q out peers old text more new eo ep eq some first states section
           (lines_then all sections.0 text more new (states ∙ ap (λ n. text ++ text_of (state_lines (region_words image) n)) ep) sections.2),
     )
 
--- the listing from its head, its body and its end
+-- The listing from its head, its body and its end.
 pub listing : (image : List ℕ) (head : List Line) (start text more new : List ℕ) → start ≡ [] → head ≡ head_lines image
     → text ≡ start ++ text_of head → Puts (IsBody image) text more → new ≡ more ++ line_of End → IsListing image new
 listing image head start text more new empty is first body last = record {

@@ -1,4 +1,4 @@
--- The bytes that the words of an image have are the bytes of the image.
+-- The bytes of an image's words are the bytes of the image.
 use Rattle.std.proofs.Common.{◌≡◌, ℕ, zero, suc, ◌+◌, ◌*◌, ◌/◌, ◌%◌, ◌^◌, ◌<◌, ◌≤◌, List, ◌∷◌, length, get_or, take, drop, refl, sym, ap, subst, ◌∙◌, arith}
 use mathlib.Core.Logic.{dite}
 use native.Mathlib.Decide.{ℕ_discrete}
@@ -7,11 +7,11 @@ use Rattle.std.proofs.Math.Seq.{drop-cons}
 use Rattle.split_ring.specs.Spelling.{byte_at, bytes_from}
 use Rattle.section_dump.specs.Image.{words_from}
 
--- each item of a list of bytes is below 256
+-- Each item of a list of bytes is below 256.
 abbrev pub AreBytes : List ℕ → Type 0
 AreBytes bytes = (k : ℕ) → get_or bytes k 0 < 256
 
--- the byte j of the word that four bytes make
+-- Byte j of the word of four bytes.
 byte_of_four : (a b c d w : ℕ) → a < 256 → b < 256 → c < 256 → d < 256 → w ≡ a + 256 * (b + 256 * (c + 256 * (d + 256 * 0)))
     → (w / 1 % 256 ≡ a) × (w / 256 % 256 ≡ b) × (w / 65536 % 256 ≡ c) × (w / 16777216 % 256 ≡ d)
 byte_of_four a b c d w la lb lc ld e = (omega arith, omega arith, omega arith, omega arith)
@@ -35,13 +35,13 @@ at_rest image place rest m w lt e h =
     (λ n2. let r : rest ≡ 3 = omega arith in subst (λ n. w / 256 ^ n % 256 ≡ get_or image (m + n) 0) (sym r) h.3))) in
     there ∙ ap (λ i. get_or image i 0) (sym e)
 
--- the byte at a place of a section is that of the image
+-- The byte at an offset of a section is that of the image.
 pub byte_in : (image : List ℕ) (first place : ℕ) → AreBytes image → byte_at (words_from image first) place ≡ get_or image (4 * first + place) 0
 byte_in image first place small =
     at_rest image (4 * first + place) (place % 4) (4 * (first + place / 4)) (words_from image first (place / 4)) (omega arith) (omega arith)
     (four image (4 * (first + place / 4)) (words_from image first (place / 4)) small refl)
 
--- so many bytes of a section are those of the image
+-- `count` bytes of a section are those of the image.
 pub bytes_in : (image : List ℕ) (first place count : ℕ) → AreBytes image → 4 * first + place + count ≤ length image
     → take count (drop (4 * first + place) image) ≡ bytes_from (words_from image first) place count
 bytes_in image first place zero small room = refl

@@ -8,7 +8,7 @@ use Rattle.section_map.specs.Faults.{IsPages, IsSomePages, shape_of}
 use Rattle.section_dump.specs.Image.{shape_in, length_due, peers_in, table_in, common_in, out_in}
 use Rattle.section_dump.specs.Laws.{CutHeadersAreBad, CutImagesAreShort}
 
--- a number that stands within the first j bytes is the same there
+-- A number within the first j bytes is the same in them.
 number_from : (image : List ℕ) (j k i n : ℕ) → k + i + n ≤ j → little_from i n (drop k (take j image)) ≡ little_from i n (drop k image)
 number_from image j k i zero within = refl
 number_from image j k i (suc n) within =

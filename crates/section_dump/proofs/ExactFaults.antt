@@ -12,11 +12,11 @@ use Rattle.section_dump.specs.declared.DumpFault.TheVariants.{BadHeader, Geometr
 abbrev AreSizes : (peers table common out : ℕ) → Type 0
 AreSizes peers table common out = IsSomePages table × IsPages common × IsSomePages out × IsShape (shape_of peers table common out)
 
--- whole pages for each peer are four times as many words
+-- Whole pages for each peer, in bytes, are four times their number of words.
 pages_in_words : (peers out : ℕ) → out % 4096 ≡ 0 → peers * out ≡ 4 * (peers * (out / 4))
 pages_in_words peers out whole = let e : out ≡ 4 * (out / 4) = omega arith in ap (λ n. peers * n) e ∙ (omega arith)
 
--- sizes with a fault are those of no region
+-- Sizes with a fault are those of no region.
 no_region : (peers table common out : ℕ) (fault : GeometryFault) → IsFirstFault peers table common out fault → AreSizes peers table common out → ⊥
 no_region peers table common out (BadPeers n) h s = h.0 (s.3.two_peers, s.3.most_peers)
 no_region peers table common out (BadPage Table n) h s = h.1 s.0

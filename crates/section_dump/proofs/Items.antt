@@ -15,7 +15,7 @@ length-bytes_from : (words : ℕ → ℕ) (place count : ℕ) → length (bytes_
 length-bytes_from words place zero = refl
 length-bytes_from words place (suc count) = ap suc (length-bytes_from words (place + 1) count)
 
--- an item that a poll accepts, with its bytes, is the frame that is spelled there
+-- An item that a poll accepts, with its bytes, is the frame that is spelled there.
 accepted_item : (q : Sizes) (words : ℕ → ℕ) (position entry address count : ℕ) (bytes : List ℕ) → IsAccepted q words position entry address count
     → bytes ≡ bytes_from words address count → IsItem q words position (Frame position entry address (length bytes) bytes)
 accepted_item q words position entry address count bytes h is = (
@@ -52,7 +52,7 @@ AreItems-append q words position (first ∷ lines) line are is = (are.0, AreItem
 pub no_items : (q : Sizes) (words : ℕ → ℕ) (position : ℕ) (text : List ℕ) → Puts (AreItemsOf q words position 0) text text
 no_items q words position text = ([], (tt, refl), sym (append-nil text))
 
--- one more item after those of count positions
+-- One more item after those of count positions.
 pub more_items : (q : Sizes) (words : ℕ → ℕ) (position count : ℕ) (old text new : List ℕ) → Puts (AreItemsOf q words position count) old text
     → Puts (IsItemLine q words ((position + count) % 65536)) text new → Puts (AreItemsOf q words position (count + 1)) old new
 more_items q words position count old text new (lines, are, is) ([], item, puts) = absurd item
@@ -66,7 +66,7 @@ more_items q words position count old text new (lines, are, is) (line ∷ [], it
 after_one : (line : Line) (lines : List Line) (old text new : List ℕ) → text ≡ old ++ line_of line → new ≡ text ++ text_of lines → new ≡ old ++ text_of (line ∷ lines)
 after_one line lines old text new first more = more ∙ ap (λ bytes. bytes ++ text_of lines) first ∙ append_assoc old (line_of line) (text_of lines)
 
--- a section with its items
+-- A section with its items.
 pub listed_section : (q : Sizes) (words others : ℕ → ℕ) (peer available used count : ℕ) (old text new : List ℕ)
     → available ≡ avail_index q words → used ≡ used_index q others → IsAvailIndex q used available × (count ≡ distance used available)
     → text ≡ old ++ line_of (Section peer available used) → Puts (AreItemsOf q words used count) text new
@@ -82,7 +82,7 @@ listed_section q words others peer available used count old text new a u inside 
   after_one (Section peer available used) items old text new begins is,
 )
 
--- a section whose indices are too far apart
+-- A section whose indices are too far apart.
 pub refused_section : (q : Sizes) (words others : ℕ → ℕ) (peer available used : ℕ) (old text new : List ℕ)
     → available ≡ avail_index q words → used ≡ used_index q others → ¬ IsAvailIndex q used available
     → text ≡ old ++ line_of (Section peer available used) → new ≡ text ++ line_of (Bad available AvailIndex available)

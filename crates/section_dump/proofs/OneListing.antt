@@ -13,7 +13,7 @@ use Rattle.section_dump.specs.Lines.{Line, Section, Frame, Bad, End, text_of}
 use Rattle.section_dump.specs.Listing.{IsFirstRefused, IsItem, AreItems, IsSection, AreTwoSections, AreSections, head_lines, queue_line, state_lines, IsBody}
 use Rattle.section_dump.specs.Laws.{ListingsAreOne}
 
--- a spelled position has no field that a poll would refuse
+-- A spelled position has no field that a poll would refuse.
 spelled_not_refused : (q : Sizes) (words : ℕ → ℕ) (position e : ℕ) (bytes : List ℕ) (field : FieldName) (value : ℕ) → Spells q words position e bytes → IsFirstRefused q words position field value → ⊥
 spelled_not_refused q words position e bytes AvailEntry value s r = r.0 (subst (λ n. IsAvailEntry q n) (sym s.entry_is) s.entry)
 spelled_not_refused q words position e bytes DescAddress value s r = r.1 (subst (λ n. IsDescAddress q (address_at q words n)) (sym s.entry_is) s.address)
@@ -23,7 +23,7 @@ spelled_not_refused q words position e bytes AvailIndex value s r = r
 spelled_not_refused q words position e bytes UsedIndex value s r = r
 spelled_not_refused q words position e bytes UsedId value s r = r
 
--- one field is the first that a poll would refuse
+-- One field is the first that a poll would refuse.
 one_refused : (q : Sizes) (words : ℕ → ℕ) (position : ℕ) (f g : FieldName) (a b : ℕ) → IsFirstRefused q words position f a → IsFirstRefused q words position g b → Bad position f a ≡ Bad position g b
 one_refused q words position AvailEntry AvailEntry a b r s = ap (Bad position AvailEntry) (r.1 ∙ sym s.1)
 one_refused q words position AvailEntry DescAddress a b r s = absurd (r.0 s.0)

@@ -1,11 +1,11 @@
--- Which bytes are no image, and why (profile).
+-- The bytes that are no image, and their faults (profile).
 use Rattle.std.specs.Prelude.{◌≡◌, ℕ, ◌<◌, List, length}
 use Rattle.section_map.specs.Faults.{IsFirstFault}
 use Rattle.section_dump.specs.Image.{HasHeader, HasSizes, length_due, peers_in, table_in, common_in, out_in}
 use Rattle.section_dump.specs.declared.DumpFault.{DumpFault}
 use Rattle.section_dump.specs.declared.DumpFault.TheVariants.{BadHeader, Geometry, ShortImage, LongImage, NoMemory}
 
--- the first thing that is wrong: the header, then the sizes, then the length; want of memory may come at any time
+-- The first fault: the header, then the sizes, then the length; an allocation may fail at any time.
 abbrev pub IsDumpFault : List ℕ → DumpFault → Type 0
 IsDumpFault image BadHeader = ¬ HasHeader image
 IsDumpFault image (Geometry fault) =

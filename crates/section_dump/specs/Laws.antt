@@ -1,4 +1,4 @@
--- What holds of every image.
+-- Laws of every image.
 use Rattle.std.specs.Prelude.{◌≡◌, ◌≢◌, ℕ, ◌<◌, ◌≤◌, List, length, take}
 use Rattle.section_dump.specs.Image.{IsImage}
 use Rattle.section_dump.specs.Listing.{IsListing}
@@ -6,22 +6,22 @@ use Rattle.section_dump.specs.Faults.{IsDumpFault}
 use Rattle.section_dump.specs.declared.DumpFault.{DumpFault}
 use Rattle.section_dump.specs.declared.DumpFault.TheVariants.{BadHeader, ShortImage, NoMemory}
 
--- bytes with a fault are no image
+-- Bytes with a fault are no image.
 abbrev pub FaultsAreOfNoImage : Type 0
 FaultsAreOfNoImage = (image : List ℕ) (fault : DumpFault) → fault ≢ NoMemory → IsDumpFault image fault → ¬ IsImage image
 
--- bytes have one fault at most
+-- Bytes have at most one fault.
 abbrev pub FaultsAreOne : Type 0
 FaultsAreOne = (image : List ℕ) (a b : DumpFault) → a ≢ NoMemory → b ≢ NoMemory → IsDumpFault image a → IsDumpFault image b → a ≡ b
 
--- an image has one listing
+-- An image has one listing.
 abbrev pub ListingsAreOne : Type 0
 ListingsAreOne = (image a b : List ℕ) → IsListing image a → IsListing image b → a ≡ b
 
--- fewer than 32 bytes of an image, or of anything else, have no header
+-- Fewer than 32 bytes have no header.
 abbrev pub CutHeadersAreBad : Type 0
 CutHeadersAreBad = (image : List ℕ) (j : ℕ) → j < 32 → IsDumpFault (take j image) BadHeader
 
--- the first j bytes of an image, from 32 on, are too few: the image's length is needed, and j are found
+-- The first j bytes of an image, from 32 on, are too few: the fault has the image's length and j.
 abbrev pub CutImagesAreShort : Type 0
 CutImagesAreShort = (image : List ℕ) (j : ℕ) → IsImage image → 32 ≤ j → j < length image → IsDumpFault (take j image) (ShortImage (length image) j)

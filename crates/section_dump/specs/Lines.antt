@@ -5,8 +5,9 @@ use Rattle.hex.specs.Hex.{encode_lower}
 use Rattle.split_ring.specs.declared.ranges.FieldName.{FieldName}
 use Rattle.split_ring.specs.declared.ranges.FieldName.TheVariants.{AvailIndex, AvailEntry, DescAddress, DescLength, DescFlags, UsedIndex, UsedId}
 
--- a line: the four sizes of the header, the queue, the state of a peer, the two indices of a section, a frame of it with
--- its position, entry, address and length, a field that a receiver would refuse, and the end
+-- A line of a listing: one of the four sizes of the header, the queue, the state of a peer, or the
+-- two indices of a section. A section's item is a frame with its position, entry, address and
+-- length, or a field that a receiver would refuse. The last line is the end.
 pub data Line : Type 0 where
   Peers : ℕ → Line
   Table : ℕ → Line
@@ -20,7 +21,7 @@ pub data Line : Type 0 where
   Bad : (position : ℕ) (field : FieldName) (value : ℕ) → Line
   End : Line
 
--- a field by its name
+-- A field by its name.
 abbrev pub name_of : FieldName → List ℕ
 name_of AvailIndex = codes "AvailIndex"
 name_of AvailEntry = codes "AvailEntry"
@@ -30,7 +31,7 @@ name_of DescFlags = codes "DescFlags"
 name_of UsedIndex = codes "UsedIndex"
 name_of UsedId = codes "UsedId"
 
--- the fields of a line
+-- The fields of a line.
 abbrev pub fields_of : Line → List (List ℕ)
 fields_of (Peers n) = codes "peers" ∷ decimal n ∷ []
 fields_of (Table n) = codes "table" ∷ decimal n ∷ []
@@ -45,14 +46,14 @@ fields_of (Frame position entry address length bytes) =
 fields_of (Bad position field value) = codes "bad" ∷ decimal position ∷ name_of field ∷ decimal value ∷ []
 fields_of End = codes "end" ∷ []
 
--- a line: its fields with one space between them, and a newline
+-- A line: its fields with one space between them, and a newline.
 unfoldable pub line_of : Line → List ℕ
 line_of line = join_with_byte 32 (fields_of line) ++ 10 ∷ []
 
--- the text of some lines
+-- The text of lines.
 abbrev pub text_of : List Line → List ℕ
 text_of lines = flat_map line_of lines
 
--- the text is the old one and after it some lines, of which P holds
+-- The new text is the old one and then lines with property P.
 abbrev pub Puts : (List Line → Type 0) → (old new : List ℕ) → Type 0
 Puts P old new = (lines : List Line) × P lines × (new ≡ old ++ text_of lines)

@@ -7,10 +7,10 @@ ghost use Rattle.section_dump.specs.Image.{HasHeader, words_from, peers_in, tabl
 use byteorder::{ByteOrder, LittleEndian};
 use section_map::{Geometry, GeometryFault};
 
-/// What an image begins with.
+/// The first bytes of an image.
 const MAGIC: [u8; 8] = *b"IVSHMIMG";
 
-/// The sizes that the header of an image has, in bytes.
+/// The sizes in the header of an image, in bytes.
 #[derive(Clone, Copy, Debug)]
 pub struct Header {
     pub peers: u32,
@@ -20,7 +20,7 @@ pub struct Header {
 }
 
 impl Header {
-    /// The sizes in the header, if there is a whole one.
+    /// Returns the sizes in the header, if the header is complete.
     pub fn read(image: &[u8]) -> Option<Header>
         ensures header { MatchOption result (¬ HasHeader image.now) (λ _. HasHeader image.now) }
         ensures sizes { IfSome result (λ h. h ≡ record {
@@ -41,7 +41,7 @@ impl Header {
         })
     }
 
-    /// The geometry of these sizes.
+    /// Returns the geometry of these sizes.
     pub fn geometry(&self) -> Result<Geometry, GeometryFault>
         ensures made { IfOk result (λ g. g ≡ shape_of self.now.peers self.now.table self.now.common self.now.out) }
         ensures sizes { IfOk result (λ g. IsSomePages self.now.table × IsPages self.now.common × IsSomePages self.now.out × IsShape g) }
@@ -51,7 +51,7 @@ impl Header {
     }
 }
 
-/// The word `i` of the region, which stands after the header.
+/// Returns word `i` of the region, which comes after the header.
 pub fn region_word(image: &[u8], i: u32) -> u32
     requires { 32 + 4 * i + 4 ≤ length image.now }
     ensures { result ≡ words_from image.now 8 i }

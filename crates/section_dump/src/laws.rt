@@ -1,4 +1,4 @@
-//! What holds of every image.
+//! Laws of every image.
 ghost use Rattle.section_dump.specs.Laws.{CutHeadersAreBad, CutImagesAreShort, FaultsAreOfNoImage, FaultsAreOne, ListingsAreOne};
 
 /// Law: bytes with a fault are no image, and have no other fault.
@@ -12,7 +12,10 @@ pub fn listings_are_one()
     ensures { ListingsAreOne }
 {}
 
-/// Law: an image that is cut anywhere is refused by its header, or as too short with both lengths.
+/// Law: an image that is cut at any byte is refused by its header, or as too short with both
+/// lengths.
+// claim header, short: An image that is cut anywhere is refused: below 32 bytes by its header,
+//    otherwise as too short, with the image's length and the bytes found.
 pub fn cut_images_are_short()
     ensures header { CutHeadersAreBad }
     ensures short { CutImagesAreShort }

@@ -1,4 +1,4 @@
-//! The lines of a listing. Each function puts one line last.
+//! The lines of a listing. Each function appends one line.
 ghost use Rattle.std.specs.Prelude.{◌≡◌, ◌++◌, OnOk, length, string_bytes};
 ghost use Rattle.hex.specs.Hex.{encode_lower};
 ghost use Rattle.section_dump.specs.Lines.{line_of, name_of, Peers, Table, Common, Out, QueueSizes, NoQueue, State, Section, Frame, Bad, End};
@@ -6,7 +6,7 @@ ghost use Rattle.section_dump.specs.Lines.{line_of, name_of, Peers, Table, Commo
 use split_ring::FieldName;
 use std::alloc::{AllocError, Global};
 
-/// How many peers the region serves.
+/// Appends the number of peers.
 #[tactic(auto, unfolding(crate::specs::Lines::line_of))]
 pub fn put_peers(text: &mut String, peers: u32) -> Result<(), AllocError>
     ensures { OnOk result (string_bytes text.new ≡ string_bytes text.old ++ line_of (Peers peers)) }
@@ -14,7 +14,7 @@ pub fn put_peers(text: &mut String, peers: u32) -> Result<(), AllocError>
     writeln!(text, "peers {peers}")
 }
 
-/// The bytes of the State Table.
+/// Appends the size of the State Table, in bytes.
 #[tactic(auto, unfolding(crate::specs::Lines::line_of))]
 pub fn put_table(text: &mut String, table: u32) -> Result<(), AllocError>
     ensures { OnOk result (string_bytes text.new ≡ string_bytes text.old ++ line_of (Table table)) }
@@ -22,7 +22,7 @@ pub fn put_table(text: &mut String, table: u32) -> Result<(), AllocError>
     writeln!(text, "table {table}")
 }
 
-/// The bytes of the common section.
+/// Appends the size of the common section, in bytes.
 #[tactic(auto, unfolding(crate::specs::Lines::line_of))]
 pub fn put_common(text: &mut String, common: u64) -> Result<(), AllocError>
     ensures { OnOk result (string_bytes text.new ≡ string_bytes text.old ++ line_of (Common common)) }
@@ -30,7 +30,7 @@ pub fn put_common(text: &mut String, common: u64) -> Result<(), AllocError>
     writeln!(text, "common {common}")
 }
 
-/// The bytes of an output section.
+/// Appends the size of an output section, in bytes.
 #[tactic(auto, unfolding(crate::specs::Lines::line_of))]
 pub fn put_out(text: &mut String, out: u64) -> Result<(), AllocError>
     ensures { OnOk result (string_bytes text.new ≡ string_bytes text.old ++ line_of (Out out)) }
@@ -38,7 +38,7 @@ pub fn put_out(text: &mut String, out: u64) -> Result<(), AllocError>
     writeln!(text, "out {out}")
 }
 
-/// The queue's size, and the bytes of its ring part and its data area.
+/// Appends the queue size, and the sizes of its rings and its data area in bytes.
 #[tactic(auto, unfolding(crate::specs::Lines::line_of))]
 pub fn put_queue(text: &mut String, size: u32, ring: u32, room: u32) -> Result<(), AllocError>
     ensures { OnOk result (string_bytes text.new ≡ string_bytes text.old ++ line_of (QueueSizes size ring room)) }
@@ -46,7 +46,7 @@ pub fn put_queue(text: &mut String, size: u32, ring: u32, room: u32) -> Result<(
     writeln!(text, "queue {size} {ring} {room}")
 }
 
-/// No queue size fits.
+/// Appends the line that says that no queue size fits.
 #[tactic(auto, unfolding(crate::specs::Lines::line_of))]
 pub fn put_no_queue(text: &mut String) -> Result<(), AllocError>
     ensures { OnOk result (string_bytes text.new ≡ string_bytes text.old ++ line_of NoQueue) }
@@ -54,7 +54,7 @@ pub fn put_no_queue(text: &mut String) -> Result<(), AllocError>
     writeln!(text, "queue none")
 }
 
-/// The state of a peer.
+/// Appends the state of a peer.
 #[tactic(auto, unfolding(crate::specs::Lines::line_of))]
 pub fn put_state(text: &mut String, peer: u32, value: u32) -> Result<(), AllocError>
     ensures { OnOk result (string_bytes text.new ≡ string_bytes text.old ++ line_of (State peer value)) }
@@ -62,7 +62,7 @@ pub fn put_state(text: &mut String, peer: u32, value: u32) -> Result<(), AllocEr
     writeln!(text, "state {peer} {value}")
 }
 
-/// A peer's available index and the other's used index.
+/// Appends a peer's available index and the other's used index.
 #[tactic(auto, unfolding(crate::specs::Lines::line_of))]
 pub fn put_section(
     text: &mut String,
@@ -75,7 +75,7 @@ pub fn put_section(
     writeln!(text, "section {peer} {available} {used}")
 }
 
-/// A frame with its position, entry and address.
+/// Appends a frame with its position, entry and address.
 #[tactic(auto, unfolding(crate::specs::Lines::line_of))]
 pub fn put_frame(
     alloc: Global,
@@ -92,7 +92,7 @@ pub fn put_frame(
     writeln!(text, "frame {position} {entry} {address} {length} {digits}")
 }
 
-/// A field that a receiver would refuse at a position, and its value.
+/// Appends a field that a receiver would refuse at a position, and its value.
 #[tactic(auto, unfolding(crate::specs::Lines::line_of))]
 pub fn put_bad(
     text: &mut String,
@@ -106,7 +106,7 @@ pub fn put_bad(
     writeln!(text, "bad {position} {name} {value}")
 }
 
-/// The listing is over.
+/// Appends the end of the listing.
 #[tactic(auto, unfolding(crate::specs::Lines::line_of))]
 pub fn put_end(text: &mut String) -> Result<(), AllocError>
     ensures { OnOk result (string_bytes text.new ≡ string_bytes text.old ++ line_of End) }
@@ -114,7 +114,7 @@ pub fn put_end(text: &mut String) -> Result<(), AllocError>
     writeln!(text, "end")
 }
 
-/// The name of a field.
+/// Returns the name of a field.
 fn name_of(field: FieldName) -> &'static str
     ensures { result.now ≡ name_of field }
 {

@@ -1,4 +1,4 @@
-//! The parts of a listing. Each function puts the lines of one part last.
+//! The parts of a listing. Each function appends the lines of one part.
 ghost use Rattle.std.specs.Prelude.{◌≡◌, ◌+◌, ◌-◌, ◌*◌, ◌^◌, ◌≤◌, [], ◌∷◌, ◌++◌, length, Some, None, IfSome, MatchOption, IfOk, OnOk, string_bytes};
 ghost use Rattle.split_ring.specs.Layout.{queue_size, size_of, rings_len};
 ghost use Rattle.section_dump.specs.Image.{IsImage, words_from, region_words, shape_in, queue_in, peers_in, table_in, common_in, out_in};
@@ -13,7 +13,8 @@ use section_map::Geometry;
 use split_ring::{Queue, queue_size_is_greatest};
 use std::alloc::{AllocError, Global};
 
-/// The line of a position: the frame that is spelled there, or the first field that a poll would refuse.
+/// Appends the line of a position: the frame that is spelled there, or the first field that a poll
+/// would refuse.
 pub fn put_item(
     alloc: Global,
     text: &mut String,
@@ -32,7 +33,7 @@ pub fn put_item(
     }
 }
 
-/// The lines of so many positions from this one on.
+/// Appends the lines of `count` positions from this one on.
 fn put_items(
     alloc: Global,
     text: &mut String,
@@ -49,7 +50,8 @@ fn put_items(
     Ok(())
 }
 
-/// The section of a peer: its indices, and the item of each position that the other peer has still to take.
+/// Appends the section of a peer: its indices, and the item of each position that the other peer
+/// hasn't returned.
 pub fn put_section(
     alloc: Global,
     text: &mut String,
@@ -70,7 +72,7 @@ pub fn put_section(
     }
 }
 
-/// The sizes of the header.
+/// Appends the sizes of the header.
 fn put_head(text: &mut String, header: &Header) -> Result<(), AllocError>
     ensures { OnOk result (string_bytes text.new ≡ string_bytes text.old ++ text_of (Peers header.now.peers
         ∷ Table header.now.table ∷ Common header.now.common ∷ Out header.now.out ∷ [])) }
@@ -81,7 +83,7 @@ fn put_head(text: &mut String, header: &Header) -> Result<(), AllocError>
     lines::put_out(text, header.out)
 }
 
-/// The queue in sections of so many bytes, if a queue size fits. No line depends on the MTU.
+/// Returns the queue in sections of `out` bytes, if a queue size fits. No line depends on the MTU.
 fn queue_of(out: u64) -> Option<Queue>
     requires { out ≤ 2 ^ 24 }
     ensures size { MatchOption result (queue_size out ≡ None) (λ q. queue_size out ≡ Some (size_of q)) }
@@ -91,7 +93,7 @@ fn queue_of(out: u64) -> Option<Queue>
     Queue::of(out, 256).ok()
 }
 
-/// The line of the queue.
+/// Appends the line of the queue.
 fn put_queue(text: &mut String, queue: &Queue) -> Result<(), AllocError>
     ensures { OnOk result (string_bytes text.new ≡ string_bytes text.old
         ++ line_of (QueueSizes (size_of queue.now) (rings_len (size_of queue.now)) (queue.now.out - rings_len (size_of queue.now)))) }
@@ -100,7 +102,7 @@ fn put_queue(text: &mut String, queue: &Queue) -> Result<(), AllocError>
     lines::put_queue(text, queue.size(), ring, queue.out() - ring)
 }
 
-/// The states of the peers below `peers`.
+/// Appends the states of the peers below `peers`.
 fn put_states(text: &mut String, image: &[u8], peers: u32) -> Result<(), AllocError>
     requires { 32 + 4 * peers ≤ length image.now }
     ensures { OnOk result (string_bytes text.new ≡ string_bytes text.old ++ text_of (state_lines (region_words image.now) peers)) }
@@ -111,7 +113,7 @@ fn put_states(text: &mut String, image: &[u8], peers: u32) -> Result<(), AllocEr
     Ok(())
 }
 
-/// The sections of peers 0 and 1.
+/// Appends the sections of peers 0 and 1.
 fn put_sections(
     alloc: Global,
     text: &mut String,
@@ -130,7 +132,7 @@ fn put_sections(
     put_section(alloc, text, 1, &second, &first)
 }
 
-/// The queue, the states and the sections.
+/// Appends the queue, the states and the sections.
 fn put_body(
     alloc: Global,
     text: &mut String,
@@ -156,7 +158,7 @@ fn put_body(
     }
 }
 
-/// The listing of an image with this header and this geometry.
+/// Returns the listing of an image with this header and this geometry.
 pub fn list(
     alloc: Global,
     image: &[u8],

@@ -1,4 +1,4 @@
-//! The ring part of a section, as a receiver reads it.
+//! The rings of a section, as a receiver reads them.
 ghost use Rattle.std.specs.Prelude.{◌≡◌, ◌+◌, ◌*◌, ◌<◌, ◌≤◌, length, IfOk, IfErr};
 ghost use Rattle.split_ring.specs.Layout.{size_of};
 ghost use Rattle.ivs_base.specs.Numbers.{distance};
@@ -19,7 +19,7 @@ pub struct Ring<'a> {
     ghost inside: { 4 * first + queue.out ≤ length image.now },
 }
 
-/// An item that passed the checks of a poll: the descriptor, and where its frame stands.
+/// An item that passed the checks of a poll: the descriptor, and the place of its frame.
 #[derive(Clone, Copy, Debug)]
 pub struct Item {
     pub entry: u32,
@@ -28,7 +28,7 @@ pub struct Item {
 }
 
 impl<'a> Ring<'a> {
-    /// The section that begins at the word `first` of the image.
+    /// Returns the section that begins at word `first` of the image.
     pub fn new(queue: Queue, image: &'a [u8], first: usize) -> Ring<'a>
         requires { 4 * first + queue.out ≤ length image.now }
         ensures queue { result.queue ≡ queue }
@@ -42,7 +42,7 @@ impl<'a> Ring<'a> {
         }
     }
 
-    /// The word `i` of the section.
+    /// Returns word `i` of the section.
     fn word(&self, i: u32) -> u32
         requires { 4 * i + 4 ≤ self.now.queue.out }
         ensures { result ≡ words_from self.now.image.now self.now.first i }
@@ -51,21 +51,23 @@ impl<'a> Ring<'a> {
         LittleEndian::read_u32(&self.image[place..])
     }
 
-    /// How many frames the section's peer has published.
+    /// Returns the available index: the number of frames that the section's peer has published, mod
+    /// 65,536.
     pub fn available_index(&self) -> u16
         ensures { result ≡ avail_index self.now.queue (words_from self.now.image.now self.now.first) }
     {
         (self.word(self.queue.avail_word()) / 65_536) as u16
     }
 
-    /// How many frames of the other the section's peer has returned.
+    /// Returns the used index: the number of the other's frames that the section's peer has
+    /// returned, mod 65,536.
     pub fn used_index(&self) -> u16
         ensures { result ≡ used_index self.now.queue (words_from self.now.image.now self.now.first) }
     {
         (self.word(self.queue.used_word()) / 65_536) as u16
     }
 
-    /// The available entry of a position.
+    /// Returns the available entry of a position.
     fn entry(&self, position: u16) -> u16
         ensures { result ≡ entry_at self.now.queue (words_from self.now.image.now self.now.first) position }
     {
@@ -77,7 +79,7 @@ impl<'a> Ring<'a> {
         }
     }
 
-    /// The address of descriptor `i`.
+    /// Returns the address of descriptor `i`.
     fn address(&self, i: u32) -> u64
         requires { i < size_of self.now.queue }
         ensures { result ≡ address_at self.now.queue (words_from self.now.image.now self.now.first) i }
@@ -86,7 +88,7 @@ impl<'a> Ring<'a> {
         u64::from(self.word(first)) + (u64::from(self.word(first + 1)) << 32)
     }
 
-    /// The length of descriptor `i`.
+    /// Returns the length of descriptor `i`.
     fn length(&self, i: u32) -> u32
         requires { i < size_of self.now.queue }
         ensures { result ≡ length_at self.now.queue (words_from self.now.image.now self.now.first) i }
@@ -94,7 +96,7 @@ impl<'a> Ring<'a> {
         self.word(self.queue.descriptor(i) + 2)
     }
 
-    /// The flags of descriptor `i`.
+    /// Returns the flags of descriptor `i`.
     fn flags(&self, i: u32) -> u16
         requires { i < size_of self.now.queue }
         ensures { result ≡ flags_at self.now.queue (words_from self.now.image.now self.now.first) i }
@@ -102,7 +104,7 @@ impl<'a> Ring<'a> {
         (self.word(self.queue.descriptor(i) + 3) % 65_536) as u16
     }
 
-    /// How many items stand between the other peer's used index and the available index.
+    /// Returns the number of items between the other peer's used index and the available index.
     pub fn distance(&self, used: u16, available: u16) -> Result<u16, Refused>
         ensures inside { IfOk result (λ n. IsAvailIndex self.now.queue used available × (n ≡ distance used available)) }
         ensures outside { IfErr result (λ r. (¬ IsAvailIndex self.now.queue used available)
@@ -112,7 +114,7 @@ impl<'a> Ring<'a> {
         Ok(distance as u16)
     }
 
-    /// The item at a position, by the checks of a poll in their order.
+    /// Returns the item at a position, by the checks of a poll in their order.
     pub fn item(&self, position: u16) -> Result<Item, Refused>
         ensures accepted { IfOk result (λ item. IsAccepted self.now.queue (words_from self.now.image.now self.now.first)
             position item.entry item.address item.length) }
@@ -130,7 +132,7 @@ impl<'a> Ring<'a> {
         })
     }
 
-    /// So many bytes of the section from an address on.
+    /// Returns `length` bytes of the section from `address` on.
     pub fn frame(&self, address: u32, length: u32) -> &'a [u8]
         requires { address + length ≤ self.now.queue.out }
         ensures { result.now ≡ bytes_from (words_from self.now.image.now self.now.first) address length }
@@ -139,7 +141,7 @@ impl<'a> Ring<'a> {
     }
 }
 
-/// So many bytes from a place on, counted from the word `first` of the image.
+/// Returns `count` bytes from byte offset `place` on, counted from word `first` of the image.
 fn bytes_from(image: &[u8], first: usize, place: usize, count: usize) -> &[u8]
     requires { 4 * first + place + count ≤ length image.now }
     ensures { result.now ≡ bytes_from (words_from image.entry.now first) place count }

@@ -1,4 +1,4 @@
--- A section ends where the next one starts, or before it.
+-- A section ends at or before the start of the next one.
 use Rattle.std.proofs.Common.{◌≡◌, ℕ, ◌+◌, ◌*◌, ◌<◌, ◌≤◌, inl, inr, refl, ap, arith}
 use Rattle.std.proofs.Math.Nat.{mul-le-mul_right}
 use Rattle.std.proofs.lemmas.Bool.{cases_lt}
@@ -12,7 +12,7 @@ ends_before g p q below =
     let rows : (p + 1) * g.out ≤ q * g.out = mul-le-mul_right g.out (omega (arith, below)) in
     omega (arith, rows)
 
--- a word of two sections is of one peer
+-- A word of two peers' sections belongs to one peer.
 one_peer : (g : Shape) (p q word : ℕ) → InSection g p word → InSection g q word → p ≡ q
 one_peer g p q word in_p in_q =
     elim (cases_lt p q) [

@@ -3,7 +3,7 @@ use Rattle.std.proofs.Common.{◌≡◌, ℕ, ◌*◌, ◌/◌, ◌≤◌, ap, a
 use Rattle.section_map.specs.Geometry.{IsShape}
 use Rattle.section_map.specs.Faults.{IsPeerCount, IsPages, IsSomePages, byte_count, shape_of}
 
--- the words of the output sections are a quarter of their bytes
+-- The words of the output sections are a quarter of their bytes.
 four_words : (peers out : ℕ) → IsPages out → peers * out ≡ 4 * (peers * (out / 4))
 four_words peers out pages =
     let whole : out ≡ 4 * (out / 4) = omega arith in

@@ -1,33 +1,36 @@
--- Which sizes no region has (profile). Here sizes are in bytes.
+-- The sizes that no region has (profile). Sizes are in bytes here.
 use Rattle.std.specs.Prelude.{◌≡◌, ℕ, ◌+◌, ◌*◌, ◌/◌, ◌%◌, ◌<◌, ◌≤◌}
 use Rattle.section_map.specs.Geometry.{Shape}
 use Rattle.section_map.specs.declared.sizes.Part.TheVariants.{Table, Common, Out}
 use Rattle.section_map.specs.declared.sizes.GeometryFault.{GeometryFault}
 use Rattle.section_map.specs.declared.sizes.GeometryFault.TheVariants.{BadPeers, BadPage, TableTooSmall, TooLarge}
 
--- a region serves 2 to 65,536 peers
+-- A region serves 2 to 65,536 peers.
 abbrev pub IsPeerCount : ℕ → Type 0
 IsPeerCount peers = (2 ≤ peers) × (peers ≤ 65536)
 
--- a size is whole pages of 4,096 bytes
+-- The size is a whole number of pages of 4,096 bytes.
 abbrev pub IsPages : ℕ → Type 0
 IsPages size = size % 4096 ≡ 0
 
--- the table and the output sections have a page at least
+-- The size is a whole number of pages, and at least one. The State Table and the output sections
+-- need this.
 abbrev pub IsSomePages : ℕ → Type 0
 IsSomePages size = (0 < size) × IsPages size
 
--- how many bytes a region of these sizes has
+-- The length in bytes of a region of these sizes.
 abbrev pub byte_count : ℕ → ℕ → ℕ → ℕ → ℕ
 byte_count peers table common out = table + common + peers * out
 
--- the sizes in words
+-- The shape of these sizes, in words.
 abbrev pub shape_of : ℕ → ℕ → ℕ → ℕ → Shape
 shape_of peers table common out = record { peers = peers; table = table / 4; common = common / 4; out = out / 4 }
 
--- the first thing that is wrong with these sizes: what stands before it here is right. The tests are,
--- in this order: the peers, the pages of the table, the common and the output sections, a word of the
--- table for each peer, and the most bytes that a region has
+-- The first test that these sizes fail, if all earlier tests pass. The tests are in this order:
+-- - the number of peers;
+-- - the pages of the State Table, of the common section and of the output sections;
+-- - a word of the State Table for each peer;
+-- - the greatest length of a region.
 abbrev pub IsFirstFault : (peers table common out : ℕ) → GeometryFault → Type 0
 IsFirstFault peers table common out (BadPeers found) =
     (¬ IsPeerCount peers) × (found ≡ peers)

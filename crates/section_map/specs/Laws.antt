@@ -1,25 +1,25 @@
--- What holds of every region, whatever its sizes.
+-- Laws of every region, for all sizes.
 use Rattle.std.specs.Prelude.{◌≡◌, ◌≢◌, ℕ, ◌<◌}
 use Rattle.section_map.specs.Geometry.{Shape, word_count}
 use Rattle.section_map.specs.MayWrite.{InSection, InCommon, InTable, MayWrite, IsSectionOf}
 use Rattle.section_map.specs.declared.sizes.Section.{Section}
 
--- two different peers' output sections share no word
+-- Two different peers' output sections share no word.
 abbrev pub StandApart : Shape → Type 0
 StandApart g = (p q word : ℕ) → p ≢ q → InSection g p word → ¬ InSection g q word
 
--- no peer may write a word of the State Table
+-- No peer may write a word of the State Table.
 abbrev pub KeepsTable : Shape → Type 0
 KeepsTable g = (peer word : ℕ) → MayWrite g peer word → ¬ InTable g word
 
--- what a peer may write lies in the region
+-- Each word that a peer may write is in the region.
 abbrev pub StaysInside : Shape → Type 0
 StaysInside g = (peer word : ℕ) → peer < g.peers → MayWrite g peer word → word < word_count g
 
--- a word that two different peers may write lies in the common section
+-- A word that two different peers may write is in the common section.
 abbrev pub SharesCommon : Shape → Type 0
 SharesCommon g = (p q word : ℕ) → p ≢ q → MayWrite g p word → MayWrite g q word → InCommon g word
 
--- a word lies in one section alone
+-- A word is in one section alone.
 abbrev pub LiesInOne : Shape → Type 0
 LiesInOne g = (word : ℕ) (s t : Section) → IsSectionOf g word s → IsSectionOf g word t → s ≡ t

@@ -1,26 +1,27 @@
--- Who may write which word (the device's specification, "Shared memory layout"). Every peer may read every word.
+-- The words that each peer may write (the device's specification, "Shared memory layout"). Every
+-- peer may read every word.
 use Rattle.std.specs.Prelude.{ℕ, ◌+◌, ◌<◌, ◌≤◌, ◌⊎◌}
 use Rattle.section_map.specs.Geometry.{Shape, section_start}
 use Rattle.section_map.specs.declared.sizes.Section.{Section}
 use Rattle.section_map.specs.declared.sizes.Section.TheVariants.{Table, Common, Output}
 
--- the word lies in this peer's output section
+-- The word is in this peer's output section.
 abbrev pub InSection : Shape → ℕ → ℕ → Type 0
 InSection g peer word = (section_start g peer ≤ word) × (word < section_start g peer + g.out)
 
--- the word lies in the common section, right after the State Table
+-- The word is in the common section, directly after the State Table.
 abbrev pub InCommon : Shape → ℕ → Type 0
 InCommon g word = (g.table ≤ word) × (word < g.table + g.common)
 
--- the word lies in the State Table
+-- The word is in the State Table.
 abbrev pub InTable : Shape → ℕ → Type 0
 InTable g word = word < g.table
 
--- a peer writes its own output section and the common section
+-- A peer may write its own output section and the common section.
 abbrev pub MayWrite : Shape → ℕ → ℕ → Type 0
 MayWrite g peer word = InSection g peer word ⊎ InCommon g word
 
--- the word lies in this section
+-- The word is in this section.
 abbrev pub IsSectionOf : Shape → ℕ → Section → Type 0
 IsSectionOf g word Table = InTable g word
 IsSectionOf g word Common = InCommon g word

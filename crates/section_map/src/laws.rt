@@ -1,11 +1,13 @@
-//! What holds of the map whatever the sizes are.
+//! Laws of the map, for all sizes.
 ghost use Rattle.std.specs.Prelude.{◌<◌};
 ghost use Rattle.section_map.specs.Geometry.{Shape};
 ghost use Rattle.section_map.specs.Laws.{StandApart, KeepsTable, StaysInside, SharesCommon, LiesInOne};
 
-/// Two different peers' output sections share no word, and where two peers may write the same word it
-/// is one of the common section. No peer may write the State Table or past the region. A word lies in
-/// one section alone. This function does nothing: its contract is the law.
+/// Law: two different peers' output sections share no word. A word that two peers may write is in
+/// the common section. No peer may write the State Table or a word past the region. Each word is in
+/// one section alone.
+// claim apart, shared, table, inside: The sections of two peers share no word. No peer may write
+//    the State Table or a word past the region.
 pub fn sections_stand_apart()
     ensures apart { (g : Shape) → StandApart g }
     ensures table { (g : Shape) → KeepsTable g }

@@ -1,4 +1,4 @@
-//! A region as words. Every peer reads every word; it writes where the map lets it.
+//! A region as words. Every peer may read every word, and may write the words that the map allows.
 ghost use Rattle.std.specs.Prelude.{◌≡◌, ◌<◌, ◌≤◌, ◌↔◌, IfOk, IfErr, OnOk, IsTrue, Some, replicate, slice_get, slice_set, slice_index};
 ghost use Rattle.section_map.specs.Geometry.{Words, IsRegion, word_count};
 ghost use Rattle.section_map.specs.MayWrite.{MayWrite};
@@ -9,21 +9,21 @@ use std::alloc::Global;
 use std::marker::Model;
 use thiserror::Error;
 
-/// A read asked for a word past the region.
+/// The error of a read of a word past the region.
 #[derive(Clone, Copy, Debug, PartialEq, Eq, Error)]
 #[error("word {word} is past the region")]
 pub struct Outside {
-    /// The word that was asked for.
+    /// The word that was to be read.
     pub word: u32,
 }
 
-/// A peer asked to write a word that it may not write.
+/// The error of a write of a word that the peer may not write.
 #[derive(Clone, Copy, Debug, PartialEq, Eq, Error)]
 #[error("peer {peer} may not write word {word}")]
 pub struct Denied {
-    /// The peer that asked.
+    /// The peer that was to write.
     pub peer: u32,
-    /// The word that was asked for.
+    /// The word that was to be written.
     pub word: u32,
 }
 
@@ -45,7 +45,9 @@ impl Model for Region {
 }
 
 impl Region {
-    /// A region of this geometry, all words 0. NoMemory says that memory ran out.
+    /// Returns a region of this geometry with all words 0. Returns `Err(NoMemory)` if the
+    /// allocation fails.
+    // claim each region: Every region has as many words as its geometry.
     pub fn new(alloc: Global, geometry: &Geometry) -> Result<Region, NoMemory>
         ensures zero { IfOk result (λ r. r ≡ record { words = replicate (word_count geometry.now) 0; shape = geometry.now }) }
         ensures region { IfOk result IsRegion }
@@ -57,7 +59,10 @@ impl Region {
         })
     }
 
-    /// The word as `peer` reads it. Outside comes exactly where the word is past the region.
+    /// Returns the word as `peer` reads it. Returns `Err(Outside)` exactly if the word is past the
+    /// region.
+    // claim inside, outside with Region::new.zero: `Outside` is returned exactly for a word past
+    //    the region; a new region has all words 0.
     pub fn read(&self, peer: u32, word: u32) -> Result<u32, Outside>
         requires { peer < self.now.shape.peers }
         ensures inside { IfOk result (λ value. slice_get self.now.words word ≡ Some value) }
@@ -71,8 +76,10 @@ impl Region {
         }
     }
 
-    /// Writes one word for `peer`. Denied comes exactly where `may_write` is false, and then nothing
-    /// changes.
+    /// Writes one word for `peer`. Returns `Err(Denied)` exactly if `may_write` is false, and then
+    /// changes nothing.
+    // claim allowed, written, denied, unchanged: A write changes one word, exactly if the peer may
+    //    write it; otherwise nothing changes.
     pub fn write(&mut self, peer: u32, word: u32, value: u32) -> Result<(), Denied>
         requires { peer < self.old.shape.peers }
         ensures allowed { OnOk result (MayWrite self.old.shape peer word) }
@@ -89,7 +96,10 @@ impl Region {
         }
     }
 
-    /// Writes the peer's word of the State Table, for the device alone, and tells whether it changed.
+    /// Sets the peer's word of the State Table, and returns whether the value changed. Only the
+    /// device calls this.
+    // claim written, changed: The device writes a peer's State word, and the answer is whether the
+    //    value changed.
     pub fn set_state(&mut self, peer: u32, value: u32) -> bool
         requires { peer < self.old.shape.peers }
         ensures written { self.new ≡ record self.old { words = slice_set self.old.words peer value } }

@@ -1,4 +1,4 @@
-//! The sizes of a region, and whose each of its words is.
+//! The sizes of a region, and the section of each word.
 ghost use Rattle.std.specs.Prelude.{◌≡◌, ◌+◌, ◌<◌, ◌≤◌, ◌↔◌, IfOk, IfErr, IsTrue};
 ghost use Rattle.section_map.specs.Geometry.{Shape, IsShape, section_start, word_count};
 ghost use Rattle.section_map.specs.MayWrite.{MayWrite, IsSectionOf};
@@ -7,16 +7,16 @@ ghost use Rattle.section_map.specs.Faults.{IsFirstFault, IsPages, IsSomePages, s
 use std::marker::Model;
 use thiserror::Error;
 
-/// The bytes of a page. Every size is whole pages (profile).
+/// The length in bytes of a page. Every size is a whole number of pages (profile).
 const PAGE: u64 = 4096;
 
-/// The most peers of a region.
+/// The greatest number of peers of a region.
 const MOST_PEERS: u32 = 65_536;
 
-/// The most bytes of a region, which are 4,194,304 words (profile).
+/// The greatest length in bytes of a region, which is 4,194,304 words (profile).
 const MOST_BYTES: u128 = 16_777_216;
 
-/// A part of a region that has a size of its own.
+/// A part of a region whose size is an argument of `new`.
 #[derive(Clone, Copy, Debug, PartialEq, Eq)]
 pub enum Part {
     /// The State Table.
@@ -27,27 +27,27 @@ pub enum Part {
     Out,
 }
 
-/// Where a word of a region lies.
+/// The section of a region in which a word is.
 #[derive(Clone, Copy, Debug, PartialEq, Eq)]
 pub enum Section {
-    /// In the State Table, which no peer may write.
+    /// The State Table, which no peer may write.
     Table,
-    /// In the common section, which every peer may write.
+    /// The common section, which every peer may write.
     Common,
-    /// In the output section of this peer, which it alone may write.
+    /// The output section of this peer, which it alone may write.
     Output(u32),
 }
 
-/// Why sizes make no region. All sizes are in bytes.
+/// The reason for which sizes make no region. All sizes are in bytes.
 #[derive(Clone, Copy, Debug, PartialEq, Eq, Error)]
 pub enum GeometryFault {
     /// The number of peers isn't 2 to 65,536.
     #[error("{0} peers: a region serves 2 to 65536")]
     BadPeers(u32),
-    /// The size isn't whole pages of 4,096 bytes, or is 0 where it may not be.
+    /// The size isn't a whole number of pages of 4,096 bytes, or it is 0 and must not be.
     #[error("the {part:?} size {size} isn't whole pages of 4096 bytes")]
     BadPage { part: Part, size: u64 },
-    /// The State Table has no word for each peer.
+    /// The State Table is too short for a word of each peer.
     #[error("the table needs {need} bytes and has {found}")]
     TableTooSmall { need: u64, found: u32 },
     /// The region has more than 16,777,216 bytes.
@@ -55,8 +55,8 @@ pub enum GeometryFault {
     TooLarge { bytes: u128 },
 }
 
-/// How many peers a region serves and how large its parts are: from the base upwards the State Table,
-/// the common section, and the output sections of peer 0, peer 1 and so on.
+/// The number of peers of a region, and the sizes of its parts. From the base upwards these are the
+/// State Table, the common section, and the output sections of peer 0, peer 1 and so on.
 #[derive(Clone, Copy, Debug, PartialEq, Eq)]
 pub struct Geometry {
     peers: u32,
@@ -77,14 +77,14 @@ impl Model for Geometry {
     ghost inverse = { λ g. record { peers = g.peers; table = g.table; common = g.common; out = g.out } };
 }
 
-/// Is the size whole pages?
+/// Whether the size is a whole number of pages.
 fn is_pages(size: u64) -> bool
     ensures { IsTrue result ↔ IsPages size }
 {
     size % PAGE == 0
 }
 
-/// Is the size whole pages, and one at least?
+/// Whether the size is a whole number of pages, and at least one.
 fn is_some_pages(size: u64) -> bool
     ensures { IsTrue result ↔ IsSomePages size }
 {
@@ -92,8 +92,10 @@ fn is_some_pages(size: u64) -> bool
 }
 
 impl Geometry {
-    /// The geometry of these sizes, all in bytes but for the number of peers. The error is the first
-    /// thing that is wrong with them, with the number that is wrong.
+    /// Returns the geometry of these sizes, all in bytes except the number of peers. The error is
+    /// the first test that fails, with the number that is wrong.
+    // claim made, shape, pages, fault: A geometry is made exactly if its sizes are right; otherwise
+    //    the first fault is returned, with its number.
     pub fn new(peers: u32, table: u32, common: u64, out: u64) -> Result<Geometry, GeometryFault>
         ensures made { IfOk result (λ g. g ≡ shape_of peers table common out) }
         ensures shape { IfOk result (λ g. IsShape g) }
@@ -137,7 +139,11 @@ impl Geometry {
         })
     }
 
-    /// How many peers the region serves.
+    /// Returns the number of peers that the region serves.
+    // claim value with Geometry::table_words.value, Geometry::common_words.value,
+    //    Geometry::out_words.value, Geometry::words.value, Geometry::section_start.value,
+    //    Geometry::section_start.within: Each size, and the first word of each output section, is
+    //    that of the geometry.
     pub fn peers(&self) -> u32
         ensures value { result ≡ self.now.peers }
         ensures shape { IsShape self.now }
@@ -145,7 +151,7 @@ impl Geometry {
         self.peers
     }
 
-    /// The words of the State Table.
+    /// Returns the number of words of the State Table.
     pub fn table_words(&self) -> u32
         ensures value { result ≡ self.now.table }
         ensures shape { IsShape self.now }
@@ -153,7 +159,7 @@ impl Geometry {
         self.table
     }
 
-    /// The words of the common section, 0 where there is none.
+    /// Returns the number of words of the common section, 0 if there is none.
     pub fn common_words(&self) -> u32
         ensures value { result ≡ self.now.common }
         ensures shape { IsShape self.now }
@@ -161,7 +167,7 @@ impl Geometry {
         self.common
     }
 
-    /// The words of each output section.
+    /// Returns the number of words of each output section.
     pub fn out_words(&self) -> u32
         ensures value { result ≡ self.now.out }
         ensures shape { IsShape self.now }
@@ -169,7 +175,8 @@ impl Geometry {
         self.out
     }
 
-    /// The words of the region.
+    /// Returns the number of words of the region.
+    // claim each shape: Every geometry that a call sees is one of the definition.
     pub fn words(&self) -> u32
         ensures value { result ≡ word_count self.now }
         ensures shape { IsShape self.now }
@@ -177,7 +184,7 @@ impl Geometry {
         self.table + self.common + self.peers * self.out
     }
 
-    /// The word at which the output section of `peer` starts.
+    /// Returns the first word of the output section of `peer`.
     pub fn section_start(&self, peer: u32) -> u32
         requires { peer < self.now.peers }
         ensures value { result ≡ section_start self.now peer }
@@ -187,7 +194,9 @@ impl Geometry {
         self.table + self.common + peer * self.out
     }
 
-    /// Where `word` lies.
+    /// Returns the section that holds `word`.
+    // claim with sections_stand_apart.one: Each word lies in the section that is returned, and in
+    //    no other.
     pub fn section_of(&self, word: u32) -> Section
         requires { word < word_count self.now }
         ensures { IsSectionOf self.now word result }
@@ -202,7 +211,8 @@ impl Geometry {
         }
     }
 
-    /// May `peer` write `word`? It may in its own output section and in the common section alone.
+    /// Whether `peer` may write `word`: a word of its own output section or of the common section.
+    // claim: A peer may write exactly its own output section and the common section.
     pub fn may_write(&self, peer: u32, word: u32) -> bool
         requires { peer < self.now.peers }
         ensures { IsTrue result ↔ MayWrite self.now peer word }

@@ -18,7 +18,8 @@ use Rattle.sim_world.specs.Playing.{output_of}
 use Rattle.sim_world.specs.RecordWriting.{HasRecorded}
 use Rattle.sim_world.specs.declared.record_writer.RecordWriter.{RecordWriter}
 
--- the lines that were drained from a simulator that took all acts, with those that it keeps, are what a record tells of the history
+-- the lines that were drained from a simulator that took all acts, with those that it keeps, are
+-- what a record has of the history
 pub heard_whole : (world : World) (version : ℕ) (gone : List Line) (i : ℕ) (s : Simulator) → length world.acts ≤ i → RunsTo world (output_of version gone) (schedule (take i world.acts)) s → gone ++ kept_lines s ≡ recorded_in world version (history world)
 heard_whole world version gone i s whole runs =
     let all = take_all i world.acts whole in

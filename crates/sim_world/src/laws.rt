@@ -1,4 +1,4 @@
-//! That both ways to a record's text lead to the same one.
+//! The law that both ways to write a record make the same text.
 ghost use Rattle.std.specs.Prelude.{◌≡◌, true, IfOk};
 
 use crate::{simulate, simulate_text};
@@ -7,8 +7,9 @@ use record_text::print;
 use scenario_text::Scenario;
 use std::alloc::Global;
 
-/// Is the text that is made without a history the one that `print` makes of the simulated record? It is, whatever the scenario is.
-/// NoMemory says that memory ran out.
+/// Whether `simulate_text` makes the text that `print` makes of the simulated record. The result is
+/// true for every scenario. Returns `NoMemory` if memory ran out.
+// claim: `simulate_text` writes what `print` writes of `simulate`.
 pub fn writes_alike(alloc: Global, scenario: Scenario) -> Result<bool, NoMemory>
     ensures { IfOk result (λ alike. alike ≡ true) }
 {

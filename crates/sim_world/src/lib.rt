@@ -1,15 +1,19 @@
-//! The simulation: the lawful history of a scenario, made act by act on a simulator. It stands on `simulator` for the simulator, and on
-//! `record_text` for the trace and the text that it makes. The contract of `simulate` promises what a record of version 2 tells of the
-//! one lawful history of its scenario, whatever its acts are. That of `simulate_text` promises the text of this record, made without
-//! the history in memory, and that of `play` that a listener hears the same lines part by part.
+//! The simulation of a scenario: its lawful history, played act by act on a `simulator`, and its
+//! record, written by `record_text`. The contract of `simulate` promises the lines that a record of
+//! version 2 has of the scenario's one lawful history, whatever its acts are. The contract of
+//! `simulate_text` promises the text of this record, and keeps no history in memory. The contract
+//! of `play` promises that a listener receives the same lines in parts.
 //!
 //! # Design
 //!
-//! - The answer is told twice: its lines are `history`, which a checker can compare line by line, and they are lawful, by
-//!   `history_is_lawful`.
-//! - A listener has one relation, of two states: `received` says that from the one to the other these lines were heard. A relation of one
-//!   state wouldn't do, since a call of a listener that isn't known may change any of its fields, as a reference to the scenario.
-//! - `play` hands over the lines once 256 stand there, also within one act of many turns, so lines don't pile up with the history.
+//! - `simulate` promises its lines twice: as `history`, which a checker can compare line by line,
+//!   and as lawful lines, by `history_is_lawful`.
+//! - A `Listener` has two relations of two states: `received` says that it received these lines
+//!   between the two states, and `stopped_after` that it then stopped the play. A relation of one
+//!   state doesn't suffice: a call of an unknown listener may change any of its fields, such as a
+//!   reference to the scenario.
+//! - `play` passes lines on as soon as the simulator keeps 256 of them, also within an act of many
+//!   turns. So the number of kept lines doesn't grow with the history.
 #![tactic(auto)]
 
 ghost use Rattle.std.specs.Prelude.{◌≡◌, IfOk};
@@ -32,10 +36,10 @@ use scenario_text::{Act, Scenario};
 use simulator::Simulator;
 use std::alloc::Global;
 
-/// The version of the records that are made.
+/// The version of the records that this crate writes.
 const VERSION: u32 = 2;
 
-/// How many turns the acts ask for. Each has a line at least, and most have just one.
+/// Returns the number of turns in the acts. A turn adds at least one line, and most add one.
 fn turn_count(acts: &[Act]) -> usize {
     let mut turns: usize = 0;
     for act in acts {
@@ -46,7 +50,11 @@ fn turn_count(acts: &[Act]) -> usize {
     turns
 }
 
-/// The scenario with its one lawful history, as a record of version 2 tells it. NoMemory says that memory ran out.
+/// Returns the record of version 2 of the scenario's one lawful history. Returns `NoMemory` if
+/// memory ran out.
+// claim scenario, version, history, lawful: `simulate` returns the scenario that it was given, with
+//    what a record of version 2 holds of its computed history, marks of sessions included. That is
+//    lawful in that version.
 pub fn simulate(alloc: Global, scenario: Scenario) -> Result<Trace, NoMemory>
     ensures scenario { IfOk result (λ trace. trace.scenario ≡ scenario) }
     ensures version { IfOk result (λ trace. trace.version ≡ 2) }

@@ -1,4 +1,4 @@
--- Interrupts that come in their order, and what a read gave.
+-- Interrupts in their order, and the value of a read.
 use Rattle.std.proofs.Common.{◌≡◌, ℕ, ◌+◌, ◌-◌, ◌<◌, length-set, Bool, false, List, [], ◌∷◌, ◌++◌, length, take, get_or, arith, refl, sym, ◌∙◌, ap, subst, append_assoc}
 use Rattle.std.specs.Prelude.{◌==◌, if◌then◌else◌, Option, Some, None, true, nat_lt, reverse, slice_index_or, slice_get, slice_index, slice_set}
 use Rattle.std.proofs.lemmas.Bool.Decides.{nat_tests}
@@ -19,7 +19,7 @@ use Rattle.simulator.specs.Log.{Output, Records}
 use Rattle.simulator.specs.WorldState.{WordsAre, WorldStateAfter, IsMark, BringsBy}
 use Rattle.simulator.specs.declared.world_state.WorldState.{WorldState}
 
--- one line more, told after some new lines
+-- One more line, after some new lines.
 pub after_more : (new : List Line) (line : Line) (past : List Line) → reverse (line ∷ new) ++ past ≡ reverse new ++ (line ∷ past)
 after_more new line past = ap (λ r. r ++ past) (reverse-append (line ∷ []) new) ∙ append_assoc (reverse new) (line ∷ []) past
 
@@ -38,7 +38,7 @@ one_arrived past losses ds i d inside is =
     ap (λ xs. reverse (arrived past losses xs) ++ past) (take_more ds i d inside ∙ ap (λ (x : Delivery). take i ds ++ x ∷ []) (sym is)) ∙
     ap (λ ls. reverse ls ++ past) (arrived-snoc past losses (take i ds) d) ∙ ap (λ ls. ls ++ past) (reverse-append (arrived past losses (take i ds)) (arrival older losses d ∷ []))
 
--- what a read gave is what was written last
+-- The value read is the one written last.
 pub known_at : (words : List ℕ) (value : ℕ) (past : List Line) (word : ℕ) → WordsAre words past → slice_get words word ≡ Some value → value ≡ last_write past word
 known_at words value past word holds at = grind (arith, common_steps, gets, holds word)
 
@@ -58,7 +58,7 @@ read_after world output past losses s s' me word value after at region device un
   },
 )
 
--- an interrupt that comes, or is lost on its way
+-- An interrupt that is delivered, or lost.
 came : (b : Bool) (q vector : ℕ) → b ≡ false → (if b then line.Lost q vector else line.Interrupt q vector) ≡ line.Interrupt q vector
 came true q vector is = absurd (cc)
 came false q vector is = refl
@@ -107,7 +107,7 @@ is_lost world output past losses s s' d after few some region device unspent tel
       peer_states = ap length unspent ∙ length-set s.unspent d.peer (slice_index_or s.unspent d.peer 0 - 1) ∙ after.peer_states;
     })
 
--- a line that tells the devices something, after which the words and the devices stand
+-- A line that is an event of the devices, with the words and the devices after it.
 pub told_after : (world : World) (output : Output) (past : List Line) (losses : ℕ → ℕ) (s s' : WorldState) (line : Line) (event : device.Event) → WorldStateAfter world output past losses s → device_event_of line ≡ Some event → ((p : ℕ) → lost_by line p ≡ 0) →
     has_frame line ≡ true → WordsAre s'.region.words (line ∷ past) → s'.region.shape ≡ s.region.shape → Refines (devices_of world) (event ∷ device_events past) s'.device → s'.unspent ≡ s.unspent →
     Records line s.log s'.log → WorldStateAfter world output (line ∷ past) losses s'
@@ -121,7 +121,7 @@ told_after world output past losses s s' line event after told lost frame words 
   peer_states = rw unspent after.peer_states;
 }
 
--- a word after a write to a word
+-- A word after a write to a word.
 pub written : (words : List ℕ) (past : List Line) (at value word : ℕ) → word < length (slice_set words at value) → WordsAre words past →
     slice_index (slice_set words at value) word ≡ (if at == word then value else last_write past word)
 written words past at value word inside holds = grind (arith, common_steps, nat_tests, holds word)
@@ -132,7 +132,7 @@ state_words words past me value holds = λ word inside. written words past me va
 pub reset_words : (words : List ℕ) (past : List Line) (me : ℕ) → WordsAre words past → WordsAre (slice_set words me 0) (line.Reset me ∷ past)
 reset_words words past me holds = λ word inside. written words past me 0 word inside holds
 
--- the interrupts that a line brings come after it
+-- The interrupts that a line causes come after it.
 pub come_after : (P : List Line → Type 0) (world : World) (past : List Line) (losses : ℕ → ℕ) (line : Line) (o : Option device.Event) (deliveries : List Delivery) → BringsBy world past o deliveries →
     P (reverse (arrived (line ∷ past) losses deliveries) ++ (line ∷ past)) → P (reverse (line ∷ arrivals_by world past losses line o) ++ past)
 come_after P world past losses line None deliveries brings holds =
@@ -140,7 +140,7 @@ come_after P world past losses line None deliveries brings holds =
 come_after P world past losses line (Some event) deliveries brings holds =
     subst P (ap (λ ds. reverse (arrived (line ∷ past) losses ds) ++ (line ∷ past)) brings ∙ sym (after_more (arrived (line ∷ past) losses (effect_of (devices_of world) (device_events past) event).deliveries.items) line past)) holds
 
--- a line that changes nothing, told after the others
+-- A line that changes nothing, after the others.
 pub remarked : (world : World) (output : Output) (past : List Line) (losses : ℕ → ℕ) (s s' : WorldState) (line : Line) → WorldStateAfter world output past losses s → IsMark line →
     s'.region ≡ s.region → s'.device ≡ s.device → s'.unspent ≡ s.unspent → Records line s.log s'.log → WorldStateAfter world output (line ∷ past) losses s'
 remarked world output past losses s s' line after record_mark region device unspent tells = record {

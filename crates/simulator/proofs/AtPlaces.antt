@@ -1,11 +1,11 @@
--- The places of an opens call, and of none.
+-- The places of an open call, and of none.
 use Rattle.std.proofs.Common.{◌≡◌, ℕ, true, false, List, refl}
 use Rattle.split_ring.specs.declared.steps.Access.TheVariants as access
 use Rattle.call_grammar.specs.Calls.{EndConfig, Call}
 use Rattle.call_grammar.specs.Places.{Place, Closed, ReadingOtherState, Clearing, WritingState, Refusing, NotInRun, ReadingUsedIndex, ReadingUsedId, WritingFrameWord, WritingDescAddressLow, WritingDescAddressHigh, WritingDescLength, WritingDescFlags, WritingAvailEntry, WritingAvailIndex, ReadingAvailEvent, RingingOffer, ReadingAvailIndex, WritingAvailEvent, ReadingAvailEntry, ReadingDescAddressLow, ReadingDescAddressHigh, ReadingDescLength, ReadingDescFlags, ReadingFrameWord, WritingUsedId, WritingUsedLength, WritingUsedIndex, RingingPoll, remaining, access_at, is_open}
 use Rattle.lawful_history.specs.Peers.{Peer, opened_by}
 
--- an open call goes on before another is opened
+-- An open call continues before another is opened.
 pub open_by : (config : EndConfig) (place : Place) (peer : Peer) (waiting : List Call) → is_open place ≡ true → opened_by config peer (remaining config place) waiting ≡ peer
 open_by config Closed peer waiting opens = absurd (cc)
 open_by config (ReadingOtherState handshake) peer waiting opens = refl
@@ -69,7 +69,7 @@ shut_place (WritingUsedLength number more) shut = absurd (cc)
 shut_place (WritingUsedIndex number more) shut = absurd (cc)
 shut_place RingingPoll shut = absurd (cc)
 
--- each doorbell of a call is for the other peer, with the vector of the traffic
+-- Each doorbell of a call is for the other peer, with the vector of the traffic.
 pub rings_other : (config : EndConfig) (place : Place) (target vector : ℕ) → access_at config place ≡ access.Ring target vector → (target ≡ config.other) × (vector ≡ config.vector)
 rings_other config Closed target vector is = absurd (cc)
 rings_other config (ReadingOtherState handshake) target vector is = absurd (cc)

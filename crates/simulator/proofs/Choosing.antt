@@ -1,4 +1,4 @@
--- The call that an automatic peer chooses is opened.
+-- The call that an automatic end chooses is opened.
 use Rattle.std.proofs.Common.{◌≡◌, ℕ, List, [], ◌∷◌, refl, sym, ◌∙◌, ap, subst, All}
 use Rattle.std.specs.Prelude.{Option, Some, None, map}
 use Rattle.std.proofs.lemmas.List.Elements.{recursion_from_All}
@@ -25,7 +25,7 @@ use Rattle.simulator.specs.PeerStates.{call_of, DriverIs, LinkRefines, IsOffered
 use Rattle.simulator.proofs.Openings.{waiting_opened}
 use Rattle.step_lines.proofs.Framing.{first_frames}
 
--- a call that was opened
+-- A call that was opened.
 pub opens_as : PlacesFollowTrees → (config : EndConfig) (peer : Peer) (end : Engine) (call : calls.Call) (waiting : List Waiting) (waits : List calls.Call) (plan : Option Plan) (driver : Driver) →
     RefinesAt end config peer.end (first_place config peer.end call) → IsPermittedCall config call → map call_of waiting ≡ waits → DriverIs plan driver →
     (l : Link) → l.end ≡ end → l.waiting.items ≡ waiting → l.auto ≡ plan → LinkRefines config (record peer { left = tree_of config peer.end call; waiting = waits; driver = driver }) l
@@ -38,7 +38,7 @@ opens_as follow config peer end call waiting waits plan driver refines given are
   driver = rw plan_is driven;
 }
 
--- what is chosen for a plan that is an automatic peer's
+-- The choice for a plan of an automatic end.
 choice_is : (phase : Phase) (plan : Plan) (auto : Auto) (answer : Choice) (chosen_is : automatic.Choice) → IsPlanOf plan auto →
     ((count : ℕ) → HasCounted plan count → IsChoice answer plan.frames (choice_of phase plan.round plan.frames count plan.expected)) →
     IsChoice answer auto.frames (choice_of phase auto.round auto.frames auto.delivered auto.expected)
@@ -55,7 +55,8 @@ offer_choice (frame ∷ frames) c is = (frame, refl, is)
 replanned : (plan new : Plan) (auto : Auto) (round : Round) → IsPlanOf plan auto → new ≡ record plan { round = round } → IsPlanOf new (record auto { round = round })
 replanned plan new auto round is new_is = rw new_is (record { frames = is.frames; expected = is.expected; delivered = is.delivered; round = refl })
 
--- what is known of a choice: the link stood, no call was open, and the plan went on
+-- What is known of a choice: the link refined the peer, no call was open, and the plan made its
+-- choice.
 pub record Chose (config : EndConfig) (peer : Peer) (link : Link) (plan new : Plan) (phase : Phase) (answer : Choice) : Type 0 where
   pub refines : LinkRefines config peer link
   pub shut : refines.place ≡ Closed
@@ -67,7 +68,7 @@ pub record Chose (config : EndConfig) (peer : Peer) (link : Link) (plan new : Pl
 driver_of : (config : EndConfig) (peer : Peer) (link : Link) (plan : Plan) → LinkRefines config peer link → link.auto ≡ Some plan → DriverIs (Some plan) peer.driver
 driver_of config peer link plan refines has = subst (λ (o : Option Plan). DriverIs o peer.driver) has refines.driver
 
--- an answer that is this choice opens this call
+-- An answer that is this choice opens this call.
 opens_chosen : PlacesFollowTrees → (config : EndConfig) (peer : Peer) (link l : Link) (plan new : Plan) (phase : Phase) (answer : Choice) (end : Engine) (call : calls.Call) (round : Round) (chose : Chose config peer link plan new phase answer) →
     (auto : Auto) → peer.driver ≡ Chooses auto → IsPlanOf plan auto → (c : automatic.Choice) → choice_of peer.end.handshake.phase auto.round auto.frames auto.delivered auto.expected ≡ c →
     with_choice config peer auto c ≡ record peer { left = tree_of config peer.end call; driver = Chooses (record auto { round = round }) } → new ≡ record plan { round = round } →
@@ -123,7 +124,7 @@ offer_chosen follow config peer link l plan new phase end frame chose head fits 
     (ap (λ (f : Phase). choice_of f d.0.round d.0.frames d.0.delivered d.0.expected) (sym chose.phase_is) ∙ c.2 ∙ ap automatic.ChoosesOffer frame_is) refl chose.round
     (begins config peer.end (at_closed config peer link chose.refines chose.shut)) given end_is waiting_is auto_is
 
--- an offer has a head
+-- An offer has a first frame.
 pub no_head : (config : EndConfig) (peer : Peer) (link : Link) (plan new : Plan) (phase : Phase) → Chose config peer link plan new phase choice.Offer → new.frames ≡ [] → ⊥
 no_head config peer link plan new phase chose none =
     let d : (auto : Auto) × (peer.driver ≡ Chooses auto) × IsPlanOf plan auto = driver_of config peer link plan chose.refines chose.has in
@@ -137,7 +138,7 @@ given_of config waiting.Poll may = tt
 given_of config waiting.Stop may = tt
 given_of config (waiting.Offer frame) may = may
 
--- the oldest call that waits was opened
+-- The oldest queued call was opened.
 pub waiting_begun : PlacesFollowTrees → (config : EndConfig) (peer : Peer) (link l : Link) (call : Waiting) (rest : List Waiting) (end : Engine) (refines : LinkRefines config peer link) → refines.place ≡ Closed → link.waiting.items ≡ call ∷ rest → LinkFits link →
     ((w : EndConfig) (e : End) → RefinesAt link.end w e Closed → RefinesAt end w e (first_place w e (call_of call))) → l.end ≡ end → l.waiting.items ≡ rest → l.auto ≡ link.auto → LinkRefines config (opened config peer) l
 waiting_begun follow config peer link l call rest end refines shut items fits begins end_is rest_is auto_is =

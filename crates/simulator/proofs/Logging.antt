@@ -1,4 +1,4 @@
--- A line that goes into the log, with the marks before it.
+-- A line of the log, with the marks before it.
 use Rattle.std.proofs.Common.{◌≡◌, ℕ, ◌+◌, ◌≤◌, Bool, true, false, List, [], ◌∷◌, ◌++◌, refl, sym, ◌∙◌, ap, arith, append_assoc}
 use Rattle.std.specs.Prelude.{◌==◌, if◌then◌else◌, reverse, slice_index_or}
 use Rattle.std.proofs.lemmas.List.Folds.{list_all-append}
@@ -20,11 +20,11 @@ no_fewer : (b : Bool) (n : ℕ) → n ≤ (if b then n + 1 else n)
 no_fewer true n = omega arith
 no_fewer false n = omega arith
 
--- sessions that are few were few before
+-- If sessions are few now, they were few before.
 few_before : (line : Line) (past : List Line) → AreFew (line ∷ past) → AreFew past
 few_before line past few = λ p. let now = few p in let more = no_fewer (writes_state p 2 line) (opened_in past p) in omega arith
 
--- the marks before a line, and then the line
+-- The marks before a line, and then the line.
 told_by_test : (world : World) (past : List Line) (line : Line) (b : Bool) →
     (if b then marks_before world past line ++ line ∷ [] else line ∷ []) ≡ (if b then marks_before world past line else []) ++ line ∷ []
 told_by_test world past line true = refl

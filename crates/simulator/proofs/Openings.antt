@@ -1,4 +1,4 @@
--- The call that comes next is opened.
+-- The next call is opened.
 use Rattle.std.proofs.Common.{◌≡◌, ℕ, true, false, List, [], ◌∷◌, sym, ◌∙◌, ap, subst, All}
 use Rattle.std.specs.Prelude.{Option, Some, None, map}
 use Rattle.std.specs.List.{AllByRecursion}
@@ -17,17 +17,17 @@ use Rattle.simulator.specs.declared.link.Link.{Link}
 use Rattle.simulator.specs.PeerStates.{call_of, DriverIs, LinkRefines, IsOffered, MayWait, PlanFits, LinkFits}
 use Rattle.simulator.proofs.AtPlaces.{open_by, shut_place}
 
--- an open call stays
+-- An open call isn't replaced.
 pub stays_open : (config : EndConfig) (peer : Peer) (link : Link) → (refines : LinkRefines config peer link) → is_open refines.place ≡ true → LinkRefines config (opened config peer) link
 stays_open config peer link refines opens =
     let same : opened config peer ≡ peer = ap (λ (t : CallTree). opened_by config peer t peer.waiting) (sym refines.left) ∙ open_by config refines.place peer peer.waiting opens in
     subst (λ (p : Peer). LinkRefines config p link) (sym same) refines
 
--- with no open call nothing is left of one
+-- If no call is open, nothing is left of one.
 pub shut_left : (config : EndConfig) (peer : Peer) (link : Link) (refines : LinkRefines config peer link) → is_open refines.place ≡ false → peer.left ≡ Ended
 shut_left config peer link refines shut = sym refines.left ∙ ap (λ (p : Place). remaining config p) (shut_place refines.place shut)
 
--- the oldest call that waits was opened
+-- The oldest queued call was opened.
 pub waiting_opened : (config : EndConfig) (peer : Peer) (left : CallTree) (call : calls.Call) (waiting : List calls.Call) → left ≡ Ended → peer.waiting ≡ call ∷ waiting → peer.left ≡ left →
     opened config peer ≡ record peer { left = tree_of config peer.end call; waiting = waiting }
 waiting_opened config peer left call waiting none some is =
@@ -37,7 +37,7 @@ pub none_waiting : (config : EndConfig) (peer : Peer) → peer.left ≡ Ended �
 none_waiting config peer none empty =
     ap (λ (t : CallTree). opened_by config peer t peer.waiting) none ∙ ap (λ (w : List calls.Call). opened_by config peer Ended w) empty
 
--- what may be given may wait
+-- A call that may be given may be queued.
 wait_of : (config : EndConfig) (w : Waiting) → IsPermittedCall config (call_of w) → MayWait config.sizes.mtu w
 wait_of config Tick given = tt
 wait_of config Poll given = tt
@@ -63,7 +63,7 @@ plan_of config (Some plan) driver is given =
     let frames : AllByRecursion (λ frame. IsPermittedCall config (calls.Offer frame)) auto.frames = subst (λ (d : Driver). AreGiven config d) is.1 given in
     subst (λ (fs : List (List ℕ)). All (IsOffered config.sizes.mtu) fs) (sym is.2.frames) (All-from_recursion (IsOffered config.sizes.mtu) auto.frames (frames_of config auto.frames frames))
 
--- what is fit for the peer is fit for its link
+-- A frame that fits the peer fits its link.
 pub link_fits : (config : EndConfig) (peer : Peer) (link : Link) → LinkRefines config peer link → IsFit config peer → LinkFits link
 link_fits config peer link refines fit =
     let made : config ≡ link.end.config = refines.end.made in

@@ -1,4 +1,4 @@
--- A write of a peer's own accord: it is made where the peer may write, and denied else.
+-- A poke: the write is made if the peer may write the word, and denied otherwise.
 use Rattle.std.proofs.Common.{◌≡◌, ℕ, Bool, true, false, List, [], ◌∷◌, ◌++◌, refl, sym, ap, ◌∙◌, arith, inl, inr}
 use Rattle.std.specs.Prelude.{reverse, slice_set, if◌then◌else◌}
 use Rattle.std.proofs.lemmas.Bool.Decides.{nat_tests}
@@ -24,7 +24,7 @@ may_not_by : (g : Shape) (p word : ℕ) (b : Bool) → may_write g p word ≡ b 
 may_not_by g p word true is may_not = absurd (may_not (may g p word is))
 may_not_by g p word false is may_not = is
 
--- the lines of a poke
+-- The lines of a poke.
 poked_lines : (world : World) (past : List Line) (p word value : ℕ) (b : Bool) → may_write world.geometry p word ≡ b →
     reverse (region_access_lines p (access.Write word value) (acted_step world p (access.Write word value) past) []) ++ past ≡ (if b then line.Write p word value else line.Denied p word) ∷ past
 poked_lines world past p word value true is = rw is refl

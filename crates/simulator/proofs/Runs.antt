@@ -1,4 +1,4 @@
--- One event more.
+-- One more event.
 use Rattle.std.proofs.Common.{◌≡◌, ◌≢◌, ℕ, zero, suc, ◌<◌, ◌≤◌, Bool, true, false, List, [], ◌∷◌, ◌++◌, length, get_or, take, replicate, ◌+◌, refl, sym, ◌∙◌, ap, subst, arith, length-set}
 use Rattle.std.specs.Prelude.{◌==◌, ◌&&◌, Result, Ok, Err, OnOk, not, nat_lt, slice_index_or, if◌then◌else◌, Option, Some, None, reverse, slice_get, slice_set}
 use Rattle.std.specs.List.{AllByRecursion}
@@ -57,11 +57,11 @@ good_run : CallsStayInReach → (world : World) (events : List Event) (moment : 
 good_run reach world [] moment is there good = good
 good_run reach world (event ∷ events) moment is there good = good_run reach world events (after_event world moment event) is there.1 (good_on reach world moment event is there.0 good)
 
--- each peer of a running simulator is fit for its calls
+-- Each peer of a running simulator is fit for its calls.
 pub fit_at : CallsStayInReach → (world : World) (events : List Event) (p : ℕ) → IsWorld world → AllByRecursion (IsPermittedEvent world) events → IsFit (config_of world p) (peer_at (moment_of world events) p)
 fit_at reach world events p is there = (good_run reach world events (initial_state world) is there (good_at_first world)).fits p
 
--- what a list with one element set has there, and elsewhere
+-- A list with one element set, at that position and at others.
 set_at : {A : Type 0} (xs : List A) (p k : ℕ) (x y : A) → k ≡ p → slice_get (slice_set xs p x) k ≡ Some y → x ≡ y
 set_at [] p k x y is at = absurd (cc)
 set_at (z ∷ xs) zero zero x y is at = cc
@@ -76,7 +76,7 @@ set_beside (z ∷ xs) zero (suc k) x other = refl
 set_beside (z ∷ xs) (suc p) zero x other = refl
 set_beside (z ∷ xs) (suc p) (suc k) x other = set_beside xs p k x (λ e. other (ap suc e))
 
--- an element of a list with one more is one of the list, or the last
+-- An element of a list with one more is one of the list, or the last.
 last_or : (xs : List PeerState) (x : PeerState) (k : ℕ) (found : PeerState) → slice_get (xs ++ x ∷ []) k ≡ Some found → (P : ℕ → PeerState → Type 0) →
     ((q : ℕ) (s : PeerState) → slice_get xs q ≡ Some s → P q s) → P (length xs) x → P k found
 last_or [] x zero found at P all here = subst (λ (s : PeerState). P 0 s) (same_Some x found at) here
@@ -84,7 +84,7 @@ last_or [] x (suc k) found at P all here = absurd (cc)
 last_or (y ∷ xs) x zero found at P all here = all 0 found at
 last_or (y ∷ xs) x (suc k) found at P all here = last_or xs x k found at (λ q s. P (suc q) s) (λ q s is. all (suc q) s is) here
 
--- one more peer state at the start
+-- One more initial peer state.
 pub one_seat : (world : World) (count : ℕ) (peer_states : List PeerState) (peer_state : PeerState) → AreAtStart world count peer_states → PeerStateRefines (config_of world count) at_start peer_state → is_honest peer_state ≡ is_link world count →
     AreAtStart world (count + 1) (peer_states ++ peer_state ∷ [])
 one_seat world count peer_states peer_state start refines linked =
@@ -95,15 +95,15 @@ one_seat world count peer_states peer_state start refines linked =
       linked = λ p found at. (last_or peer_states peer_state p found at (λ q s. is_honest s ≡ is_link world q) start.linked (rw length_is linked));
     }
 
--- the lines after an event in which this step was made
+-- The lines after an event in which this step was made.
 abbrev pub past_of : World → List Line → (ℕ → ℕ) → Event → Option Step → List Line
 past_of world past losses event went = reverse (lines_by event went (device_lines world past losses event went)) ++ past
 
--- the lines and losses after an event
+-- The lines and losses after an event.
 abbrev pub past_after : World → HistoryState → Event → List Line
 past_after world moment event = (after_event world moment event).past
 
--- one event of a peer, after which its peer state and the world state stand
+-- One event of a peer, with the peer state and the world state after it.
 pub record OneMore (world : World) (output : Output) (moment : HistoryState) (event : Event) (s s' : Simulator) (peer_state : PeerState) : Type 0 where
   pub items : s'.peer_states.items ≡ slice_set s.peer_states.items (event_peer event) peer_state
   pub sizes : s'.sizes ≡ s.sizes
@@ -151,7 +151,7 @@ goes_on world output events event s s' peer_state there more runs =
       linked = λ k found is. (at k found is).1;
     }
 
--- an event of the world state alone
+-- An event of the world state alone.
 get_set : (xs : List PeerState) (p : ℕ) (x : PeerState) → slice_get xs p ≡ Some x → slice_set xs p x ≡ xs
 get_set [] p x is = absurd (cc)
 get_set (y ∷ xs) zero x is = ap (λ (z : PeerState). z ∷ xs) (sym (same_Some y x is))
@@ -176,7 +176,7 @@ scene_goes_on world output events event s s' there peer_states sizes same after 
       linked = runs.linked p peer_state here;
     }) runs
 
--- an event that changes the world state alone happens, where its call succeeds
+-- An event that changes the world state alone happens if its call succeeds.
 pub scene_happens : {T E : Type 0} (r : Result T E) (event : Event) (s s' : Simulator) → s'.peer_states ≡ s.peer_states → s'.sizes ≡ s.sizes →
     ((world : World) (moment : HistoryState) → peer_after world moment event ≡ peer_at moment (event_peer event)) →
     ((world : World) (output : Output) (moment : HistoryState) → WorldStateAfter world output moment.past moment.losses s.world_state →
@@ -186,7 +186,7 @@ scene_happens (Ok v) event s s' peer_states sizes same on seated = λ world outp
     scene_goes_on world output events event s s' there peer_states sizes (same world (moment_of world events)) (on world output (moment_of world events) runs.after) seated runs
 scene_happens (Err e) event s s' peer_states sizes same on seated = tt
 
--- an event of a peer state alone, or of a peer state and the world state
+-- An event of a peer state alone, or of a peer state and the world state.
 pub seat_goes_on : (world : World) (output : Output) (events : List Event) (event : Event) (s s' : Simulator) (old peer_state : PeerState) → IsPermittedEvent world event → old ≡ get_or s.peer_states.items (event_peer event) old →
     s'.peer_states.items ≡ slice_set s.peer_states.items (event_peer event) peer_state → s'.sizes ≡ s.sizes →
     (PeerStateRefines (config_of world (event_peer event)) (peer_at (moment_of world events) (event_peer event)) old →
@@ -208,7 +208,7 @@ seat_goes_on world output events event s s' old peer_state there is items sizes 
       linked = kind (runs.linked p old here);
     }) runs
 
--- a poke brings no interrupt
+-- A poke causes no interrupt.
 quiet_write : (world : World) (past : List Line) (losses : ℕ → ℕ) (p word value : ℕ) (b : Bool) → step_interrupts world past losses p (if b then Some (step_of (access.Write word value) 0 []) else None) ≡ []
 quiet_write world past losses p word value true = refl
 quiet_write world past losses p word value false = refl
@@ -219,17 +219,17 @@ poked world past losses p word value P holds =
     subst (λ (dev : List Line). P (reverse (region_access_lines p (access.Write word value) (acted_step world p (access.Write word value) past) dev) ++ past))
     (sym (quiet_write world past losses p word value (may_write world.geometry p word))) holds
 
--- a line that stands without marks
+-- A line without marks.
 pub told_alone : (world : World) (past : List Line) (losses : ℕ → ℕ) (line : Line) (P : List Line → Type 0) → P (reverse (line_with_interrupts world past losses line) ++ past) → P (reverse (line ∷ (arrivals world past losses line ++ [])) ++ past)
 told_alone world past losses line P holds = subst (λ (ls : List Line). P (reverse (line ∷ ls) ++ past)) (sym (append-nil (arrivals world past losses line))) holds
 
--- what a peer state holds fits its peer
+-- The frames of a peer state fit its peer.
 pub seat_fits : (config : EndConfig) (peer : Peer) (peer_state : PeerState) → PeerStateRefines config peer peer_state → IsFit config peer → PeerStateFits config peer_state
 seat_fits config peer (Honest link) refines fit = link_fits config peer link refines fit
 seat_fits config peer (Storm x) refines fit = tt
 seat_fits config peer Idle refines fit = tt
 
--- an honest end of the link has its peer state in a running simulator
+-- An honest end of the link has its peer state in a running simulator.
 honest_link : (peer_state : PeerState) → is_honest peer_state ≡ true → (link : Link) × (peer_state ≡ Honest link)
 honest_link (Honest link) is = (link, refl)
 honest_link (Storm x) is = absurd (cc)
@@ -243,7 +243,7 @@ linked_there world output events s p runs below is =
     let found = honest_link peer_state (runs.linked p peer_state here ∙ is) in
     (found.0, here ∙ ap Some found.1)
 
--- the events of the acts so far, and of one more
+-- The events of the acts so far, and of one more.
 pub schedule_more : (acts : List Act) (i : ℕ) (act : Act) → i < length acts → act ≡ get_or acts i act → schedule (take (i + 1) acts) ≡ schedule (take i acts) ++ events_of act
 schedule_more acts i act inside is =
     ap (λ (xs : List Act). schedule xs) (take_more acts i act inside ∙ ap (λ (a : Act). take i acts ++ a ∷ []) (sym is)) ∙ flat_map-append events_of (take i acts) (act ∷ []) ∙ ap (λ es. schedule (take i acts) ++ es) (append-nil (events_of act))
@@ -251,19 +251,20 @@ schedule_more acts i act inside is =
 pub one_act : (world : World) (output : Output) (acts : List Act) (i : ℕ) (act : Act) (s : Simulator) → i < length acts → act ≡ get_or acts i act → RunsTo world output (schedule (take i acts) ++ events_of act) s → RunsTo world output (schedule (take (i + 1) acts)) s
 one_act world output acts i act s inside is runs = subst (λ (es : List Event). RunsTo world output es s) (sym (schedule_more acts i act inside is)) runs
 
--- on its way through a scenario the simulator has drained and keeps what a record tells of the history so far
+-- In the middle of a scenario the drained lines and those in the log are the history's lines in a
+-- record.
 pub told_so_far : (world : World) (output : Output) (events more : List Event) (s : Simulator) → RunsTo world output events s → schedule world.acts ≡ events ++ more →
     output.drained ++ kept_lines s ≡ recorded_in world output.version (reverse (moment_of world events).past)
 told_so_far world output events more s runs all = runs.after.log.lines (sessions_few world events more runs.after.is_world all)
 
--- the lines of a simulator that took all acts are what a record tells of the history
+-- The lines of a simulator that played all acts are the history's lines in a record.
 pub whole_history : (world : World) (version i : ℕ) (s : Simulator) → length world.acts ≤ i → RunsTo world (no_output version) (schedule (take i world.acts)) s → kept_lines s ≡ recorded_in world version (history world)
 whole_history world version i s whole runs =
     let all = take_all i world.acts whole in
     told_so_far world (no_output version) (schedule (take i world.acts)) [] s runs (sym (append-nil (schedule (take i world.acts)) ∙ ap schedule all))
     ∙ ap (λ (xs : List Act). recorded_in world version (reverse (moment_of world (schedule xs)).past)) all
 
--- the lines that are kept so far are drained
+-- The lines in the log are drained.
 pub drained_on : (world : World) (output : Output) (events : List Event) (s s' : Simulator) → s'.sizes ≡ s.sizes → s'.peer_states.items ≡ s.peer_states.items → s'.world_state.region ≡ s.world_state.region → s'.world_state.device ≡ s.world_state.device →
     s'.world_state.unspent ≡ s.world_state.unspent → ((w : World) (o : Output) (past : List Line) → IsLogOf w o past s.world_state.log → IsLogOf w (given o (kept_lines s)) past s'.world_state.log) → RunsTo world output events s → RunsTo world (given output (kept_lines s)) events s'
 drained_on world output events s s' sizes peer_states region device unspent log runs = record {
@@ -289,13 +290,13 @@ drained_on world output events s s' sizes peer_states region device unspent log 
   linked = λ p peer_state at. runs.linked p peer_state (subst (λ (xs : List PeerState). slice_get xs p ≡ Some peer_state) peer_states at);
 }
 
--- a peer state that isn't one of an honest end sits
+-- A peer state of no honest end has no call.
 pub sits_down : (config : EndConfig) (peer : Peer) (peer_state : PeerState) → is_honest peer_state ≡ false → PeerStateRefines config peer peer_state → (peer.left ≡ Ended) × (peer.waiting ≡ [])
 sits_down config peer (Honest link) is refines = absurd (cc)
 sits_down config peer (Storm x) is refines = (refines.left, refines.waiting)
 sits_down config peer Idle is refines = (refines.left, refines.waiting)
 
--- a write of a register that is neither State nor the Doorbell
+-- A write of a register that is neither State nor the Doorbell.
 not_same : (a b : ℕ) → a ≢ b → (a == b) ≡ false
 not_same a b other = grind (arith, nat_tests)
 
@@ -311,11 +312,11 @@ is_rung p offset value is = rw is refl
 pub below_peers : (p peers : ℕ) → nat_lt p peers ≡ true → p < peers
 below_peers p peers is = grind (arith, nat_tests)
 
--- what an act that is allowed asks for
+-- The events of an allowed act are permitted.
 pub act_fits : (world : World) (act : Act) → IsWorld world → IsAct world act → AllByRecursion (IsPermittedEvent world) (events_of act ++ [])
 act_fits world act is allowed = act_there world act [] is.geometry.two_peers allowed.1.peer allowed.1.frame tt
 
--- an act of one event is played where its event happens
+-- An act of one event is played if its event happens.
 pub played_on : (a x : Act) (event : Event) (old new : Simulator) → a ≡ x → events_of x ≡ event ∷ [] → Happens event old new → PlaysAct a old new
 played_on a x event old new is one after_event = λ world output events allowed runs.
     let fits = act_fits world x runs.after.is_world (subst (λ (b : Act). IsAct world b) is allowed) in
@@ -327,7 +328,7 @@ pub played : {T E : Type 0} (result : Result T E) (a x : Act) (event : Event) (o
 played (Ok t) a x event old new is one after_event = played_on a x event old new is one after_event
 played (Err e) a x event old new is one after_event = tt
 
--- so are turns
+-- Turns of a peer are played if each turn happens.
 turns_on : (a : Act) (peer steps : ℕ) (old new : Simulator) → a ≡ act.Turn peer steps →
     ((world : World) (output : Output) (events : List Event) → IsPermittedEvent world (TurnTaken peer) → RunsTo world output events old → RunsTo world output (events ++ replicate steps (TurnTaken peer)) new) → PlaysAct a old new
 turns_on a peer steps old new is turns = λ world output events allowed runs.
@@ -340,7 +341,7 @@ pub played_turns : {T E : Type 0} (result : Result T E) (a : Act) (peer steps : 
 played_turns (Ok t) a peer steps old new is turns = turns_on a peer steps old new is turns
 played_turns (Err e) a peer steps old new is turns = tt
 
--- how many losses acts ask for
+-- The number of losses that an act adds.
 abbrev loses_by : Event → ℕ → ℕ
 loses_by (InterruptDropped p) q = if p == q then 1 else 0
 loses_by (CallQueued p call) q = 0
@@ -423,14 +424,14 @@ acts_lose (act ∷ acts) q =
     let here = act_loses act q in
     let rest = acts_lose acts q in omega arith
 
--- so many acts ask for no more losses
+-- The acts so far add no more losses than all.
 pub losses_few : (world : World) (acts : List Act) (i : ℕ) (q : ℕ) → (moment_of world (schedule (take i acts))).losses q ≤ i
 losses_few world acts i q =
     let all = losses_run world (schedule (take i acts)) (initial_state world) q in
     let few = acts_lose (take i acts) q in
     let count = length-take i acts in omega arith
 
--- an element that is there doesn't depend on what would stand in its place
+-- An element at a position in the list doesn't depend on the default.
 pub same_or : (xs : List PeerState) (p : ℕ) (d : PeerState) → p < length xs → get_or xs p d ≡ get_or xs p (get_or xs p d)
 same_or [] p d below = absurd (omega arith)
 same_or (x ∷ xs) zero d below = refl
@@ -439,7 +440,7 @@ same_or (x ∷ xs) (suc p) d below = same_or xs p d (omega arith)
 two_below : (p : ℕ) (flag : Bool) → (nat_lt p 2 && flag) ≡ true → p < 2
 two_below p flag is = grind (arith, nat_tests)
 
--- an act of a call is for an honest end of the link, and a storm is for none
+-- An act of a call is for an honest end of the link, and a storm is for none.
 pub call_linked : (world : World) (output : Output) (events : List Event) (s : Simulator) (p : ℕ) → RunsTo world output events s → (nat_lt p 2 && slice_index_or world.honest p false) ≡ true → IsLinked s.peer_states.items p
 call_linked world output events s p runs is = let two = runs.after.is_world.geometry.two_peers in let below = two_below p _ is in linked_there world output events s p runs (omega arith) is
 
@@ -458,6 +459,6 @@ pub hostile_unlinked : (p peers : ℕ) (flag : Bool) → (nat_lt p peers && not 
 hostile_unlinked p peers true is = absurd (last_false (nat_lt p peers) is)
 hostile_unlinked p peers false is = and_false (nat_lt p 2)
 
--- the act at a place of a scenario is one of it
+-- The act at an index of a scenario is one of the scenario.
 pub act_at : (world : World) (i : ℕ) (a : Act) → IsWorld world → i < length world.acts → a ≡ get_or world.acts i a → IsAct world a
 act_at world i a is inside at = (take i world.acts, is.allowed i a (slice_get-get_or world.acts i a inside ∙ ap Some (sym at)))

@@ -17,7 +17,7 @@ use Rattle.lawful_history.specs.Device.{brought_by, step_interrupts}
 use Rattle.lawful_history.specs.History.{step_by, moved_by}
 use Rattle.simulator.specs.WorldState.{GaveLast, accessed}
 
--- a step by which a call goes on is the computed one, where a read gave what was written last
+-- A step by which a call goes on is the computed one, if its read returned the value written last.
 pub by_tree : (world : World) (p : ℕ) (driver : Driver) (peer : Peer) (tree : CallTree) (step : Step) (new : CallTree) (past : List Line) → Goes tree step new →
     ((word : ℕ) → step.access ≡ access.Read word → step.value ≡ last_write past word) → (step_by world p driver tree past ≡ Some step) × (moved_by peer tree past ≡ stepped peer step new)
 by_tree world p driver peer Ended step new past goes known = absurd goes
@@ -27,7 +27,7 @@ by_tree world p driver peer (Reads word marks rest) step new past goes known =
     let step_is : step_of (access.Read word) (last_write past word) (marks (last_write past word)) ≡ step = ap (λ v. step_of (access.Read word) v (marks v)) (sym read) ∙ sym goes.1 in
     (ap (λ (s : Step). Some s) step_is, ap (λ (s : Step). stepped peer s (rest (last_write past word))) step_is ∙ ap (λ (t : CallTree). stepped peer step t) (ap rest (sym read) ∙ sym goes.2))
 
--- the line of an access tells a value of a read alone
+-- The line of an access depends on the value of a read alone.
 same_lines : (me : ℕ) (a : Access) (value : ℕ) → access_lines me a (value_given a value) ≡ access_lines me a value
 same_lines me (access.Read word) value = refl
 same_lines me (access.Write word written) value = refl
@@ -45,7 +45,8 @@ last_of past (access.State x) b value word is gave reads = absurd (cc)
 last_of past (access.Ring t v) b value word is gave reads = absurd (cc)
 last_of past access.Nothing b value word is gave reads = absurd (cc)
 
--- the access that was made, with the interrupts that it brought, and then the marks, are the lines of the step
+-- The line of the access, the interrupts that it causes and then the marks are the lines of the
+-- step.
 pub lines_are : (world : World) (past : List Line) (losses : ℕ → ℕ) (me : ℕ) (a : Access) (value : ℕ) (marks : List Mark) →
     reverse (map (mark_line me) marks) ++ (reverse (accessed world past losses me a value) ++ past) ≡
     reverse (step_lines me (step_of a value marks) (step_interrupts world past losses me (Some (step_of a value marks)))) ++ past
@@ -57,7 +58,8 @@ lines_are world past losses me a value marks =
     sym (append_assoc (reverse told) (reverse (first ++ brought)) past) ∙ ap (λ r. r ++ past) (sym (reverse-append (first ++ brought) told) ∙ ap reverse (append_assoc first brought told)) in
     whole ∙ ap (λ ls. reverse (ls ++ (brought_by world past losses ls ++ told)) ++ past) (sym (same_lines me a value))
 
--- a step that was performed, taken and told is the step of the history, and the peer stands after it
+-- A step that was performed, completed and recorded is the step of the history, and the peer is in
+-- the state after it.
 pub step_taken : PlacesFollowTrees → (world : World) (past : List Line) (losses : ℕ → ℕ) (me : ℕ) (peer : Peer) (place : Place) (a : Access) (value : ℕ) (P : List Line → Peer → Type 0) →
     remaining (config_of world me) place ≡ peer.left → is_open place ≡ true → a ≡ access_at (config_of world me) place → GaveLast past a value →
     P (reverse (map (mark_line me) (marks_at (config_of world me) place value)) ++ (reverse (accessed world past losses me a value) ++ past))

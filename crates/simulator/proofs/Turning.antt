@@ -45,7 +45,7 @@ use Rattle.simulator.proofs.Openings.{shut_left}
 
 -- Notes as lines
 
--- a mark changes no word and tells the devices nothing
+-- A mark changes no word and is no event of the devices.
 pub mark_remark : (me : ℕ) (mark : Mark) → has_frame (mark_line me mark) ≡ true → IsMark (mark_line me mark)
 mark_remark me (Saw value) has = record { touch = refl; told = refl; lost = λ p. refl; frame = refl }
 mark_remark me (Reclaim count) has = record { touch = refl; told = refl; lost = λ p. refl; frame = refl }
@@ -64,14 +64,14 @@ both true true is = (refl, refl)
 both true false is = absurd (cc)
 both false b is = absurd (cc)
 
--- the frame of one note among some
+-- The frame of one note among some.
 pub frame_at : (me : ℕ) (one other : List ℕ) (notes : List Note) (i : ℕ) (note : Note) → HaveFrames (map (mark_line me) (marks_between one other notes)) → i < length notes → note ≡ get_or notes i note →
     has_frame (mark_line me (mark_between one other note)) ≡ true
 frame_at me one other [] i note has inside is = absurd (omega arith)
 frame_at me one other (x ∷ notes) zero note has inside is = subst (λ (n : Note). has_frame (mark_line me (mark_between one other n)) ≡ true) (sym is) (both _ _ has).0
 frame_at me one other (x ∷ notes) (suc i) note has inside is = frame_at me one other notes i note (both _ _ has).1 (omega arith) is
 
--- one line more
+-- One more line.
 pub one_note : (me : ℕ) (one other : List ℕ) (notes : List Note) (i : ℕ) (note : Note) (past : List Line) → i < length notes → note ≡ get_or notes i note →
     reverse (map (mark_line me) (marks_between one other (take (i + 1) notes))) ++ past ≡ mark_line me (mark_between one other note) ∷ (reverse (map (mark_line me) (marks_between one other (take i notes))) ++ past)
 one_note me one other notes i note past inside is =
@@ -88,7 +88,7 @@ one_note me one other notes i note past inside is =
 section_fits : (other peers out : ℕ) → other < peers → other * out + out ≤ peers * out
 section_fits other peers out below = let h : (other + 1) * out ≤ peers * out = mul-le-mul_right out (omega arith) in omega arith
 
--- an access in reach can be performed
+-- A permitted access can be performed.
 pub can : (world_state : WorldState) (me : ℕ) (config : EndConfig) (a : Access) → IsPlaced world_state.region.shape me config → IsPermittedAccess config a → ((t v : ℕ) → a ≡ access.Ring t v → (t ≡ config.other) × (v ≡ config.vector)) → CanPerform world_state me a
 can world_state me config (access.Read word) placed (inl is) rings =
     let states = placed.is_shape.states in let other = placed.other in omega arith
@@ -117,7 +117,7 @@ pub frames_now : (me : ℕ) (e e' : Engine) (value : ℕ) (notes : List Note) (c
 frames_now me e e' value notes config peer link refines took busy =
     subst (λ (ms : List Mark). HaveFrames (map (mark_line me) ms)) (sym (marks_now link.end e' value notes config peer.end refines.place took refines.end busy)) (marks_frames me config refines.place value refines.frames)
 
--- where the link stands after a step
+-- The link refines the peer after a step.
 pub steps_on : (config : EndConfig) (peer : Peer) (link link' : Link) (refines : LinkRefines config peer link) (value : ℕ) (notes : List Note) → Takes link.end value notes link'.end → is_busy link'.end ≡ is_open (next_place config refines.place value) →
     link'.waiting ≡ link.waiting → DriverIs link'.auto (driver_after peer.driver (marks_between (offered link'.end) (delivered link'.end) notes)) →
     LinkRefines config (stepped peer (step_at config refines.place value) (remaining config (next_place config refines.place value))) link'
@@ -139,7 +139,7 @@ driver_waits plan driver marks none is =
     let waits : driver ≡ Waits = subst (λ (o : Option Plan). DriverIs o driver) none is in
     subst (λ (o : Option Plan). DriverIs o (driver_after driver marks)) (sym none) (ap (λ (d : Driver). driver_after d marks) waits)
 
--- the whole step
+-- The whole step.
 pub carried : PlacesFollowTrees → (world : World) (output : Output) (past : List Line) (losses : ℕ → ℕ) (me : ℕ) (peer : Peer) (link link' : Link) (world_state world_state' : WorldState) (a : Access) (value : ℕ) (notes : List Note) (refines : LinkRefines (config_of world me) peer link) →
     is_open refines.place ≡ true → a ≡ access_at (config_of world me) refines.place → GaveLast past a value × WorldStateAfter world output (reverse (accessed world past losses me a value) ++ past) losses world_state →
     Takes link.end value notes link'.end → is_busy link'.end ≡ is_open (next_place (config_of world me) refines.place value) → link'.waiting ≡ link.waiting →
@@ -162,7 +162,7 @@ none_driven : (world : World) (p : ℕ) (peer : Peer) (plan : Option Plan) (driv
 none_driven world p peer None driver is = (ap (λ (d : Driver). driven_step world p d) is, ap (λ (d : Driver). driven peer d) is)
 none_driven world p peer (Some plan) driver is = (ap (λ (d : Driver). driven_step world p d) is.1, ap (λ (d : Driver). driven peer d) is.1)
 
--- an end with no call is idle
+-- An end without a call is idle.
 pub idles : (world : World) (output : Output) (past : List Line) (losses : ℕ → ℕ) (me : ℕ) (peer : Peer) (link : Link) (world_state : WorldState) (refines : LinkRefines (config_of world me) (opened (config_of world me) peer) link) → is_open refines.place ≡ false →
     WorldStateAfter world output (line.Idle me ∷ past) losses world_state →
     WorldStateAfter world output (reverse (turn_lines me (turn_step world me peer past) (step_interrupts world past losses me (turn_step world me peer past))) ++ past) losses world_state
@@ -178,7 +178,7 @@ idles world output past losses me peer link world_state refines shut after =
       subst (λ (x : Peer). LinkRefines config x link) (sym turned_is) refines,
     )
 
--- a frame that is put after those of an automatic peer
+-- A frame appended to those of an automatic end.
 pub frame_added : (config : EndConfig) (peer : Peer) (link link' : Link) (plan new : Plan) (frame : List ℕ) → LinkRefines config peer link → link.auto ≡ Some plan → link'.end ≡ link.end → link'.waiting ≡ link.waiting → link'.auto ≡ Some new →
     new ≡ record plan { frames = plan.frames ++ frame ∷ [] } → LinkRefines config (with_call peer (call_of (waiting.Offer frame))) link'
 frame_added config peer link link' plan new frame refines has end_is waiting_is auto_is new_is =
@@ -232,7 +232,7 @@ storm_turn world output past losses me x next peer world_state sits next_is afte
       subst (λ (p : Peer). SitsBy (Storms next) p) (sym turned_is) (record { left = sits.left; waiting = sits.waiting; driver = ap Storms (sym next_is) }),
     )
 
--- nothing is given by what a storm does
+-- An access of a storm returns nothing.
 draws_nothing : (world : World) (p v : ℕ) (a : Access) → IsDrawn world p a → value_given a v ≡ value_given a 0
 draws_nothing world p v (access.Write word value) is = refl
 draws_nothing world p v (access.State state) is = refl
@@ -240,7 +240,7 @@ draws_nothing world p v (access.Ring target vector) is = refl
 draws_nothing world p v (access.Read word) is = elim is [ ]
 draws_nothing world p v access.Nothing is = elim is [ ]
 
--- the step of a storm that was performed
+-- The step of a storm that was performed.
 pub storm_performed : (world : World) (output : Output) (past : List Line) (losses : ℕ → ℕ) (me x : ℕ) (world_state : WorldState) (a : Access) (value : ℕ) → DrawsIn world me (storm_step world me x) a →
     WorldStateAfter world output (reverse (accessed world past losses me a value) ++ past) losses world_state →
     WorldStateAfter world output (reverse (turn_lines me (Some (storm_step world me x)) (step_interrupts world past losses me (Some (storm_step world me x)))) ++ past) losses world_state

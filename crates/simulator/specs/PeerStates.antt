@@ -1,4 +1,4 @@
--- The peer states of the peers: what each holds of its peer in the middle of the schedule.
+-- The states of the peers: the refinement of each peer in the middle of the schedule.
 use Rattle.std.specs.Prelude.{ℕ, ◌≡◌, ◌+◌, ◌≤◌, ◌<◌, ◌^◌, Bool, true, false, Option, Some, None, List, [], map, length, All}
 use Rattle.section_map.specs.Geometry.{Shape, IsShape, section_start}
 use Rattle.scenario_text.specs.Scenario.{World, IsWorld}
@@ -18,19 +18,20 @@ use Rattle.simulator.specs.declared.peer_state.PeerState.{PeerState}
 use Rattle.simulator.specs.declared.peer_state.StormSizes.{StormSizes}
 use Rattle.simulator.specs.declared.peer_state.PeerState.TheVariants as peer_state
 
--- the call of the grammar that waits
+-- The call of the grammar that a queued call is.
 abbrev pub call_of : Waiting → calls.Call
 call_of Tick = calls.Tick
 call_of Poll = calls.Poll
 call_of Stop = calls.Stop
 call_of (Offer frame) = calls.Offer frame
 
--- an end with a plan is an automatic peer, and one without waits for its calls
+-- An end with a plan is automatic, and one without waits for its calls.
 abbrev pub DriverIs : Option Plan → Driver → Type 0
 DriverIs None driver = driver ≡ Waits
 DriverIs (Some plan) driver = (auto : Auto) × (driver ≡ Chooses auto) × IsPlanOf plan auto
 
--- the link stands where this peer of the history is: its end, what is left of its open call, the calls that wait, and its driver
+-- The link refines this peer of the history: its end, what is left of its open call, the queued
+-- calls, and its driver.
 pub record LinkRefines (config : EndConfig) (peer : Peer) (link : Link) : Type 0 where
   pub place : Place
   pub end : RefinesAt link.end config peer.end place
@@ -39,7 +40,7 @@ pub record LinkRefines (config : EndConfig) (peer : Peer) (link : Link) : Type 0
   pub waiting : map call_of link.waiting.items ≡ peer.waiting
   pub driver : DriverIs link.auto peer.driver
 
--- a peer state without an end of the link: its peer has no call, open or waiting
+-- A peer state without an end of the link: its peer has no call, open or queued.
 pub record SitsBy (driven : Driver) (peer : Peer) : Type 0 where
   pub left : peer.left ≡ Ended
   pub waiting : peer.waiting ≡ []
@@ -50,7 +51,7 @@ PeerStateRefines config peer (peer_state.Honest link) = LinkRefines config peer 
 PeerStateRefines config peer (peer_state.Storm x) = SitsBy (Storms x) peer
 PeerStateRefines config peer peer_state.Idle = SitsBy Waits peer
 
--- the frames to come may be offered
+-- The frame may be offered.
 abbrev pub IsOffered : ℕ → List ℕ → Type 0
 IsOffered mtu frame = (14 ≤ length frame) × (length frame ≤ mtu + 18)
 
@@ -68,7 +69,7 @@ pub record LinkFits (link : Link) : Type 0 where
   pub waiting : All (MayWait link.end.config.sizes.mtu) link.waiting.items
   pub plan : PlanFits link.end.config.sizes.mtu link.auto
 
--- the peer has its place in a region of this shape
+-- The peer has a section in a region of this shape.
 pub record IsPlaced (shape : Shape) (peer : ℕ) (config : EndConfig) : Type 0 where
   pub is_shape : IsShape shape
   pub me : config.me ≡ peer
@@ -79,13 +80,13 @@ pub record IsPlaced (shape : Shape) (peer : ℕ) (config : EndConfig) : Type 0 w
   pub words : config.words ≡ shape.out
   pub vector : config.vector < 2 ^ 16
 
--- what a peer state holds may be offered, and its peer has its place
+-- The frames of a peer state may be offered, and its peer has a section.
 abbrev pub PeerStateFits : EndConfig → PeerState → Type 0
 PeerStateFits config (peer_state.Honest link) = LinkFits link
 PeerStateFits config (peer_state.Storm x) = Unit {0}
 PeerStateFits config peer_state.Idle = Unit {0}
 
--- the peer state is still one of an honest end of the link, or still none
+-- Whether the peer state is one of an honest end of the link.
 abbrev pub is_honest : PeerState → Bool
 is_honest (peer_state.Honest link) = true
 is_honest (peer_state.Storm x) = false
@@ -94,7 +95,7 @@ is_honest peer_state.Idle = false
 abbrev pub SameKind : PeerState → PeerState → Type 0
 SameKind old new = is_honest new ≡ is_honest old
 
--- the sizes that a storm draws from are those of the world, and the peer is one of it
+-- The sizes that a storm draws from are those of the world, and the peer is one of the world.
 pub record AreSizesOf (world : World) (me : ℕ) (sizes : StormSizes) : Type 0 where
   pub is_world : IsWorld world
   pub there : me < world.geometry.peers

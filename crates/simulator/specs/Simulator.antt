@@ -1,4 +1,4 @@
--- What the simulator keeps: its world state and its peer states stand for a moment of the history.
+-- What the simulator represents: its world state and its peer states refine a history state.
 use Rattle.std.specs.Prelude.{ℕ, ◌≡◌, ◌<◌, List, [], ◌∷◌, ◌++◌, Some, length, slice_get}
 use Rattle.std.specs.List.{AllByRecursion}
 use Rattle.scenario_text.specs.declared.acts.Act.{Act}
@@ -17,25 +17,26 @@ use Rattle.simulator.specs.declared.peer_state.PeerState.{PeerState}
 use Rattle.simulator.specs.declared.peer_state.PeerState.TheVariants.{Honest}
 use Rattle.simulator.specs.declared.simulator.Simulator.{Simulator}
 
--- the peer state of a peer is that of an honest end of the link
+-- The peer is an honest end of the link.
 abbrev pub IsLinked : List PeerState → ℕ → Type 0
 IsLinked peer_states peer = (link : Link) × (slice_get peer_states peer ≡ Some (Honest link))
 
--- so many peer states at the start: no peer has a call, and an honest end of the link has its own
+-- `count` initial peer states: no peer has a call, and each honest end of the link has its state.
 pub record AreAtStart (world : World) (count : ℕ) (peer_states : List PeerState) : Type 0 where
   pub length_is : length peer_states ≡ count
   pub refines : (p : ℕ) (peer_state : PeerState) → slice_get peer_states p ≡ Some peer_state → PeerStateRefines (config_of world p) at_start peer_state
   pub linked : (p : ℕ) (peer_state : PeerState) → slice_get peer_states p ≡ Some peer_state → is_honest peer_state ≡ is_link world p
 
--- the moment to which these events lead
+-- The history state after these events.
 abbrev pub moment_of : World → List Event → HistoryState
 moment_of world events = run world events (initial_state world)
 
--- the lines that the simulator keeps: they were told and not drained
+-- The lines of the simulator that were recorded and not drained.
 abbrev pub kept_lines : Simulator → List Line
 kept_lines s = s.world_state.log.lines
 
--- the simulator is at the moment to which these events lead, and of its lines these were drained into an output
+-- The simulator refines the history state after these events, and the lines of `output` were
+-- drained.
 pub record RunsTo (world : World) (output : Output) (events : List Event) (s : Simulator) : Type 0 where
   pub there : AllByRecursion (IsPermittedEvent world) events
   pub geometry : s.sizes.geometry ≡ world.geometry
@@ -46,20 +47,22 @@ pub record RunsTo (world : World) (output : Output) (events : List Event) (s : S
   pub refines : (p : ℕ) (peer_state : PeerState) → slice_get s.peer_states.items p ≡ Some peer_state → PeerStateRefines (config_of world p) (peer_at (moment_of world events) p) peer_state
   pub linked : (p : ℕ) (peer_state : PeerState) → slice_get s.peer_states.items p ≡ Some peer_state → is_honest peer_state ≡ is_link world p
 
--- the event happens: from where any events led, the simulator goes on to where they lead with this one after them
+-- The event happens: if the simulator refines the state after any events, the new one refines the
+-- state after them and this event.
 abbrev pub Happens : Event → Simulator → Simulator → Type 0
 Happens event old new = (world : World) (output : Output) (events : List Event) → IsPermittedEvent world event → RunsTo world output events old
     → RunsTo world output (events ++ event ∷ []) new
 
--- some events led the simulator here, in a world that has the peer
+-- The simulator refines the state after some events, in a world that has the peer.
 abbrev pub IsRunning : Simulator → ℕ → Type 0
 IsRunning s peer = (world : World) × (output : Output) × (events : List Event) × RunsTo world output events s × (peer < world.geometry.peers)
 
--- the act is one of the world's
+-- The act is one of the world's.
 abbrev pub IsAct : World → Act → Type 0
 IsAct world act = (before : List Act) × IsAllowed world before act
 
--- what the act asks for happens: from where any events led, the simulator goes on to where they lead with those of the act after them
+-- The events of the act happen: if the simulator refines the state after any events, the new one
+-- refines the state after them and those of the act.
 abbrev pub PlaysAct : Act → Simulator → Simulator → Type 0
 PlaysAct act old new = (world : World) (output : Output) (events : List Event) → IsAct world act → RunsTo world output events old
     → RunsTo world output (events ++ events_of act) new

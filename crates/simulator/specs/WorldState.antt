@@ -1,4 +1,4 @@
--- The world state of a world: its region, its devices and its lines, after the lines so far.
+-- The state of a world: its region, its devices and its lines, after the lines so far.
 use Rattle.std.specs.Prelude.{ℕ, ◌≡◌, ◌+◌, ◌<◌, ◌^◌, true, Option, Some, None, List, [], ◌∷◌, ◌++◌, length, slice_index, slice_index_or, slice_set}
 use Rattle.section_map.specs.Geometry.{Words, word_count}
 use Rattle.section_map.specs.MayWrite.{MayWrite}
@@ -17,13 +17,14 @@ use Rattle.lawful_history.specs.Frames.{has_frame}
 use Rattle.simulator.specs.Log.{Output, IsLogOf}
 use Rattle.simulator.specs.declared.world_state.WorldState.{WorldState}
 
--- each word is what was written last, of lines with the newest first
+-- Each word has the value written last; the lines are listed newest first.
 abbrev pub WordsAre : List ℕ → List Line → Type 0
 WordsAre words past = (word : ℕ) → word < length words → slice_index words word ≡ last_write past word
 
--- the world state after these lines, of which the newest is the first and of which the oldest ones were drained into this output, where so many
--- interrupts of each peer are to be lost: the log tells them, the region has the words that were written last, the devices stand where the
--- lines led them, and it is known how many losses are still to come
+-- The world state after the lines `past`, newest first, of which the oldest were drained into
+-- `output`. The log records them. The region has the words written last. The devices are in the
+-- state after these lines. The schedule loses `losses p` interrupts of peer p, and `unspent` has
+-- the rest of them.
 pub record WorldStateAfter (world : World) (output : Output) (past : List Line) (losses : ℕ → ℕ) (world_state : WorldState) : Type 0 where
   pub is_world : IsWorld world
   pub shape : world_state.region.shape ≡ world.geometry
@@ -33,20 +34,22 @@ pub record WorldStateAfter (world : World) (output : Output) (past : List Line) 
   pub unspent : (p : ℕ) → slice_index_or world_state.unspent p 0 + lost_count past p ≡ losses p
   pub peer_states : length world_state.unspent ≡ 8
 
--- a peer of the world state, for its region and for its devices
+-- The region and the devices have the peer.
 pub record HasPeer (world_state : WorldState) (me : ℕ) : Type 0 where
   pub in_region : me < world_state.region.shape.peers
   pub in_devices : me < peer_count world_state.device
   pub few : me < length world_state.unspent
 
--- a line that changes no word and tells the devices nothing, and whose frame, if it has one, has a byte
+-- A line that changes no word and is no event of the devices. If it has a frame, the frame has a
+-- byte.
 pub record IsMark (line : Line) : Type 0 where
   pub touch : memory_effect_of line ≡ Apart
   pub told : device_event_of line ≡ None
   pub lost : (p : ℕ) → lost_by line p ≡ 0
   pub frame : has_frame line ≡ true
 
--- the region serves the access, and a doorbell names a target and a vector of 16 bits each
+-- A read's word is in the region, the peer may write a write's word, and a doorbell's target and
+-- vector have 16 bits each.
 abbrev pub CanPerform : WorldState → ℕ → Access → Type 0
 CanPerform world_state me (access.Read word) = word < word_count world_state.region.shape
 CanPerform world_state me (access.Write word value) = MayWrite world_state.region.shape me word
@@ -54,7 +57,7 @@ CanPerform world_state me (access.State state) = Unit {0}
 CanPerform world_state me (access.Ring target vector) = (target < 2 ^ 16) × (vector < 2 ^ 16)
 CanPerform world_state me access.Nothing = Unit {0}
 
--- a read gave what was written last
+-- A read returned the value written last.
 abbrev pub GaveLast : List Line → Access → ℕ → Type 0
 GaveLast past (access.Read word) value = value ≡ last_write past word
 GaveLast past (access.Write word written) value = Unit {0}
@@ -62,20 +65,20 @@ GaveLast past (access.State state) value = Unit {0}
 GaveLast past (access.Ring target vector) value = Unit {0}
 GaveLast past access.Nothing value = Unit {0}
 
--- the lines after an access of a peer: its line, and the interrupts that it brought
+-- The lines after an access of a peer: its line, and the interrupts that it causes.
 abbrev pub accessed : World → List Line → (ℕ → ℕ) → ℕ → Access → ℕ → List Line
 accessed world past losses me a value = access_lines me a value ++ brought_by world past losses (access_lines me a value)
 
--- the line interrupts these, after these older lines
+-- The line causes these interrupts, after these older lines.
 abbrev pub BringsBy : World → List Line → Option device.Event → List Delivery → Type 0
 BringsBy world past None deliveries = deliveries ≡ []
 BringsBy world past (Some event) deliveries = deliveries ≡ (effect_of (devices_of world) (device_events past) event).deliveries.items
 
--- the region after a call of the devices: the State that they wrote, if they wrote one, is the peer's word
+-- The region after a call of the devices: if they wrote a State, it is the peer's word.
 abbrev pub with_state : Words → ℕ → Option ℕ → Words
 with_state region me None = region
 with_state region me (Some value) = record region { words = slice_set region.words me value }
 
--- a line with the interrupts that it brings
+-- A line with the interrupts that it causes.
 abbrev pub line_with_interrupts : World → List Line → (ℕ → ℕ) → Line → List Line
 line_with_interrupts world past losses line = line ∷ arrivals world past losses line

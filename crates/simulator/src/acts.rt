@@ -12,7 +12,7 @@ use doorbell_irq::{REGISTER_DOORBELL, REGISTER_STATE, doorbell_target, doorbell_
 use ivs_base::NoMemory;
 
 impl Simulator {
-    /// A write of the peer's own accord; where it may not write the word, it is denied.
+    /// Plays `poke`: the peer writes a word, or is denied the write if it may not write the word.
     pub fn poke(&mut self, peer: u32, word: u32, value: u32) -> Result<(), NoMemory>
         requires { HasPeer self.old.world_state peer }
         ensures { OnOk result (Happens (RegionAccessed peer (Write word value)) self.old self.new) }
@@ -20,7 +20,7 @@ impl Simulator {
         self.world_state.poke(peer, word, value)
     }
 
-    /// A read of the peer's own accord.
+    /// Plays `peek`: the peer reads a word.
     pub fn peek(&mut self, peer: u32, word: u32) -> Result<(), NoMemory>
         requires seated { HasPeer self.old.world_state peer }
         requires inside { word < word_count self.old.world_state.region.shape }
@@ -30,7 +30,7 @@ impl Simulator {
         Ok(())
     }
 
-    /// A write of State.
+    /// Plays a write of State.
     pub fn set(&mut self, peer: u32, value: u32) -> Result<(), NoMemory>
         requires { HasPeer self.old.world_state peer }
         ensures { OnOk result (Happens (RegionAccessed peer (State value)) self.old self.new) }
@@ -38,7 +38,7 @@ impl Simulator {
         self.world_state.set_state(peer, value)
     }
 
-    /// A write of the Doorbell.
+    /// Plays a write of the Doorbell.
     pub fn ring(&mut self, peer: u32, target: u32, vector: u32) -> Result<(), NoMemory>
         requires seated { HasPeer self.old.world_state peer }
         requires target { target < 2 ^ 16 }
@@ -48,7 +48,7 @@ impl Simulator {
         self.world_state.ring(peer, target, vector)
     }
 
-    /// A read of the peer's configuration space.
+    /// Plays a read of the peer's configuration space.
     pub fn read_config(&mut self, peer: u32, offset: u16, width: u16) -> Result<(), NoMemory>
         requires seated { HasPeer self.old.world_state peer }
         requires access { is_access 256 offset width ≡ true }
@@ -57,7 +57,7 @@ impl Simulator {
         self.world_state.read_config(peer, offset, width)
     }
 
-    /// A write of the peer's configuration space.
+    /// Plays a write of the peer's configuration space.
     pub fn write_config(
         &mut self,
         peer: u32,
@@ -72,7 +72,7 @@ impl Simulator {
         self.world_state.write_config(peer, offset, width, value)
     }
 
-    /// A read of a register.
+    /// Plays a read of a register.
     pub fn read_register(&mut self, peer: u32, offset: u32) -> Result<(), NoMemory>
         requires { HasPeer self.old.world_state peer }
         ensures { OnOk result (Happens (DeviceAccessed peer (ReadsRegister offset)) self.old self.new) }
@@ -80,7 +80,7 @@ impl Simulator {
         self.world_state.read_register(peer, offset)
     }
 
-    /// A write of a register that is neither State nor the Doorbell.
+    /// Plays a write of a register that is neither State nor the Doorbell.
     fn write_other_register(&mut self, peer: u32, offset: u32, value: u32) -> Result<(), NoMemory>
         requires { HasPeer self.old.world_state peer }
         ensures { OnOk result (Happens (DeviceAccessed peer (WritesRegister offset value)) self.old self.new) }
@@ -88,7 +88,8 @@ impl Simulator {
         self.world_state.write_register(peer, offset, value)
     }
 
-    /// A write of a register; one of State or of the Doorbell is told as such.
+    /// Plays a write of a register. A write of State or of the Doorbell is recorded as such.
+    // claim: A register write is State, the Doorbell or neither, by its offset.
     pub fn write_register(&mut self, peer: u32, offset: u32, value: u32) -> Result<(), NoMemory>
         requires { HasPeer self.old.world_state peer }
         ensures { OnOk result (Happens (register_event peer offset value) self.old self.new) }
@@ -102,7 +103,7 @@ impl Simulator {
         }
     }
 
-    /// A read of the MSI-X region.
+    /// Plays a read of the MSI-X region.
     pub fn read_msix(&mut self, peer: u32, offset: u32) -> Result<(), NoMemory>
         requires { HasPeer self.old.world_state peer }
         ensures { OnOk result (Happens (DeviceAccessed peer (ReadsMsix offset)) self.old self.new) }
@@ -110,7 +111,7 @@ impl Simulator {
         self.world_state.read_msix(peer, offset)
     }
 
-    /// A write of the MSI-X region.
+    /// Plays a write of the MSI-X region.
     pub fn write_msix(&mut self, peer: u32, offset: u32, value: u32) -> Result<(), NoMemory>
         requires { HasPeer self.old.world_state peer }
         ensures { OnOk result (Happens (DeviceAccessed peer (WritesMsix offset value)) self.old self.new) }
@@ -118,7 +119,7 @@ impl Simulator {
         self.world_state.write_msix(peer, offset, value)
     }
 
-    /// The peer's next interrupt is to be lost.
+    /// Adds one to the interrupts that the peer will lose.
     pub fn lose(&mut self, peer: u32)
         requires seated { HasPeer self.old.world_state peer }
         requires room { slice_index self.old.world_state.unspent peer < 2 ^ 64 - 1 }
@@ -127,7 +128,7 @@ impl Simulator {
         self.world_state.lose(peer);
     }
 
-    /// An interrupt is repeated at the peer, whatever its registers say.
+    /// Repeats an interrupt at the peer, regardless of its registers.
     pub fn repeat(&mut self, peer: u32, vector: u32) -> Result<(), NoMemory>
         ensures { OnOk result (Happens (InterruptRepeated peer vector) self.old self.new) }
     {

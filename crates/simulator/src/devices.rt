@@ -1,5 +1,5 @@
-//! What a peer does to its device by hand: the configuration space, the register page and the MSI-X region; interrupts that are
-//! repeated, and interrupts that are to be lost.
+//! A peer's direct accesses to its device: configuration space, register page and MSI-X region.
+//! Repeated interrupts, and interrupts that will be lost.
 ghost use Rattle.std.specs.Prelude.{◌≡◌, ℕ, ◌<◌, ◌-◌, ◌^◌, List, ◌∷◌, true, OnOk, slice_index};
 ghost use Rattle.pci_space.specs.Fields.{is_access};
 ghost use Rattle.scenario_text.specs.Scenario.{World};
@@ -14,7 +14,7 @@ use ivs_base::NoMemory;
 use lawful_history::Line;
 
 impl WorldState {
-    /// A peer reads its configuration space.
+    /// Reads the peer's configuration space.
     pub fn read_config(&mut self, me: u32, offset: u16, width: u16) -> Result<(), NoMemory>
         requires seated { HasPeer self.old me }
         requires access { is_access 256 offset width ≡ true }
@@ -35,7 +35,7 @@ impl WorldState {
         }
     }
 
-    /// A peer writes its configuration space.
+    /// Writes the peer's configuration space.
     pub fn write_config(
         &mut self,
         me: u32,
@@ -62,7 +62,7 @@ impl WorldState {
         }
     }
 
-    /// A peer reads a register.
+    /// Reads a register of the peer.
     pub fn read_register(&mut self, me: u32, offset: u32) -> Result<(), NoMemory>
         requires { HasPeer self.old me }
         ensures after { (world : World) (output : Output) (past : List Line) (losses : ℕ → ℕ) → WorldStateAfter world output past losses self.old →
@@ -77,7 +77,8 @@ impl WorldState {
         })
     }
 
-    /// A peer writes a register that is neither State nor the Doorbell, so that nobody is interrupted.
+    /// Writes a register of the peer that is neither State nor the Doorbell, so that no peer is
+    /// interrupted.
     pub fn write_register(&mut self, me: u32, offset: u32, value: u32) -> Result<(), NoMemory>
         requires { HasPeer self.old me }
         ensures after { (world : World) (output : Output) (past : List Line) (losses : ℕ → ℕ) → WorldStateAfter world output past losses self.old →
@@ -92,7 +93,7 @@ impl WorldState {
         })
     }
 
-    /// A peer reads its MSI-X region.
+    /// Reads the peer's MSI-X region.
     pub fn read_msix(&mut self, me: u32, offset: u32) -> Result<(), NoMemory>
         requires { HasPeer self.old me }
         ensures after { (world : World) (output : Output) (past : List Line) (losses : ℕ → ℕ) → WorldStateAfter world output past losses self.old →
@@ -107,7 +108,7 @@ impl WorldState {
         })
     }
 
-    /// A peer writes its MSI-X region.
+    /// Writes the peer's MSI-X region.
     pub fn write_msix(&mut self, me: u32, offset: u32, value: u32) -> Result<(), NoMemory>
         requires { HasPeer self.old me }
         ensures after { (world : World) (output : Output) (past : List Line) (losses : ℕ → ℕ) → WorldStateAfter world output past losses self.old →
@@ -122,7 +123,7 @@ impl WorldState {
         })
     }
 
-    /// An interrupt is repeated at a peer, whatever its registers say.
+    /// Repeats an interrupt at a peer, regardless of its registers.
     pub fn repeat(&mut self, me: u32, vector: u32) -> Result<(), NoMemory>
         ensures after { (world : World) (output : Output) (past : List Line) (losses : ℕ → ℕ) → WorldStateAfter world output past losses self.old →
             OnOk result (WorldStateAfter world output (Interrupt me vector ∷ past) losses self.new) }
@@ -131,7 +132,7 @@ impl WorldState {
         self.record_mark(Line::Interrupt { peer: me, vector })
     }
 
-    /// One more interrupt of a peer is to be lost.
+    /// Adds one to the interrupts that the peer will lose.
     pub fn lose(&mut self, me: u32)
         requires seated { HasPeer self.old me }
         requires room { slice_index self.old.unspent me < 2 ^ 64 - 1 }

@@ -1,23 +1,28 @@
-//! The world of a scenario, played event by event: words, devices and the ends of the link, and the lines that they tell. It stands on
-//! `link_endpoint` for the ends of the link, on `doorbell_irq` for the devices and on `section_map` for the region. The contract of
-//! its `Simulator` promises that each event leads from a moment of the lawful history to the next one (`specs/Simulator`).
+//! The world of a scenario, played event by event: words, devices, the ends of the link, and the
+//! lines of the history. It uses `link_endpoint` for the ends, `doorbell_irq` for the devices and
+//! `section_map` for the region. The contract of its `Simulator` promises that each event leads
+//! from one state of the lawful history to the next one (`specs/Simulator`).
 //!
 //! # Design
 //!
-//! - The world state holds region, devices and lines, and each of its calls says how the three change together (`WorldStateAfter`): the words are what
-//!   was written last, the devices stand after the events that the lines tell, and so many interrupts are still to be lost. What a peer state
-//!   keeps is where its peer stands in the computed history (`PeerStateRefines`).
-//! - What the devices did is told in one place (`WorldState::record_line`): the State that they wrote goes into the peer's word of the table, and the
-//!   line after the others. Every doorbell, State write and reset is handed to the device, also where no interrupt is turned on: one path,
-//!   and the device's rules alone decide.
-//! - Lines may be drained. The definitions look back over all lines, but a simulator keeps words, devices and counts, so it needs none of them.
-//!   `Output` has the lines that were drained, and the version of the record that they are for; every contract holds for any output. A
-//!   simulation in one piece drains none, a run all that it has passed.
-//! - The marks of sessions are put in one place (`Log::push`), through which every line goes. What the rest of the simulator knows is the
-//!   history without them: that the output with the lines kept is what a record of its version tells of that history is one part of
-//!   `IsLogOf`.
-//! - The log counts sessions in 32 bits, and says what is told as long as they suffice (`AreFew`). An event opens one session at most, and
-//!   a scenario has 4,000,000 events at most: so they do, and no call of the simulator needs room for a count.
+//! - The world state holds region, devices and lines, and each of its calls says how the three
+//!   change together (`WorldStateAfter`). The words are those written last. The devices are in the
+//!   state after the events of the lines. The number of interrupts that are still to be lost is
+//!   exact. A peer state refines its peer in the computed history (`PeerStateRefines`).
+//! - What the devices did is recorded in one place (`WorldState::record_line`). The State that they
+//!   wrote goes into the peer's word of the State Table, and the line after the others. Every
+//!   doorbell, State write and reset is handed to the device, even if no interrupt is enabled. So
+//!   there is one path, and the device's rules alone decide.
+//! - Lines may be drained. The definitions look back over all lines, but a simulator has words,
+//!   devices and counts, so it needs no past line. `Output` has the lines that were drained, and
+//!   the version of their record. Every contract holds for any output. A simulation in one piece
+//!   drains no line, and a run drains all that it has passed on.
+//! - The session marks are inserted in one place (`Log::push`), through which every line goes. The
+//!   rest of the simulator knows the history without them. One part of `IsLogOf` says that the
+//!   output and the lines in the log are the lines of that history in a record of its version.
+//! - The log counts sessions in 32 bits, and its contract holds as long as they suffice (`AreFew`).
+//!   An event opens at most one session, and a scenario has at most 4,000,000 events. So they
+//!   suffice, and no call of the simulator has a condition for a count.
 #![tactic(auto)]
 
 mod acts;

@@ -1,4 +1,4 @@
-//! An honest end of the link, the calls that wait for it, and its turns.
+//! An honest end of the link, its queued calls, and its turns.
 ghost use Rattle.std.specs.Prelude.{◌≡◌, ℕ, ◌<◌, List, [], ◌∷◌, ◌++◌, true, false, All, OnOk, MatchOption, reverse, map, None};
 ghost use Rattle.scenario_text.specs.Scenario.{World};
 ghost use Rattle.call_grammar.specs.Steps.{step_of};
@@ -27,7 +27,7 @@ use std::alloc::Global;
 use std::collections::VecDeque;
 use step_lines::{count_notes, line_of};
 
-/// A call that waits.
+/// A queued call.
 #[derive(Debug, Drop)]
 pub enum Waiting {
     /// A Tick.
@@ -40,14 +40,14 @@ pub enum Waiting {
     Offer(Frame),
 }
 
-/// An honest end of the link, and the calls that it is to make.
+/// An honest end of the link, and its queued calls.
 #[derive(Drop)]
 pub struct Link {
-    /// Its engines, and the place in the open call.
+    /// The endpoint, with the place in the open call.
     pub end: Endpoint,
-    /// The calls that wait, the oldest first.
+    /// The queued calls, the oldest first.
     pub waiting: VecDeque<Waiting>,
-    /// What it has to do, if it chooses its calls.
+    /// The plan of an automatic end.
     pub auto: Option<Auto>,
 }
 
@@ -67,7 +67,7 @@ fn begin(end: &mut Endpoint, call: Waiting)
     }
 }
 
-/// Opens the call that an automatic peer chooses, if it chooses one.
+/// Opens the call that an automatic end chooses, if it chooses one.
 fn choose_next(link: &mut Link)
     requires closed { is_busy link.old.end ≡ false }
     requires shut { (config : EndConfig) (peer : Peer) (refines : LinkRefines config peer link.old) → refines.place ≡ places.Closed }
@@ -92,7 +92,8 @@ fn choose_next(link: &mut Link)
     }
 }
 
-/// Opens the call that comes next where none is open: the oldest that waits, else the one that an automatic peer chooses.
+/// Opens the next call, if no call is open: the oldest queued call, or the call that an automatic
+/// end chooses.
 fn open_next(link: &mut Link)
     requires fits { LinkFits link.old }
     requires refines { (config : EndConfig) × (peer : Peer) × LinkRefines config peer link.old }
@@ -109,7 +110,7 @@ fn open_next(link: &mut Link)
     }
 }
 
-/// Tells a note.
+/// Records the line of a note.
 fn record_note(
     alloc: Global,
     me: u32,
@@ -126,7 +127,7 @@ fn record_note(
     world_state.record_mark(line)
 }
 
-/// Tells the notes of a step.
+/// Records the lines of a step's notes.
 fn record_notes(
     alloc: Global,
     me: u32,
@@ -145,7 +146,7 @@ fn record_notes(
     Ok(())
 }
 
-/// The next step of the open call.
+/// Makes the next step of the open call.
 fn carry_on(
     alloc: Global,
     me: u32,
@@ -173,7 +174,7 @@ fn carry_on(
     Ok(())
 }
 
-/// A turn of an honest end of the link.
+/// Takes a turn of an honest end of the link.
 pub fn take_turn(
     alloc: Global,
     me: u32,
@@ -198,7 +199,8 @@ pub fn take_turn(
 }
 
 impl Link {
-    /// A call waits from now on, after the others; but a frame for an automatic peer is put after its frames.
+    /// Queues a call after the others. A frame for an automatic end is appended to its frames
+    /// instead.
     pub fn ask(&mut self, call: Waiting) -> Result<(), NoMemory>
         ensures { OnOk result ((config : EndConfig) (peer : Peer) → LinkRefines config peer self.old → LinkRefines config (with_call peer (call_of call)) self.new) }
     {
@@ -209,14 +211,15 @@ impl Link {
         Ok(())
     }
 
-    /// The peer chooses its calls from now on.
+    /// Makes the end automatic.
     pub fn automate(&mut self, alloc: Global, expect: u64)
         ensures { (config : EndConfig) (peer : Peer) → LinkRefines config peer self.old → LinkRefines config (automated peer expect) self.new }
     {
         self.auto = Some(Auto::new(alloc, expect));
     }
 
-    /// The device was reset: the open call is cut, and those that wait are dropped. An automatic peer begins its round anew.
+    /// Resets the end with its device: the open call ends, and the queued calls are dropped. An
+    /// automatic end begins its round again.
     pub fn reset(&mut self, alloc: Global)
         ensures { (config : EndConfig) (peer : Peer) → LinkRefines config peer self.old → LinkRefines config (was_reset peer) self.new }
     {

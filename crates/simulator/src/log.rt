@@ -1,5 +1,5 @@
-//! The lines that were told and not drained. Whatever is told goes through `push`, which puts the marks of sessions where a record of
-//! version 2 has them.
+//! The lines that were recorded and not drained. Each line goes through `push`, which inserts the
+//! session marks of a record of version 2.
 ghost use Rattle.std.specs.Prelude.{◌≡◌, ℕ, ◌<◌, ◌==◌, ◌&&◌, List, [], ◌∷◌, ◌++◌, true, false, OnOk, slice_index_or};
 ghost use Rattle.scenario_text.specs.Scenario.{World, is_link};
 ghost use Rattle.lawful_history.specs.declared.line.Line.{Line};
@@ -12,23 +12,23 @@ use ivs_base::NoMemory;
 use lawful_history::{Line, Lines};
 use std::alloc::Global;
 
-/// The lines of a record on its way.
+/// The lines of a record while it is made.
 #[derive(Drop)]
 pub struct Log {
     /// The version of the record.
     version: u32,
-    /// Whether peer 0 and whether peer 1 is an honest end of the link.
+    /// Whether peer 0 and peer 1 are honest ends of the link.
     honest: [bool; 2],
-    /// How many sessions peer 0 and how many peer 1 opened.
+    /// The numbers of sessions that peer 0 and peer 1 opened.
     opened: [u32; 2],
-    /// The peer whose write of State 3 is the last line, but for interrupts.
+    /// The peer whose write of State 3 is the last line, apart from interrupts.
     entering: Option<u32>,
-    /// The lines that were told and not drained, in their order.
+    /// The lines that were recorded and not drained, in their order.
     lines: Lines,
 }
 
 impl Log {
-    /// The log without a line.
+    /// Returns the log without a line.
     pub fn new(alloc: Global, version: u32, honest: [bool; 2]) -> Log
         ensures { (world : World) → ((p : ℕ) → p < 2 → slice_index_or honest p false ≡ is_link world p) → IsLogOf world (no_output version) [] result }
     {
@@ -41,7 +41,8 @@ impl Log {
         }
     }
 
-    /// Tells a line, and before it the mark of the session that it enters. NoMemory says that memory ran out.
+    /// Records a line, and before it the mark of the session that it enters. Returns `NoMemory` if
+    /// the allocation fails.
     #[inline(always)]
     pub fn push(&mut self, line: Line) -> Result<(), NoMemory>
         ensures { OnOk result (Records line self.old self.new) }
@@ -51,7 +52,7 @@ impl Log {
         self.lines.push(line)
     }
 
-    /// Makes room for so many lines more. NoMemory says that memory ran out.
+    /// Reserves space for `more` more lines. Returns `NoMemory` if the allocation fails.
     pub fn reserve(&mut self, more: usize) -> Result<(), NoMemory>
         ensures { self.new ≡ self.old }
     {
@@ -66,14 +67,14 @@ impl Log {
         self.lines.clear();
     }
 
-    /// The lines that were told and not drained.
+    /// Returns the lines that were recorded and not drained.
     pub fn items(&self) -> &[Line]
         ensures { result.now ≡ self.now.lines }
     {
         self.lines.items()
     }
 
-    /// The lines that were told and not drained.
+    /// Returns the lines that were recorded and not drained.
     pub fn into_lines(self) -> Lines
         ensures { result ≡ self.lines }
     {
@@ -81,7 +82,7 @@ impl Log {
         lines
     }
 
-    /// Tells the marks that stand before a line.
+    /// Records the marks that come before a line.
     #[inline(always)]
     fn mark_before(&mut self, line: &Line) -> Result<(), NoMemory>
         ensures marks { OnOk result ((world : World) (output : Output) (past : List Line) → IsLogOf world output past self.old → AreFew past → self.new.lines ≡ self.old.lines ++ marks_in world output.version past line.now) }
@@ -94,7 +95,8 @@ impl Log {
         }
     }
 
-    /// Tells the mark of the session that a peer enters, if it is an honest end of the link and enters one.
+    /// Records the mark of the session that a peer enters, if the peer is an honest end of the link
+    /// and enters one.
     fn mark_session(&mut self, peer: u32) -> Result<(), NoMemory>
         ensures marks { OnOk result ((world : World) (output : Output) (past : List Line) → IsLogOf world output past self.old → AreFew past → self.new.lines ≡ self.old.lines ++ marks_in world output.version past (Line.Over peer)) }
         ensures frames { OnOk result (HaveFrames self.old.lines → HaveFrames self.new.lines) }
@@ -115,7 +117,7 @@ impl Log {
         })
     }
 
-    /// Is a mark of a session due before the `over` of a peer?
+    /// Whether a session mark is due before the `over` of a peer.
     fn enters_session(&self, peer: u32) -> bool
         ensures due { (world : World) (output : Output) (past : List Line) → IsLogOf world output past self.now → result ≡ (output.version == 2 && (is_link world peer && enters_run past peer)) }
         ensures two { result ≡ true → peer < 2 }
@@ -126,7 +128,7 @@ impl Log {
             && matches!(self.entering, Some(entering) if entering == peer)
     }
 
-    /// Counts the session that a line opens, and notes who enters RUN by it.
+    /// Counts the session that a line opens, and notes the peer that enters RUN by the line.
     #[inline(always)]
     fn count(&mut self, line: &Line)
         ensures counts { (past : List Line) → Counts past self.old → Counts (line.now ∷ past) self.new }
@@ -141,7 +143,7 @@ impl Log {
         }
     }
 
-    /// A write of State opens a session where it is 2, and enters RUN where it is 3.
+    /// Handles a write of State: value 2 opens a session, and value 3 enters RUN.
     fn count_state(&mut self, peer: u32, value: u32)
         ensures counts { (past : List Line) → Counts past self.old → Counts (State peer value ∷ past) self.new }
         ensures version { self.new.version ≡ self.old.version }

@@ -1,4 +1,4 @@
-//! The peer state of a peer, and its turns.
+//! The state of one peer, and its turns.
 ghost use Rattle.std.specs.Prelude.{◌≡◌, ℕ, ◌+◌, ◌*◌, ◌/◌, ◌%◌, ◌<◌, ◌^◌, List, [], ◌∷◌, ◌++◌, true, OnOk, IfOk, Some, reverse};
 ghost use Rattle.scenario_text.specs.Scenario.{World, IsWorld};
 ghost use Rattle.call_grammar.specs.Calls.{EndConfig};
@@ -21,14 +21,14 @@ use split_ring::Queue;
 use std::alloc::Global;
 use step_lines::Storm;
 
-/// What a peer does when its turn comes.
+/// What a peer does in its turns.
 #[derive(Drop)]
 pub enum PeerState {
-    /// An honest end of the link takes the steps of its calls.
+    /// An honest end of the link makes the steps of its calls.
     Honest(Link),
-    /// A storm writes at random; its generator is here.
+    /// A storm writes at random, by this generator's state.
     Storm(u64),
-    /// Nothing.
+    /// The peer does nothing.
     Idle,
 }
 
@@ -41,7 +41,7 @@ pub struct StormSizes {
     pub queue: Queue,
 }
 
-/// A step of a storm. Returns where its generator is then.
+/// Makes a step of a storm. Returns the generator's state after it.
 fn storm(sizes: &StormSizes, me: u32, x: u64, world_state: &mut WorldState) -> Result<u64, NoMemory>
     requires sizes { (world : World) × AreSizesOf world me sizes.now × (world_state.old.region.shape ≡ world.geometry) }
     requires seated { HasPeer world_state.old me }
@@ -60,7 +60,7 @@ fn storm(sizes: &StormSizes, me: u32, x: u64, world_state: &mut WorldState) -> R
     Ok(storm.at)
 }
 
-/// A turn of the peer of a peer state.
+/// Takes a turn of the peer.
 pub fn turn(
     alloc: Global,
     sizes: &StormSizes,
@@ -86,7 +86,7 @@ pub fn turn(
     }
 }
 
-/// The device of the peer of a peer state is reset.
+/// Resets the peer state with the peer's device.
 pub fn reset(alloc: Global, peer_state: &mut PeerState)
     ensures reset { (config : EndConfig) (peer : Peer) → PeerStateRefines config peer peer_state.old → PeerStateRefines config (was_reset peer) peer_state.new }
     ensures kind { SameKind peer_state.old peer_state.new }

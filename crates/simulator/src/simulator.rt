@@ -1,4 +1,4 @@
-//! The world of a scenario on its way: its world state, and the peer states of its peers.
+//! The world of a scenario while it is played: its world state, and the states of its peers.
 ghost use Rattle.std.specs.Prelude.{◌≡◌, ℕ, ◌+◌, ◌-◌, ◌<◌, ◌^◌, List, [], ◌∷◌, ◌++◌, true, false, IfOk, OnOk, length, slice_get, replicate};
 ghost use Rattle.split_ring.specs.declared.steps.Access.TheVariants as access;
 ghost use Rattle.scenario_text.specs.Scenario.{World, is_link};
@@ -27,7 +27,7 @@ use section_map::Region;
 use std::alloc::Global;
 use std::collections::VecDeque;
 
-/// A world state, and who acts on it.
+/// A world state, and the state of each peer.
 #[derive(Drop)]
 pub struct Simulator {
     alloc: Global,
@@ -35,11 +35,12 @@ pub struct Simulator {
     pub sizes: StormSizes,
     /// The words, the devices and the lines.
     pub world_state: WorldState,
-    /// The peer state of each peer, from peer 0.
+    /// The state of each peer, from peer 0.
     pub peer_states: Vec<PeerState>,
 }
 
-/// The vector of the doorbells of offers and polls: 1 where MSI-X has two vectors or more, else 0 (profile).
+/// Returns the vector of the doorbells of offers and polls: 1 if MSI-X has two vectors or more,
+/// else 0 (profile).
 fn traffic_of(wiring: Wiring) -> u32
     ensures { result ≡ traffic_vector wiring }
 {
@@ -49,7 +50,7 @@ fn traffic_of(wiring: Wiring) -> u32
     }
 }
 
-/// Is the peer an honest end of the link?
+/// Whether the peer is an honest end of the link.
 fn is_end(scenario: &Scenario, peer: u32) -> bool
     requires { peer < scenario.now.geometry.peers }
     ensures { result ≡ is_link (world_of scenario.now) peer }
@@ -57,7 +58,7 @@ fn is_end(scenario: &Scenario, peer: u32) -> bool
     peer < 2 && scenario.honest.items()[peer as usize]
 }
 
-/// The peer state of a peer at the start.
+/// Returns the initial state of a peer.
 fn peer_state_of(alloc: Global, scenario: &Scenario, peer: u32) -> Result<PeerState, NoMemory>
     requires { peer < scenario.now.geometry.peers }
     ensures refines { IfOk result (λ peer_state. PeerStateRefines (config_of (world_of scenario.now) peer) at_start peer_state) }
@@ -80,7 +81,7 @@ fn peer_state_of(alloc: Global, scenario: &Scenario, peer: u32) -> Result<PeerSt
     }))
 }
 
-/// The peer states of all peers at the start.
+/// Returns the initial states of all peers.
 fn peer_states_of(alloc: Global, scenario: &Scenario) -> Result<Vec<PeerState>, NoMemory>
     ensures { IfOk result (λ peer_states. AreAtStart (world_of scenario.now) scenario.now.geometry.peers peer_states.items) }
 {
@@ -91,7 +92,7 @@ fn peer_states_of(alloc: Global, scenario: &Scenario) -> Result<Vec<PeerState>, 
     Ok(peer_states)
 }
 
-/// The log of a scenario at the start, for a record of this version.
+/// Returns the initial log of a scenario, for a record of this version.
 fn log_of(alloc: Global, scenario: &Scenario, version: u32) -> Log
     ensures { IsLogOf (world_of scenario.now) (no_output version) [] result }
 {
@@ -99,7 +100,10 @@ fn log_of(alloc: Global, scenario: &Scenario, version: u32) -> Log
 }
 
 impl Simulator {
-    /// The world in which nothing has happened; its lines are for a record of this version, 1 or 2.
+    /// Returns the initial simulator. Its lines are for a record of `version`, 1 or 2.
+    // claim: The lines are those of a record of the simulator's version. In version 2 alone, the
+    //    mark of a session stands before the `over` of a step by which an honest end enters RUN,
+    //    with the numbers of sessions opened.
     pub fn new(alloc: Global, scenario: &Scenario, version: u32) -> Result<Simulator, NoMemory>
         requires { is_version version ≡ true }
         ensures { IfOk result (λ simulator. RunsTo (world_of scenario.now) (no_output version) [] simulator) }
@@ -122,7 +126,7 @@ impl Simulator {
         })
     }
 
-    /// Tells a peer to make a call.
+    /// Queues a call of a peer.
     fn ask(&mut self, peer: u32, call: Waiting) -> Result<(), NoMemory>
         requires { IsLinked self.old.peer_states.items peer }
         ensures { OnOk result (Happens (CallQueued peer (call_of call)) self.old self.new) }
@@ -136,7 +140,7 @@ impl Simulator {
         }
     }
 
-    /// Tells a peer to choose its calls from now on.
+    /// Makes a peer an automatic end.
     fn automate(&mut self, peer: u32, expect: u64)
         requires { IsLinked self.old.peer_states.items peer }
         ensures { Happens (AutoStarted peer expect) self.old self.new }
@@ -147,7 +151,7 @@ impl Simulator {
         }
     }
 
-    /// Tells a hostile peer to write at random from now on.
+    /// Starts a storm at a hostile peer.
     fn storm(&mut self, peer: u32, seed: u64)
         requires { peer < length self.old.peer_states.items }
         ensures { (world : World) (output : Output) (events : List Event) → IsPermittedEvent world (StormStarted peer seed) → is_link world peer ≡ false → RunsTo world output events self.old → RunsTo world output (events ++ StormStarted peer seed ∷ []) self.new }
@@ -155,7 +159,10 @@ impl Simulator {
         self.peer_states[peer as usize] = PeerState::Storm(seed);
     }
 
-    /// One turn of a peer.
+    /// Takes one turn of a peer.
+    // claim: A turn of an honest end is the next step of its open call, with the marks of the step.
+    //    The oldest call that waits is opened next; if none waits, the automatic peer chooses. A
+    //    turn of a storm is what its three draws say.
     pub fn turn(&mut self, peer: u32) -> Result<(), NoMemory>
         requires { IsRunning self.old peer }
         ensures { OnOk result (Happens (TurnTaken peer) self.old self.new) }
@@ -172,7 +179,7 @@ impl Simulator {
         Ok(())
     }
 
-    /// So many turns of a peer.
+    /// Takes `steps` turns of a peer.
     fn turns(&mut self, peer: u32, steps: u32) -> Result<(), NoMemory>
         requires { IsRunning self.old peer }
         ensures { OnOk result ((world : World) (output : Output) (events : List Event) → IsPermittedEvent world (TurnTaken peer) → RunsTo world output events self.old → RunsTo world output (events ++ replicate steps (TurnTaken peer)) self.new) }
@@ -183,7 +190,7 @@ impl Simulator {
         Ok(())
     }
 
-    /// The device of a peer is reset: its open call is cut, and those that wait are dropped.
+    /// Resets the device of a peer: its open call ends, and its queued calls are dropped.
     fn reset(&mut self, peer: u32) -> Result<(), NoMemory>
         requires { IsRunning self.old peer }
         ensures { OnOk result (Happens (DeviceReset peer) self.old self.new) }
@@ -193,7 +200,11 @@ impl Simulator {
         Ok(())
     }
 
-    /// What one act asks for.
+    /// Plays one act.
+    // claim with Simulator::poke, Simulator::peek, Simulator::set, Simulator::ring,
+    //    Simulator::read_config, Simulator::write_config, Simulator::read_register,
+    //    Simulator::read_msix, Simulator::write_msix, Simulator::lose, Simulator::repeat: An act
+    //    makes exactly its events, and each event what the rules say of it.
     pub fn act(&mut self, act: &Act) -> Result<(), NoMemory>
         requires { (world : World) × (output : Output) × (events : List Event) × RunsTo world output events self.old × IsAct world act.now × ((p : ℕ) → (moment_of world events).losses p < 2 ^ 64 - 1) }
         ensures { OnOk result (PlaysAct act.now self.old self.new) }
@@ -255,21 +266,23 @@ impl Simulator {
         }
     }
 
-    /// Makes room for so many lines more. NoMemory says that memory ran out.
+    /// Reserves space for `more` more lines. Returns `NoMemory` if the allocation fails.
     pub fn reserve(&mut self, more: usize) -> Result<(), NoMemory>
         ensures { self.new ≡ self.old }
     {
         self.world_state.log.reserve(more)
     }
 
-    /// The lines that were told and not drained, in their order.
+    /// Returns the lines that were recorded and not drained, in their order.
     pub fn lines(&self) -> &[Line]
         ensures { result.now ≡ kept_lines self.now }
     {
         self.world_state.log.items()
     }
 
-    /// Drains the lines that were told.
+    /// Drains the lines.
+    // claim on, lines with Simulator::lines, Simulator::into_lines, Simulator::reserve: Draining
+    //    lines from the simulator changes no line that comes after them.
     pub fn drain(&mut self)
         ensures on { (world : World) (output : Output) (events : List Event) → RunsTo world output events self.old → RunsTo world (given output (kept_lines self.old)) events self.new }
         ensures lines { kept_lines self.new ≡ [] }
@@ -277,7 +290,7 @@ impl Simulator {
         self.world_state.log.clear();
     }
 
-    /// The lines that were told and not drained.
+    /// Returns the lines that were recorded and not drained.
     pub fn into_lines(self) -> Lines
         ensures { result ≡ kept_lines self }
     {

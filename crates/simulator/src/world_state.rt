@@ -1,5 +1,5 @@
-//! The world state of a world: its region, its devices and the lines so far. Whatever a peer does there is told by its line, and by those of the
-//! interrupts that it brings.
+//! The state of a world: its region, its devices and the lines so far. Every access of a peer adds
+//! one line, followed by the interrupts that it causes.
 ghost use Rattle.std.specs.Prelude.{◌≡◌, ℕ, ◌+◌, ◌-◌, ◌<◌, ◌^◌, List, [], ◌∷◌, ◌++◌, true, IfOk, OnOk, reverse, map, slice_index};
 ghost use Rattle.pci_space.specs.Fields.{is_access};
 ghost use Rattle.section_map.specs.Geometry.{word_count};
@@ -22,21 +22,21 @@ use lawful_history::Line;
 use section_map::Region;
 use split_ring::steps::Access;
 
-/// The region, the devices, the interrupts that are still to be lost, and the history so far.
+/// The region, the devices, the interrupts that will be lost, and the history so far.
 #[derive(Drop)]
 pub struct WorldState {
     /// The words of the region.
     pub region: Region,
     /// The devices of all peers.
     pub device: Device,
-    /// How many interrupts are still to be lost, for each of 8 peers.
+    /// The number of interrupts that will be lost, for each of 8 peers.
     pub unspent: [u64; 8],
     /// The lines.
     pub log: Log,
 }
 
 impl WorldState {
-    /// Tells a line that changes no word and no device.
+    /// Records a line that changes no word and no device.
     #[inline(always)]
     pub fn record_mark(&mut self, line: Line) -> Result<(), NoMemory>
         requires { IsMark line }
@@ -46,7 +46,7 @@ impl WorldState {
         self.log.push(line)
     }
 
-    /// One interrupt comes to its peer, or is lost on its way.
+    /// Delivers one interrupt to its peer, or loses it.
     fn arrive_at(&mut self, delivery: &Delivery) -> Result<(), NoMemory>
         ensures after { (world : World) (output : Output) (past : List Line) (losses : ℕ → ℕ) → WorldStateAfter world output past losses self.old → OnOk result (WorldStateAfter world output (arrival past losses delivery.now ∷ past) losses self.new) }
         ensures seated { (me : ℕ) → HasPeer self.old me → HasPeer self.new me }
@@ -60,7 +60,7 @@ impl WorldState {
         }
     }
 
-    /// Interrupts come, in their order.
+    /// Delivers interrupts, in their order.
     fn arrive(&mut self, deliveries: &[Delivery]) -> Result<(), NoMemory>
         ensures after { (world : World) (output : Output) (past : List Line) (losses : ℕ → ℕ) → WorldStateAfter world output past losses self.old → OnOk result (WorldStateAfter world output (reverse (arrived past losses deliveries.now) ++ past) losses self.new) }
         ensures seated { (me : ℕ) → HasPeer self.old me → HasPeer self.new me }
@@ -71,7 +71,7 @@ impl WorldState {
         Ok(())
     }
 
-    /// A peer reads a word of the region.
+    /// Reads a word of the region for a peer.
     #[inline(always)]
     pub fn read(&mut self, me: u32, word: u32) -> Result<u32, NoMemory>
         requires seated { HasPeer self.old me }
@@ -92,7 +92,9 @@ impl WorldState {
         Ok(value)
     }
 
-    /// A peer writes a word that it may write.
+    /// Writes a word that the peer may write.
+    // claim each after, seated: A word, a device and the lines change together, and each line comes
+    //    with the interrupts that it causes.
     #[inline(always)]
     pub fn write(&mut self, me: u32, word: u32, value: u32) -> Result<(), NoMemory>
         requires seated { HasPeer self.old me }
@@ -110,7 +112,7 @@ impl WorldState {
         }
     }
 
-    /// A peer writes a word if it may, and is denied it else.
+    /// Writes a word if the peer may write it, and denies the write otherwise.
     pub fn poke(&mut self, me: u32, word: u32, value: u32) -> Result<(), NoMemory>
         requires { HasPeer self.old me }
         ensures after { (world : World) (output : Output) (past : List Line) (losses : ℕ → ℕ) → WorldStateAfter world output past losses self.old →
@@ -127,8 +129,8 @@ impl WorldState {
         }
     }
 
-    /// Tells a line whose act the devices answered with this effect: the State that they wrote goes into the peer's word of the table. Returns
-    /// whom it interrupts.
+    /// Records the line of an act with the devices' effect: the State that they wrote goes into the
+    /// peer's word of the State Table. Returns the interrupts that the line causes.
     #[inline(always)]
     fn record_line(
         &mut self,
@@ -150,7 +152,7 @@ impl WorldState {
         Ok(effect.deliveries)
     }
 
-    /// A peer writes its State.
+    /// Writes a peer's State.
     pub fn set_state(&mut self, me: u32, value: u32) -> Result<(), NoMemory>
         requires { HasPeer self.old me }
         ensures after { (world : World) (output : Output) (past : List Line) (losses : ℕ → ℕ) → WorldStateAfter world output past losses self.old →
@@ -162,7 +164,7 @@ impl WorldState {
         self.arrive(deliveries.as_slice())
     }
 
-    /// A peer writes its Doorbell.
+    /// Writes a peer's Doorbell.
     pub fn ring(&mut self, me: u32, target: u32, vector: u32) -> Result<(), NoMemory>
         requires seated { HasPeer self.old me }
         requires target { target < 2 ^ 16 }
@@ -182,7 +184,7 @@ impl WorldState {
         self.arrive(deliveries.as_slice())
     }
 
-    /// The device of a peer is reset.
+    /// Resets the device of a peer.
     pub fn reset(&mut self, me: u32) -> Result<(), NoMemory>
         requires { HasPeer self.old me }
         ensures after { (world : World) (output : Output) (past : List Line) (losses : ℕ → ℕ) → WorldStateAfter world output past losses self.old →
@@ -194,7 +196,8 @@ impl WorldState {
         self.arrive(deliveries.as_slice())
     }
 
-    /// A peer makes an access, which is told with the interrupts that it brings. Returns what a read gave, else 0.
+    /// Performs an access of a peer and records it with the interrupts that it causes. Returns the
+    /// value read, or 0.
     #[inline(always)]
     pub fn perform(&mut self, me: u32, access: Access) -> Result<u32, NoMemory>
         requires seated { HasPeer self.old me }

@@ -1,4 +1,4 @@
--- How large the numbers of a queue are.
+-- The bounds of a queue's numbers.
 use Rattle.std.proofs.Common.{ℕ, ◌*◌, ◌/◌, ◌<◌, ◌≤◌, min, Bool, true, false, cond, arith}
 use Rattle.std.proofs.Math.Nat.{mul-le-mul_left, mul-div-le, le-div_iff_mul-le}
 use Rattle.split_ring.specs.Layout.{Sizes, size_of, data_area_len, slot_of, slots_of, limit_of, is_byte_ring, IsQueue, HasBounds}
@@ -14,7 +14,7 @@ slots_fit size room slot =
 some_slot : (room slot : ℕ) → 0 < slot → slot ≤ room → 0 < room / slot
 some_slot room slot some fits = let h : 1 ≤ room / slot = (le-div_iff_mul-le {k = slot} {x = 1} {y = room} some).1 (omega arith) in omega arith
 
--- what holds of the number of descriptors and of that of slots holds of the limit
+-- A property of the number of descriptors and of the number of slots is a property of the limit.
 of_limit : (Holds : ℕ → Type 0) (b : Bool) (size slots : ℕ) → Holds size → Holds slots → Holds (cond b size slots)
 of_limit Holds true size slots h g = h
 of_limit Holds false size slots h g = g

@@ -1,4 +1,4 @@
--- Where the frames of a session stand.
+-- The places of a session's frames.
 use Rattle.std.proofs.Common.{◌≡◌, ◌≢◌, ℕ, zero, suc, ◌+◌, ◌-◌, ◌*◌, ◌/◌, ◌%◌, ◌<◌, ◌≤◌, inl, inr, Bool, true, false, cond, refl, sym, ap, ◌∙◌, subst, arith}
 use mathlib.Core.Logic.{dite}
 use native.Mathlib.Decide.{ℕ_discrete, dec_lt}
@@ -12,7 +12,7 @@ use Rattle.split_ring.specs.Frames.{footprint_of, start_after, ring_start, start
 use Rattle.split_ring.proofs.Bounds.{bounds}
 use Rattle.split_ring.proofs.Places.{places_lem}
 
--- the one split on the version: what holds with a ring of bytes and with slots
+-- The only case split on the version: a property in a byte ring and with slots.
 by_ring : {B : Type 0} (Holds : B → Type 0) (b : Bool) (ring slots : B) → (b ≡ true → Holds ring) → (b ≡ false → Holds slots) → Holds (cond b ring slots)
 by_ring Holds true ring slots h g = h refl
 by_ring Holds false ring slots h g = g refl
@@ -23,13 +23,13 @@ fits_test a b h = grind (arith, nat_tests)
 over_test : (a b : ℕ) → b < a → nat_le a b ≡ false
 over_test a b h = grind (arith, nat_tests)
 
--- the two ways that bytes start after others
+-- The two cases of the start of bytes after others.
 pub after_is : (Holds : ℕ → Type 0) (room ended bytes : ℕ) → (ended + bytes ≤ room → Holds ended) → (room < ended + bytes → Holds 0) → Holds (start_after room ended bytes)
 after_is Holds room ended bytes fits over = dite (dec_lt room (ended + bytes))
     (λ lt. subst (λ b. Holds (cond b ended 0)) (sym (over_test (ended + bytes) room lt)) (over lt))
     (λ ge. let le : ended + bytes ≤ room = omega arith in subst (λ b. Holds (cond b ended 0)) (sym (fits_test (ended + bytes) room le)) (fits le))
 
--- the bytes of a frame of the ring end inside the area
+-- The bytes of a frame in a byte ring end inside the area.
 pub ring_inside : (room : ℕ) (length_of : ℕ → ℕ) (k : ℕ) → up64 (length_of k) ≤ room → ring_start room length_of k + up64 (length_of k) ≤ room
 unfolding ring_start
 ring_inside room length_of zero fits = omega arith
@@ -52,7 +52,7 @@ ring_told room length_of others (suc k) same =
     (ap (λ l. start_after room (ring_start room others k + up64 l) (up64 (length_of (suc k)))) (same k (omega arith)) ∙
     ap (λ l. start_after room (ring_start room others k + up64 (others k)) (up64 l)) (same (suc k) (omega arith)))
 
--- the slot of a frame
+-- The slot of a frame.
 slot_below : (q : Sizes) → IsQueue q → is_byte_ring q ≡ false → (k : ℕ) → k % limit_of q < slots_of q
 unfolding limit_of
 slot_below q is none k =
@@ -139,7 +139,7 @@ pub are_apart_of : (a m b n : ℕ) → AreApart a m b n → are_apart a m b n �
 are_apart_of a m b n (inl h) = grind (arith, nat_tests)
 are_apart_of a m b n (inr h) = grind (arith, nat_tests)
 
--- the test goes over each of them
+-- The test covers each of the frames.
 pub each_apart : (q : Sizes) (length_of : ℕ → ℕ) (number from count : ℕ) → is_apart_from q length_of number from count ≡ true → (k : ℕ) → from ≤ k → k < from + count →
     AreApart (start_of q length_of k) (footprint_of q (length_of k)) (start_of q length_of number) (footprint_of q (length_of number))
 each_apart q length_of number from zero h k least most = absurd (omega arith)
@@ -156,7 +156,7 @@ apart_each q length_of number from (suc count) h =
     ap (λ b. b && is_apart_from q length_of number (from + 1) count) (are_apart_of _ _ _ _ (h from (omega arith) (omega arith))) ∙
     apart_each q length_of number (from + 1) count (λ k least most. h k (omega arith) (omega arith))
 
--- two numbers that are near each other have other slots
+-- Two different numbers that are less than c apart have different slots.
 pub mod_apart : (c k n : ℕ) → 0 < c → k < n → n < k + c → k % c ≢ n % c
 mod_apart c k n some lt near same =
     let whole : k / c * c + k % c ≡ k = div-add-mod' k c in
@@ -165,7 +165,7 @@ mod_apart c k n some lt near same =
     (λ less. let up : c * (k / c + 1) ≤ c * (n / c) = mul-le-mul_left c (omega arith) in omega arith)
     (λ more. let down : c * (n / c) ≤ c * (k / c) = mul-le-mul_left c (omega arith) in omega arith)
 
--- slots of other numbers are apart
+-- Slots with different numbers share no byte.
 slots_apart : (payload slot i j : ℕ) → i ≢ j → AreApart (payload + slot * i) slot (payload + slot * j) slot
 slots_apart payload slot i j ne = dite (dec_lt i j)
     (λ lt. let h : slot * (i + 1) ≤ slot * j = mul-le-mul_left slot (omega arith) in inl (omega arith))

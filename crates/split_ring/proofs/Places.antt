@@ -1,4 +1,4 @@
--- The places of a queue's fields share no byte, and lie inside the section.
+-- The fields of a queue share no byte, and are inside the section.
 use Rattle.std.proofs.Common.{◌≡◌, ℕ, ◌+◌, ◌-◌, ◌*◌, ◌%◌, ◌<◌, ◌≤◌, refl, ap, arith}
 use mathlib.Core.Logic.{dite}
 use native.Mathlib.Decide.{dec_lt}
@@ -6,7 +6,7 @@ use Rattle.std.proofs.Math.Nat.{mul-le-mul_left}
 use Rattle.split_ring.specs.Layout.{Sizes, Field, DescAddress, DescLength, DescFlags, DescNext, AvailFlags, AvailIndex, AvailEntry, UsedEvent, UsedFlags, UsedIndex, UsedId, UsedLength, AvailEvent, FrameSlot, slots_of, slot_of, data_area_start, offset_of, width_of, alignment_of, IsField, HasByte, HasBounds, QueuesAreLaidOut}
 use Rattle.split_ring.proofs.Bounds.{bounds}
 
--- slots of one size share no byte
+-- Slots of one size share no byte.
 same_slot : (slot i j b : ℕ) → slot * i ≤ b → b < slot * i + slot → slot * j ≤ b → b < slot * j + slot → i ≡ j
 same_slot slot i j b il ih jl jh =
     dite (dec_lt i j) (λ lt. let h : slot * (i + 1) ≤ slot * j = mul-le-mul_left slot (omega arith) in absurd (omega arith))

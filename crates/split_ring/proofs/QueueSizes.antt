@@ -1,4 +1,4 @@
--- The queue's size is the greatest power of two that fits.
+-- The queue size is the greatest power of two that fits.
 use Rattle.std.proofs.Common.{◌≡◌, ℕ, ◌*◌, ◌^◌, ◌<◌, ◌≤◌, List, [], ◌∷◌, Bool, true, false, cond, Option, Some, None, refl, sym, subst, arith, ◌⊎◌, inl, inr, MatchOption, lit≤, ap, ◌%◌}
 use Rattle.std.specs.Prelude.{find, nat_lt}
 use Rattle.std.proofs.lemmas.Bool.Decides.{nat_tests}
@@ -7,17 +7,17 @@ use mathlib.Core.Logic.{dite}
 use native.Mathlib.Decide.{ℕ_discrete}
 use Rattle.split_ring.specs.Layout.{rings_len, queue_sizes, queue_size, Fits, IsQueueSize, QueueSizeIsGreatest}
 
--- m is one of the list
+-- m is in the list.
 abbrev Among : ℕ → List ℕ → Type 0
 Among m [] = ⊥
 Among m (x ∷ xs) = (m ≡ x) ⊎ Among m xs
 
--- none is more than one before it
+-- The list descends: no element is greater than an earlier one.
 abbrev Descends : List ℕ → Type 0
 Descends [] = Unit {0}
 Descends (x ∷ xs) = ((m : ℕ) → Among m xs → m ≤ x) × Descends xs
 
--- n is the greatest of the list that passes
+-- n is the greatest element of the list that passes.
 record IsGreatest (p : ℕ → Bool) (xs : List ℕ) (n : ℕ) : Type 0 where
   among : Among n xs
   passes : p n ≡ true
@@ -45,7 +45,7 @@ at_one p x xs true is d h = record {
 }
 at_one p x xs false is d h = after_one p x xs (find p xs) is h
 
--- the first that passes is the greatest, where the list descends
+-- The first element that passes is the greatest one if the list descends.
 find_greatest : (p : ℕ → Bool) (xs : List ℕ) → Descends xs → MatchOption (find p xs) (NonePasses p xs) (IsGreatest p xs)
 find_greatest p [] d = λ m a passes. a
 find_greatest p (x ∷ xs) d = at_one p x xs (p x) refl d (find_greatest p xs d.1)
@@ -129,7 +129,7 @@ size_turns m a = elim a [
   ]
 ]
 
--- a queue size that was found fits, and is one of the powers of two
+-- A queue size that was found fits, and is one of the powers of two.
 pub record IsFound (out n : ℕ) : Type 0 where
   pub fits : Fits out n
   pub least : 64 ≤ n

@@ -1,4 +1,4 @@
--- What the fields of a queue are.
+-- The meaning of the fields of a queue.
 use Rattle.std.specs.Prelude.{◌≡◌}
 use Rattle.split_ring.specs.Layout.{HasBounds, IsQueue, Sizes, size_of, used_ring_offset, data_area_start, slot_of, limit_of}
 use Rattle.split_ring.specs.declared.layout.Queue.TheInside.{Inside}
@@ -6,7 +6,7 @@ use Rattle.split_ring.specs.declared.layout.Queue.TheInside.{Inside}
 abbrev pub sizes_of : Inside → Sizes
 sizes_of a = record { version = a.version; out = a.out; mtu = a.mtu }
 
--- each field is the number of the layout that it is named after
+-- Each field is the number of the layout that it is named after.
 pub record IsWellFormed (a : Inside) : Type 0 where
   pub is_queue : IsQueue (sizes_of a)
   pub bounds : HasBounds (sizes_of a)

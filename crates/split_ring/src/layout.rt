@@ -1,4 +1,4 @@
-//! Where the fields of an output section stand.
+//! The layout of an output section: the offset of each field.
 ghost use Rattle.std.specs.Prelude.{◌≡◌, ◌+◌, ◌*◌, ◌/◌, ◌%◌, ◌<◌, ◌≤◌, ◌^◌, nat_le, min, cond, IfOk, IfErr};
 ghost use Rattle.split_ring.specs.Layout.{used_ring_offset, rings_len, queue_size, Sizes, IsVersion, has_events, is_byte_ring, size_of, data_area_start, data_area_len, slot_of, limit_of, IsQueue, HasBounds, word_offset, DescAddress, AvailIndex, AvailEntry, UsedEvent, UsedIndex, UsedId, AvailEvent, QueueSizeIsGreatest, QueuesAreLaidOut};
 ghost use Rattle.split_ring.specs.Faults.{IsQueueFault};
@@ -8,13 +8,15 @@ use crate::QueueFault;
 use ivs_base::up64;
 use std::marker::Model;
 
-/// The queue sizes, the greatest first.
+/// The queue sizes, in descending order.
 const SIZES: [u32; 7] = [4096, 2048, 1024, 512, 256, 128, 64];
 
-/// The queue of a link: for its version, the bytes of an output section and the MTU, its size and the place of each field.
+/// The queue of a link, from the link's version, the length in bytes of an output section and the
+/// MTU: the queue size and the offset of each field.
 ///
-/// A contract sees these three numbers, and each other number is a function of them (`specs/Layout`). Both sections of a link
-/// have this layout. Words are numbered from the start of the section.
+/// A contract sees these three numbers, and every other number is a function of them
+/// (`specs/Layout`). Both sections of a link have this layout. Words are numbered from the start of
+/// the section.
 #[derive(Clone, Copy, Debug, PartialEq, Eq)]
 pub struct Queue {
     version: u32,
@@ -42,10 +44,15 @@ impl Model for Queue {
 }
 
 impl Queue {
-    /// The queue of a link of version 1, in sections of `out` bytes, for frames of at most `mtu` bytes and 18 more.
+    /// Returns the queue of a link of version 1, in sections of `out` bytes, for frames of at most
+    /// `mtu` + 18 bytes.
     ///
-    /// The first test that fails is the error: BadMtu where the MTU isn't 256 to 65,535, TooSmall where no queue
-    /// size fits the section, NoSlot where the data area is shorter than a slot.
+    /// The error is the first test that fails. It is `BadMtu` if the MTU isn't 256 to 65,535,
+    /// `TooSmall` if no queue size fits the section, `NoSlot` if the data area is shorter than a
+    /// slot.
+    // claim queue, fault with Queue::of_version.queue, Queue::of_version.fault: A queue is made
+    //    exactly if the MTU, a queue size and a slot fit, tested in this order; otherwise the first
+    //    fault is returned with its numbers. The queue has the version asked for.
     pub fn of(out: u64, mtu: u32) -> Result<Queue, QueueFault>
         requires { out ≤ 2 ^ 24 }
         ensures queue { IfOk result (λ q. (q ≡ record { version = 1; out = out; mtu = mtu }) × IsQueue q) }
@@ -54,8 +61,9 @@ impl Queue {
         Queue::of_version(1, out, mtu)
     }
 
-    /// The same for a link of this version. From version 2 on a peer rings where the other's event index asks for it; in version 3 the
-    /// data area is a ring of bytes in place of slots.
+    /// Returns the queue of a link of version `version`, with the errors of `of`. From version 2 on
+    /// a peer rings only if the other's event index wants a doorbell. In version 3 the data area is
+    /// a byte ring instead of slots.
     pub fn of_version(version: u32, out: u64, mtu: u32) -> Result<Queue, QueueFault>
         requires known { IsVersion version }
         requires section { out ≤ 2 ^ 24 }
@@ -90,7 +98,7 @@ impl Queue {
         })
     }
 
-    /// The version of the link.
+    /// Returns the version of the link.
     pub fn version(&self) -> u32
         ensures value { result ≡ self.now.version }
         ensures queue { IsQueue self.now }
@@ -98,21 +106,29 @@ impl Queue {
         self.version
     }
 
-    /// Whether a peer tells from which frame on it wants a doorbell, and rings where the other asks for it.
+    /// Whether each peer publishes event indices, and rings only if the other's event index wants a
+    /// doorbell.
     pub fn has_events(&self) -> bool
         ensures { result ≡ has_events self.now }
     {
         self.version >= 2
     }
 
-    /// Whether the data area is a ring of bytes, in which a frame takes its length up to the next multiple of 64; else it is cut into slots.
+    /// Whether the data area is a byte ring, in which a frame occupies its length rounded up to a
+    /// multiple of 64. Otherwise the data area is cut into slots.
     pub fn is_byte_ring(&self) -> bool
         ensures { result ≡ is_byte_ring self.now }
     {
         self.version >= 3
     }
 
-    /// The number of descriptors, of available entries and of used elements.
+    /// Returns the queue size: the number of descriptors, of available entries and of used
+    /// elements.
+    // claim value with Queue::slot.value, Queue::limit.value, Queue::mtu.value, Queue::out.value,
+    //    Queue::payload.value, Queue::room.value, Queue::version.value, Queue::has_events,
+    //    Queue::is_byte_ring: Each size and property of a queue is that of the layout.
+    // claim each queue, bounds: Every queue that a call sees fits its section, within the bounds of
+    //    the layout.
     pub fn size(&self) -> u32
         ensures value { result ≡ size_of self.now }
         ensures queue { IsQueue self.now }
@@ -121,7 +137,7 @@ impl Queue {
         self.size
     }
 
-    /// The bytes of a slot, which holds one frame. In a ring of bytes there are none.
+    /// Returns the length in bytes of a slot, which holds one frame. A byte ring has no slots.
     pub fn slot(&self) -> u32
         ensures value { result ≡ slot_of self.now }
         ensures bounds { HasBounds self.now }
@@ -129,7 +145,8 @@ impl Queue {
         self.slot
     }
 
-    /// How many frames may be in flight: in a ring of bytes as many as have a descriptor, if the area has room for them.
+    /// Returns the limit of frames in flight. In a byte ring it is the queue size, and each frame
+    /// also needs free bytes in the data area.
     pub fn limit(&self) -> u32
         ensures value { result ≡ limit_of self.now }
         ensures bounds { HasBounds self.now }
@@ -137,7 +154,7 @@ impl Queue {
         self.limit
     }
 
-    /// The MTU. A frame has at most 18 bytes more.
+    /// Returns the MTU. A frame has at most 18 bytes more.
     pub fn mtu(&self) -> u32
         ensures value { result ≡ self.now.mtu }
         ensures queue { IsQueue self.now }
@@ -145,7 +162,7 @@ impl Queue {
         self.mtu
     }
 
-    /// The bytes of a section.
+    /// Returns the length in bytes of a section.
     pub fn out(&self) -> u32
         ensures value { result ≡ self.now.out }
         ensures queue { IsQueue self.now }
@@ -153,7 +170,7 @@ impl Queue {
         self.out
     }
 
-    /// The byte at which the data area begins.
+    /// Returns the offset in bytes at which the data area begins.
     pub fn payload(&self) -> u32
         ensures value { result ≡ data_area_start self.now }
         ensures bounds { HasBounds self.now }
@@ -161,7 +178,7 @@ impl Queue {
         self.payload
     }
 
-    /// The bytes of the data area.
+    /// Returns the length in bytes of the data area.
     pub fn room(&self) -> u32
         ensures value { result ≡ data_area_len self.now }
         ensures queue { IsQueue self.now }
@@ -169,7 +186,14 @@ impl Queue {
         self.out - self.payload
     }
 
-    /// The first of the four words of descriptor `i`: the address's two, the length, then flags and next.
+    /// Returns the first of the four words of descriptor `i`: two for the address, one for the
+    /// length, one for flags and next.
+    // claim place, inside with Queue::avail_word.place, Queue::avail_word.inside,
+    //    Queue::entry_word.place, Queue::entry_word.inside, Queue::used_word.place,
+    //    Queue::used_word.inside, Queue::used_id.place, Queue::used_id.inside,
+    //    Queue::used_event_word.place, Queue::used_event_word.inside,
+    //    Queue::avail_event_word.place, Queue::avail_event_word.inside: Each field's word is that
+    //    of the layout, and lies inside the section.
     pub fn descriptor(&self, i: u32) -> u32
         requires { i < size_of self.now }
         ensures place { result ≡ word_offset self.now (DescAddress i) }
@@ -179,7 +203,7 @@ impl Queue {
         4 * i
     }
 
-    /// The word with the flags and the index of the available ring.
+    /// Returns the word that holds the flags and the index of the available ring.
     pub fn avail_word(&self) -> u32
         ensures place { result ≡ word_offset self.now AvailIndex }
         ensures inside { 4 * result + 4 ≤ self.now.out }
@@ -187,7 +211,8 @@ impl Queue {
         4 * self.size
     }
 
-    /// The word with available entry `k`, taken modulo the queue's size: in its low half where that is even.
+    /// Returns the word that holds available entry `k` modulo the queue size: in its low half if
+    /// that number is even, else in its high half.
     pub fn entry_word(&self, k: u32) -> u32
         ensures place { result ≡ word_offset self.now (AvailEntry (k % size_of self.now)) }
         ensures inside { 4 * result + 4 ≤ self.now.out }
@@ -195,7 +220,7 @@ impl Queue {
         4 * self.size + 1 + k % self.size / 2
     }
 
-    /// The word with the flags and the index of the used ring.
+    /// Returns the word that holds the flags and the index of the used ring.
     pub fn used_word(&self) -> u32
         ensures place { result ≡ word_offset self.now UsedIndex }
         ensures inside { 4 * result + 4 ≤ self.now.out }
@@ -203,7 +228,8 @@ impl Queue {
         self.used / 4
     }
 
-    /// The word with the id of used element `k`, taken modulo the queue's size. Its length is the next word.
+    /// Returns the word that holds the id of used element `k` modulo the queue size. The element's
+    /// length is the next word.
     pub fn used_id(&self, k: u32) -> u32
         ensures place { result ≡ word_offset self.now (UsedId (k % size_of self.now)) }
         ensures inside { 4 * result + 8 ≤ self.now.out }
@@ -211,7 +237,7 @@ impl Queue {
         self.used / 4 + 1 + 2 * (k % self.size)
     }
 
-    /// The word with used_event, in its low half.
+    /// Returns the word that holds used_event, in its low half.
     pub fn used_event_word(&self) -> u32
         ensures place { result ≡ word_offset self.now UsedEvent }
         ensures inside { 4 * result + 4 ≤ self.now.out }
@@ -219,7 +245,7 @@ impl Queue {
         4 * self.size + 1 + self.size / 2
     }
 
-    /// The word with avail_event, in its low half.
+    /// Returns the word that holds avail_event, in its low half.
     pub fn avail_event_word(&self) -> u32
         ensures place { result ≡ word_offset self.now AvailEvent }
         ensures inside { 4 * result + 4 ≤ self.now.out }
@@ -228,14 +254,15 @@ impl Queue {
     }
 }
 
-/// How many frames may be in flight in a link of this version, with so many descriptors and slots.
+/// Returns the limit of frames in flight of a link of this version, with `size` descriptors and
+/// `slots` slots.
 fn limit(version: u32, size: u32, slots: u32) -> u32
     ensures { result ≡ cond (nat_le 3 version) size (min size slots) }
 {
     if version >= 3 { size } else { size.min(slots) }
 }
 
-/// The byte at which the used ring of a queue of `size` begins.
+/// Returns the offset in bytes of the used ring of a queue of `size`.
 fn used_place(size: u32) -> u32
     requires { size ≤ 4096 }
     ensures { result ≡ used_ring_offset size }
@@ -243,7 +270,7 @@ fn used_place(size: u32) -> u32
     up64(u64::from(18 * size + 6)) as u32
 }
 
-/// The bytes of the ring part of a queue of `size`.
+/// Returns the length in bytes of the descriptors and rings of a queue of `size`.
 fn ring_part(size: u32) -> u32
     requires { size ≤ 4096 }
     ensures { result ≡ rings_len size }
@@ -251,7 +278,8 @@ fn ring_part(size: u32) -> u32
     up64(u64::from(used_place(size) + 6 + 8 * size)) as u32
 }
 
-/// The greatest queue size whose ring part is less than an eighth of a section of `out` bytes.
+/// Returns the greatest queue size whose descriptors and rings are shorter than an eighth of a
+/// section of `out` bytes.
 #[tactic(auto, unfolding(crate::specs::Layout::queue_size))]
 fn queue_size(out: u64) -> Option<u32>
     requires { out ≤ 2 ^ 24 }
@@ -263,18 +291,26 @@ fn queue_size(out: u64) -> Option<u32>
         .find(|&size| 8 * u64::from(ring_part(size)) < out)
 }
 
-/// Law: the queue's size is the greatest power of two from 64 to 4,096 whose ring part is less than an eighth of
-/// the section.
+/// Law: the queue size is the greatest power of two from 64 to 4,096 whose descriptors and rings
+/// are shorter than an eighth of the section.
+// claim: The queue size is the greatest power of two from 64 to 4,096 with a ring part of less than
+//    an eighth of the section, for every section.
 pub fn queue_size_is_greatest()
     ensures { QueueSizeIsGreatest }
 {}
 
-/// Law: where each frame of a session stands, and what it says of it that it has room.
+/// Law: the place of each frame of a session, and what follows if a frame fits.
+// claim: Each frame of a session starts at a multiple of 4 in the data area, by the lengths of the
+//    frames up to it, and ends inside the section. A frame that fits shares no byte with a frame in
+//    flight, and the number in flight stays below the limit. With slots nothing else is needed; if
+//    none is in flight, every frame fits.
 pub fn frames_are_laid_out()
     ensures { FramesAreLaidOut }
 {}
 
-/// Law: in each queue no byte belongs to two fields, and each field lies inside the section.
+/// Law: in each queue no byte belongs to two fields, and each field is inside the section.
+// claim: No byte of a section belongs to two fields, each field lies inside the section, and words
+//    are cut into these halves alone, for every section size and MTU.
 pub fn queues_are_laid_out()
     ensures { QueuesAreLaidOut }
 {}

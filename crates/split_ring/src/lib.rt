@@ -1,25 +1,30 @@
-//! The split virtqueue of an output section: where each of its fields stands, which values a peer takes from a
-//! foreign field, and the steps that engines make over it. It stands on `ivs_base` for numbers and on `arrayvec`
-//! for the notes of a step. Its contracts promise that a queue's size and each place are those of `specs/Layout`,
-//! and that a check refuses a value exactly where it is outside the field's range in `specs/Ranges`.
+//! The split virtqueue of an output section: the offset of each field, the range of each foreign
+//! field, and the steps that engines make over it. The crate uses `ivs_base` for numbers and
+//! `arrayvec` for the notes of a step. Its contracts promise that `specs/Layout` defines the queue
+//! size and each offset. They promise that a check refuses a value exactly if it is outside the
+//! field's range in `specs/Ranges`.
 //!
 //! # Design
 //!
-//! - The version of the link is one of the sizes of its queue, so that every definition that knows the queue knows it, and no call has it
-//!   as an argument. What depends on it stands in few functions of the layout: `has_events`, `is_byte_ring`, and by these `limit_of`,
-//!   `start_of`, `takes_of` and `has_room`.
-//! - A slot is a field of every layout, also where the data area is a ring of bytes and nobody uses slots: `slots_of` is how many there
-//!   are, `limit_of` how many frames may be in flight. So the law of the layout is one for all versions.
-//! - Where a frame stands is told by the lengths of its session's frames, by their numbers (`specs/Frames`). These are a function of
-//!   numbers, so the definition needs no list, and a frame is placed before it is accepted.
-//! - The size of a queue is defined as the first of the seven sizes, from 4,096 down, that fits. That it is the greatest power of two that
-//!   does is a law.
-//! - The sizes, the limit and the places of frames don't unfold by themselves (`unfoldable`), so goals above stay small. `HasBounds` has
-//!   what callers need of them.
-//! - A `Queue` keeps every number of its layout, and a contract sees the three from which they follow (`specs/Kept`). They give the value
-//!   back, so it can be `Copy` and have `==`.
-//! - `specs/Spelling` has the frame that the words of a foreign section spell at a position. It stands here for other crates; no function
-//!   of this one cites it.
+//! - The version of the link is one of the queue's sizes. Every definition that has the queue has
+//!   the version, and no call has it as an argument. Only a few functions of the layout depend on
+//!   it: `has_events`, `is_byte_ring`, and through these `limit_of`, `start_of`, `footprint_of` and
+//!   `has_room`.
+//! - A slot is a field of every layout, even if the data area is a byte ring without slots.
+//!   `slots_of` is the number of slots, `limit_of` the limit of frames in flight. So one law of the
+//!   layout covers all versions.
+//! - The place of a frame is a function of the lengths of its session's frames, by their numbers
+//!   (`specs/Frames`). So the definition needs no list, and a frame is placed before it is
+//!   accepted.
+//! - The queue size is defined as the first of the seven sizes, from 4,096 down, that fits. A law
+//!   says that it is the greatest power of two that fits.
+//! - The sizes, the limit and the places of frames don't unfold by themselves (`unfoldable`), so
+//!   goals in the crates above stay small. `HasBounds` holds what callers need of them.
+//! - A `Queue` stores every number of its layout, and a contract sees the three from which they
+//!   follow (`specs/Representation`). These three determine the value, so it can be `Copy` and have
+//!   `==`.
+//! - `specs/Spelling` defines the frame that the words of a foreign section hold at a position. It
+//!   serves other crates; no function of this one cites it.
 #![tactic(auto)]
 
 mod faults;

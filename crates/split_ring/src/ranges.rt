@@ -1,4 +1,4 @@
-//! What a peer takes from the fields that the other one writes.
+//! The ranges of the fields that the other peer writes.
 ghost use Rattle.std.specs.Prelude.{◌≡◌, ◌↔◌, IsTrue, IfOk, IfErr, OnOk};
 ghost use Rattle.ivs_base.specs.Numbers.{distance};
 ghost use Rattle.split_ring.specs.Ranges.{IsAvailIndex, IsAvailEntry, IsDescAddress, IsDescLength, IsDescFlags, IsUsedIndex, IsUsedId, needs_event};
@@ -7,7 +7,7 @@ use crate::Queue;
 use ivs_base::distance;
 use thiserror::Error;
 
-/// A field that the other peer writes, by the name that a refusal gives it.
+/// A field that the other peer writes, as a refusal names it.
 #[derive(Clone, Copy, Debug, PartialEq, Eq)]
 pub enum FieldName {
     /// The available index.
@@ -26,13 +26,13 @@ pub enum FieldName {
     UsedId,
 }
 
-/// A value that was refused: its field, and the value as it was read.
+/// A refused value: its field, and the value as it was read.
 #[derive(Clone, Copy, Debug, PartialEq, Eq, Error)]
 #[error("{field:?} {value} is out of range")]
 pub struct Refused {
-    /// The field whose range the value is outside of.
+    /// The field in whose range the value isn't.
     pub field: FieldName,
-    /// The index, the entry, the whole address, the length, the flags or the id: never a distance.
+    /// The index, the entry, the whole address, the length, the flags or the id; never a distance.
     pub value: u64,
 }
 
@@ -45,7 +45,14 @@ impl Refused {
 }
 
 impl Queue {
-    /// Can the other peer have published up to `index` where this one has taken `last`? Ok has the distance.
+    /// Checks that the other peer can have published up to `index`, if this peer has read up to
+    /// `last`. Returns the distance from `last` to `index`.
+    // claim inside, outside with Queue::check_used.inside, Queue::check_used.outside,
+    //    Queue::check_entry.inside, Queue::check_entry.outside, Queue::check_address.inside,
+    //    Queue::check_address.outside, Queue::check_length.inside, Queue::check_length.outside,
+    //    Queue::check_flags.inside, Queue::check_flags.outside, Queue::check_id.inside,
+    //    Queue::check_id.outside: A check refuses a value exactly if it is outside the field's
+    //    range, and returns the field and the value as read.
     pub fn check_avail(&self, last: u16, index: u16) -> Result<u32, Refused>
         ensures inside { IfOk result (λ d. IsAvailIndex self.now last index × (d ≡ distance last index)) }
         ensures outside { IfErr result (λ r. (¬ IsAvailIndex self.now last index)
@@ -58,8 +65,9 @@ impl Queue {
         Ok(found)
     }
 
-    /// Can the other peer have returned up to `index` where this one has freed `last` and has `in_flight` more
-    /// frames there? Ok has the distance.
+    /// Checks that the other peer can have returned up to `index`, if this peer has freed up to
+    /// `last` and `in_flight` more frames are in flight. Returns the distance from `last` to
+    /// `index`.
     pub fn check_used(&self, last: u16, index: u16, in_flight: u32) -> Result<u32, Refused>
         ensures inside { IfOk result (λ d. IsUsedIndex last index in_flight × (d ≡ distance last index)) }
         ensures outside { IfErr result (λ r. (¬ IsUsedIndex last index in_flight)
@@ -72,7 +80,7 @@ impl Queue {
         Ok(found)
     }
 
-    /// Is this available entry the number of a descriptor? Ok has that number.
+    /// Checks that the available entry is the number of a descriptor, and returns it.
     pub fn check_entry(&self, entry: u16) -> Result<u32, Refused>
         ensures inside { IfOk result (λ i. IsAvailEntry self.now entry × (i ≡ entry)) }
         ensures outside { IfErr result (λ r. (¬ IsAvailEntry self.now entry)
@@ -85,7 +93,8 @@ impl Queue {
         Ok(descriptor)
     }
 
-    /// Is this address, in bytes from the start of the section, a multiple of 4 in the data area? Ok has it.
+    /// Checks that the address, in bytes from the start of the section, is a multiple of 4 in the
+    /// data area. Returns the address.
     pub fn check_address(&self, address: u64) -> Result<u32, Refused>
         ensures inside { IfOk result (λ a. IsDescAddress self.now address × (a ≡ address)) }
         ensures outside { IfErr result (λ r. (¬ IsDescAddress self.now address)
@@ -98,7 +107,8 @@ impl Queue {
         Ok(address as u32)
     }
 
-    /// Can a frame have this length and, from an address that passed, end inside the section? Ok has the length.
+    /// Checks that a frame can have this length in bytes, and ends inside the section from
+    /// `address` on, which passed its check. Returns the length.
     pub fn check_length(&self, address: u32, length: u32) -> Result<u32, Refused>
         ensures inside { IfOk result (λ n. IsDescLength self.now address length × (n ≡ length)) }
         ensures outside { IfErr result (λ r. (¬ IsDescLength self.now address length)
@@ -111,7 +121,7 @@ impl Queue {
         Ok(length)
     }
 
-    /// Are the flags of the descriptor those of a frame that is whole in one descriptor?
+    /// Checks that the flags of the descriptor are 0: the frame is whole in one descriptor.
     pub fn check_flags(&self, flags: u16) -> Result<(), Refused>
         ensures inside { OnOk result (IsDescFlags flags) }
         ensures outside { IfErr result (λ r. (¬ IsDescFlags flags)
@@ -123,7 +133,7 @@ impl Queue {
         Ok(())
     }
 
-    /// Is this used id the descriptor that is expected, of the oldest frame in flight?
+    /// Checks that the used id is `expected`, the descriptor of the oldest frame in flight.
     pub fn check_id(&self, expected: u32, id: u32) -> Result<(), Refused>
         ensures inside { OnOk result (IsUsedId expected id) }
         ensures outside { IfErr result (λ r. (¬ IsUsedId expected id)
@@ -136,7 +146,9 @@ impl Queue {
     }
 }
 
-/// Whether the other peer asked, by its event index, for a notification as the own index went from `old` to `new`.
+/// Whether the other peer's event index wants a notification when the own index moves from `old` to
+/// `new` (VIRTIO 1.1, 2.6.7.2).
+// claim: An event is needed exactly by the formula of VIRTIO 1.1.
 pub fn need_event(event: u16, new: u16, old: u16) -> bool
     ensures { result ≡ needs_event event new old }
 {

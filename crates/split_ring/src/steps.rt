@@ -1,4 +1,4 @@
-//! The steps of a call: the access that an engine asks for, and what it notes after it.
+//! The steps of a call: the access that an engine needs next, and its notes after it.
 ghost use Rattle.std.specs.Prelude.{◌≡◌};
 
 use crate::Refused;
@@ -13,19 +13,19 @@ pub enum Access {
     Write(u32, u32),
     /// Writes the own State.
     State(u32),
-    /// Writes the Doorbell.
+    /// Writes the Doorbell register.
     Ring {
-        /// The peer that is rung.
+        /// The target of the doorbell.
         target: u32,
-        /// The vector by which it is rung.
+        /// The vector of the doorbell.
         vector: u32,
     },
-    /// The one step of a call that is down.
+    /// No access: the only step of a call that is down.
     Nothing,
 }
 
-/// What the word of an access is to the order of memory: an index publishes what was written before it, and an event is set against an
-/// index of the other side.
+/// The kind of an access's word, which determines its memory order. An index publishes the writes
+/// before it. An event index is compared with an index of the other side.
 #[derive(Clone, Copy, Debug, PartialEq, Eq)]
 pub enum WordKind {
     /// Any other word, or no word of a section.
@@ -34,44 +34,45 @@ pub enum WordKind {
     IndexRead,
     /// An own index is written.
     IndexWrite,
-    /// The event of the other side is read.
+    /// The event index of the other side is read.
     EventRead,
-    /// The own event is written.
+    /// The own event index is written.
     EventWrite,
 }
 
-/// What an engine notes after a step.
+/// A note of an engine after a step.
 #[derive(Clone, Copy, Debug, PartialEq, Eq, Default)]
 pub enum Note {
-    /// The other's state, as a Tick read it.
+    /// The other's State, as a Tick read it.
     Saw(u32),
-    /// How many used elements an offer found.
+    /// The number of used elements that an offer found.
     Reclaim(u32),
-    /// The frame that is offered has no room; the offer is over.
+    /// The offered frame doesn't fit; the offer is over.
     Full,
-    /// The frame of the offer is published.
+    /// The offered frame is published.
     Accept,
-    /// How many frames a poll found.
+    /// The number of frames that a poll found.
     Look(u32),
-    /// A frame is read whole.
+    /// A whole frame is read and delivered.
     Deliver,
-    /// A used element is published.
+    /// A used element is published: its frame is returned.
     Return,
     /// The poll is over.
     Done,
-    /// The call was made outside RUN; it is over.
+    /// The call was made outside RUN, and is over.
     Down,
-    /// A value was refused; the State step follows.
+    /// A value was refused; the State step is next.
     Refuse(Refused),
     /// The call is over.
     #[default]
     Over,
 }
 
-/// The notes of one step, in their order.
+/// The notes of one step, in order.
 pub type Notes = ArrayVec<Note, 2>;
 
-/// The access of the step after a refusal: the end leaves the link by State 0.
+/// Returns the access of the step after a refusal: the end leaves the link by State 0.
+// claim: An end that refuses writes State 0 next.
 pub fn leaving() -> Access
     ensures { result ≡ Access.State 0 }
 {

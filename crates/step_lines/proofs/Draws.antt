@@ -1,4 +1,4 @@
--- What three draws do.
+-- The access of three draws.
 use Rattle.std.proofs.Common.{◌≡◌, ℕ, ◌/◌, refl, ap, ◌∙◌, arith}
 use Rattle.split_ring.specs.declared.steps.Access.{Access}
 use Rattle.scenario_text.specs.Scenario.{World}
@@ -8,7 +8,7 @@ use Rattle.lawful_history.proofs.Exists.{ring_words, storm_does}
 use Rattle.step_lines.specs.declared.storm.Storm.{Storm}
 use Rattle.step_lines.specs.Storms.{IsStormOf, IsDrawn, DrawsIn}
 
--- a drawn access is one of those that a storm makes
+-- A drawn access is one of those of a storm.
 drawn_is : (world : World) (p kind place value : ℕ) (storm : Storm) → IsStormOf world storm → IsDrawn world p (drawn_access world p kind place value)
 drawn_is world p kind place value storm is =
     let ring = ring_words world.queue is.sizes in

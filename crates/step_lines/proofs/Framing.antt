@@ -1,4 +1,4 @@
--- The marks of a step: which frames they carry.
+-- The frames that the marks of a step have.
 use Rattle.std.proofs.Common.{◌≡◌, ◌≢◌, ℕ, zero, suc, ◌+◌, ◌≤◌, Bool, true, false, List, [], ◌∷◌, ◌++◌, length, refl, sym, ◌∙◌, ap, subst, arith}
 use Rattle.std.specs.Prelude.{◌==◌, ◌&&◌, nat_le, not, if◌then◌else◌, map}
 use Rattle.std.proofs.lemmas.Bool.Decides.{nat_tests}
@@ -27,7 +27,7 @@ either : (P : List Mark → Type 0) (b : Bool) (x y : List Mark) → P x → P y
 either P true x y one other = one
 either P false x y one other = other
 
--- what holds of each list of marks without a frame
+-- What holds of each list of marks without a frame.
 record Frameless (P : List Mark → Type 0) : Type 0 where
   none : P []
   saw : (v : ℕ) → P (Saw v ∷ [])
@@ -52,7 +52,7 @@ after_reclaim : (P : List Mark → Type 0) → Frameless P → (b : Bool) → P 
 after_reclaim P f true = f.reclaim 0
 after_reclaim P f false = f.reclaim_full
 
--- the marks of a step hold it where those with a frame do
+-- What holds of marks with a frame holds of all marks of a step.
 marks_hold : (P : List Mark → Type 0) → Frameless P → (config : EndConfig) (place : Place) (value : ℕ) → ((pending : PendingOffer) → place ≡ WritingAvailIndex pending → P (Accept pending.frame ∷ [])) →
     ((number more entry address bytes : ℕ) (read : List ℕ) (words : ℕ) → place ≡ ReadingFrameWord number more entry address bytes read words → P (Deliver (frame_in bytes (read ++ value ∷ [])) ∷ [])) → P (marks_at config place value)
 marks_hold P f config Closed value accepts delivers = f.none
@@ -87,7 +87,7 @@ marks_hold P f config (WritingUsedLength number more) value accepts delivers = f
 marks_hold P f config (WritingUsedIndex number more) value accepts delivers = f.returns
 marks_hold P f config RingingPoll value accepts delivers = f.finished
 
--- no frame is accepted
+-- No frame is accepted.
 abbrev NoAccept : List Mark → Type 0
 NoAccept [] = Unit {0}
 NoAccept (Accept frame ∷ marks) = ⊥
@@ -110,7 +110,7 @@ frameless_none = record {
   finished = tt;
 }
 
--- after its index a frame is yet to be told
+-- The place after a frame's index was written is open.
 tells_openly : (b : Bool) (number : ℕ) → is_open (if b then ReadingAvailEvent number else RingingOffer) ≡ true
 tells_openly true number = refl
 tells_openly false number = refl
@@ -120,11 +120,11 @@ publishes_openly config place value pending is shut =
     let now : is_open (next_place config (WritingAvailIndex pending) value) ≡ false = subst (λ (p : Place). is_open (next_place config p value) ≡ false) is shut in
     let open_there = tells_openly (has_events config.sizes) pending.number in absurd (cc)
 
--- a step that ends its call accepts no frame
+-- A step that ends its call accepts no frame.
 ends_quietly : (config : EndConfig) (place : Place) (value : ℕ) → is_open (next_place config place value) ≡ false → NoAccept (marks_at config place value)
 ends_quietly config place value shut = marks_hold NoAccept frameless_none config place value (λ pending is. absurd (publishes_openly config place value pending is shut)) (λ number more entry address bytes read words is. tt)
 
--- where no frame is accepted, the frame offered has no part in the marks
+-- If no frame is accepted, the frame offered doesn't matter for the marks.
 same_marks : (one other delivered : List ℕ) (notes : List Note) → NoAccept (marks_between one delivered notes) → marks_between other delivered notes ≡ marks_between one delivered notes
 same_marks one other delivered [] none = refl
 same_marks one other delivered (note.Accept ∷ notes) none = absurd none
@@ -139,7 +139,8 @@ same_marks one other delivered (note.Down ∷ notes) none = ap (λ ms. mark_betw
 same_marks one other delivered (note.Refuse refused ∷ notes) none = ap (λ ms. mark_between one delivered (note.Refuse refused) ∷ ms) (same_marks one other delivered notes none)
 same_marks one other delivered (note.Over ∷ notes) none = ap (λ ms. mark_between one delivered note.Over ∷ ms) (same_marks one other delivered notes none)
 
--- the marks of a step, where the frame offered is the one before it or, if the call goes on, the one after it
+-- The marks of a step; the frame offered is the one before the step or, if the call goes on, the
+-- one after it.
 pub marks_after : (config : EndConfig) (place : Place) (value : ℕ) (old new delivered : List ℕ) (notes : List Note) (busy : Bool) → marks_between old delivered notes ≡ marks_at config place value → busy ≡ is_open (next_place config place value) →
     (busy ≡ true → new ≡ old) → marks_between new delivered notes ≡ marks_at config place value
 marks_after config place value old new delivered notes true marked is same = ap (λ f. marks_between f delivered notes) (same refl) ∙ marked
@@ -224,7 +225,7 @@ next_frames config (WritingUsedLength number more) value has = tt
 next_frames config (WritingUsedIndex number more) value has = takes (number + 1) more
 next_frames config RingingPoll value has = tt
 
--- a frame in some words has a byte
+-- A frame read from its words has a byte.
 some_bytes : (bytes : ℕ) (read : List ℕ) (value : ℕ) → 14 ≤ bytes → length (frame_in bytes (read ++ value ∷ [])) ≢ 0
 some_bytes (suc bytes) [] value least = λ none. cc
 some_bytes (suc bytes) (word ∷ read) value least = λ none. cc
@@ -259,7 +260,7 @@ one_delivered me frame some = rw (not_none (length frame) some) refl
 least_some : (n : ℕ) → 14 ≤ n → n ≢ 0
 least_some n least = λ none. omega arith
 
--- the marks of a step have frames with a byte
+-- The marks of a step have frames with a byte.
 pub marks_frames : (me : ℕ) (config : EndConfig) (place : Place) (value : ℕ) → HasFrames place → HaveFrames (map (mark_line me) (marks_at config place value))
 marks_frames me config place value has = marks_hold (λ marks. HaveFrames (map (mark_line me) marks)) (frameless_frames me) config place value
     (λ pending is. one_accepted me pending.frame (least_some (length pending.frame) (subst HasFrames is has)))

@@ -1,4 +1,4 @@
--- What the notes of a step are in the words of the grammar.
+-- The notes of a step as marks of the grammar.
 use Rattle.std.proofs.Common.{◌≡◌, ℕ, ◌+◌, ◌<◌, Bool, true, false, List, [], ◌∷◌, ◌++◌, length, take, get_or, refl, sym, ◌∙◌, ap, subst}
 use Rattle.std.specs.Prelude.{map}
 use Rattle.std.proofs.lemmas.List.{take_more, map-append}
@@ -16,7 +16,7 @@ use Rattle.lawful_history.specs.EventRecords.{mark_line}
 use Rattle.lawful_history.specs.Peers.{Auto, counted, counted_all}
 use Rattle.step_lines.proofs.Framing.{marks_after}
 
--- one count more
+-- One more count.
 counted-snoc : (auto : Auto) (marks : List Mark) (mark : Mark) → counted_all auto (marks ++ mark ∷ []) ≡ counted (counted_all auto marks) mark
 counted-snoc auto [] mark = refl
 counted-snoc auto (x ∷ marks) mark = counted-snoc (counted auto x) marks mark
@@ -28,7 +28,7 @@ one_count auto one other notes i note inside is =
     ap (λ ns. counted_all auto (marks_between one other ns)) taken ∙ ap (λ ms. counted_all auto ms) (map-append (mark_between one other) (take i notes) (note ∷ []))
     ∙ counted-snoc auto (marks_between one other (take i notes)) (mark_between one other note)
 
--- one line more
+-- One more line.
 pub one_told : (me : ℕ) (one other : List ℕ) (notes : List Note) (i : ℕ) (note : Note) → i < length notes → note ≡ get_or notes i note →
     map (mark_line me) (marks_between one other (take (i + 1) notes)) ≡ map (mark_line me) (marks_between one other (take i notes)) ++ mark_line me (mark_between one other note) ∷ []
 one_told me one other notes i note inside is =
@@ -51,14 +51,14 @@ open_at seats.NotInRun e config end place is = ap is_open (sym is.0)
 open_at seats.Offering e config end place is = goes_open place is.0
 open_at seats.Polling e config end place is = goes_open place is.0
 
--- an endpoint is busy where a call is open
+-- An endpoint is busy if a call is open.
 pub busy_is : (e : Engine) (config : EndConfig) (end : End) (place : Place) → RefinesAt e config end place → is_busy e ≡ is_open place
 busy_is e config end place refines = open_at e.place e config end place refines.at
 
 pub busy_next : (e e' : Engine) (value : ℕ) (notes : List Note) (config : EndConfig) (end : End) (place : Place) → Takes e value notes e' → RefinesAt e config end place → is_busy e' ≡ is_open (next_place config place value)
 busy_next e e' value notes config end place took refines = busy_is e' config (end_after end (step_at config place value)) (next_place config place value) (took.refines config end place refines)
 
--- the marks of the step after it
+-- The marks of a step, from the endpoint after it.
 pub marks_now : (e e' : Engine) (value : ℕ) (notes : List Note) (config : EndConfig) (end : End) (place : Place) → Takes e value notes e' → RefinesAt e config end place → is_busy e' ≡ is_open (next_place config place value) →
     marks_between (offered e') (delivered e') notes ≡ marks_at config place value
 marks_now e e' value notes config end place took refines busy = marks_after config place value (offered e) (offered e') (delivered e') notes (is_busy e') (took.marked config end place refines) busy (λ on. took.offered)

@@ -1,8 +1,8 @@
--- Places whose frames have a spelling.
+-- Places whose frames can be spelled.
 use Rattle.std.specs.Prelude.{ℕ, ◌≤◌, length}
 use Rattle.call_grammar.specs.Places.{Place, ReadingUsedIndex, ReadingUsedId, WritingFrameWord, WritingDescAddressLow, WritingDescAddressHigh, WritingDescLength, WritingDescFlags, WritingAvailEntry, WritingAvailIndex, ReadingDescFlags, ReadingFrameWord}
 
--- the frames that a call has at a place have 14 bytes at least
+-- The frames of a call at a place have at least 14 bytes.
 abbrev pub HasFrames : Place → Type 0
 HasFrames (ReadingUsedIndex pending freed) = 14 ≤ length pending.frame
 HasFrames (ReadingUsedId pending freed more) = 14 ≤ length pending.frame

@@ -1,7 +1,9 @@
-//! The steps of a peer in the words of a history: the lines that tell the notes of an endpoint, what an automatic peer counts of
-//! them, and the accesses that a storm draws. It stands on `lawful_history` for lines and storms and on `link_endpoint` for notes,
-//! and makes no access: whoever runs a peer over some memory calls it. Its contracts promise the marks, the counts and the draws of
-//! the definitions.
+//! The steps of a peer as lines of a history: the lines of an endpoint's notes, the counts of an
+//! automatic end, and the accesses that a storm draws.
+//!
+//! The crate uses `lawful_history` for lines and storms and `link_endpoint` for notes. It performs
+//! no access: the code that runs a peer over a memory calls it. Its contracts promise the marks,
+//! the counts and the draws of the definitions.
 #![tactic(auto)]
 
 mod notes;

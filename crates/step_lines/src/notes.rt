@@ -13,7 +13,9 @@ use link_endpoint::{Auto, Endpoint};
 use split_ring::steps::Note;
 use std::alloc::Global;
 
-/// The line of a note of peer `me`, whose endpoint took the step. NoMemory says that memory ran out for the copy of a frame.
+/// Returns the line of a note of peer `me`, whose endpoint `end` completed the step. Returns
+/// `NoMemory` if the allocation for the copy of a frame fails.
+// claim: The line of a note is that of its mark, with the frame offered or delivered.
 pub fn line_of(alloc: Global, me: u32, end: &Endpoint, note: Note) -> Result<Line, NoMemory>
     ensures { IfOk result (λ line. line ≡ mark_line me (mark_between (offered end.now) (delivered end.now) note)) }
 {
@@ -38,7 +40,7 @@ pub fn line_of(alloc: Global, me: u32, end: &Endpoint, note: Note) -> Result<Lin
     })
 }
 
-/// Tells an automatic peer of one note.
+/// Counts one note in the plan of an automatic end.
 fn count_note(auto: &mut Auto, note: &Note)
     ensures { (plan : peers.Auto) (one other : List ℕ) → IsPlanOf auto.old plan → IsPlanOf auto.new (counted plan (mark_between one other note.now)) }
 {
@@ -61,7 +63,8 @@ fn count_note(auto: &mut Auto, note: &Note)
     }
 }
 
-/// Tells an automatic peer of the frames that were accepted and delivered on a step.
+/// Counts the frames that a step accepted and delivered in the plan of an automatic end.
+// claim: The frames and deliveries of an automatic peer are counted by the marks of a step.
 pub fn count_notes(auto: &mut Auto, notes: &[Note])
     ensures { (plan : peers.Auto) (one other : List ℕ) → IsPlanOf auto.old plan → IsPlanOf auto.new (counted_all plan (marks_between one other notes.now)) }
 {

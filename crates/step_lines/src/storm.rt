@@ -1,4 +1,4 @@
-//! A storm: the turns of a hostile peer that are generated writes.
+//! A storm: generated writes in the turns of a hostile peer.
 ghost use Rattle.std.specs.Prelude.{◌≡◌, ℕ, ◌+◌, ◌*◌, ◌/◌, ◌%◌, ◌<◌, ◌^◌};
 ghost use Rattle.scenario_text.specs.Scenario.{World};
 ghost use Rattle.lawful_history.specs.Storm.{next_number, draw, drawn_access, storm_step, storm_after};
@@ -8,7 +8,7 @@ use section_map::Geometry;
 use split_ring::Queue;
 use split_ring::steps::Access;
 
-/// A storm of one peer: the sizes that it draws from, and where its generator is.
+/// A storm of one peer: the sizes that it draws from, and the state of its generator.
 #[derive(Clone, Copy, Debug)]
 pub struct Storm {
     /// The peer.
@@ -17,11 +17,11 @@ pub struct Storm {
     pub geometry: Geometry,
     /// The queue of a section.
     pub queue: Queue,
-    /// Where the generator is: at the seed at first.
+    /// The generator's state, initially the seed.
     pub at: u64,
 }
 
-/// The generator's next number.
+/// Returns the generator's next number.
 fn next(x: u64) -> u64
     ensures { result ≡ next_number x }
 {
@@ -29,7 +29,7 @@ fn next(x: u64) -> u64
         .wrapping_add(1442695040888963407)
 }
 
-/// The 32 bits that are drawn from a number.
+/// Returns the 32 bits that are drawn from a number.
 fn drawn(x: u64) -> u32
     ensures { result ≡ draw x }
 {
@@ -37,7 +37,7 @@ fn drawn(x: u64) -> u32
 }
 
 impl Storm {
-    /// What three draws do.
+    /// Returns the access of three draws.
     fn access_of(&self, kind: u32, place: u32, value: u32) -> Access
         requires { (world : World) × IsStormOf world self.now }
         ensures { (world : World) → IsStormOf world self.now → result ≡ drawn_access world self.now.peer kind place value }
@@ -54,7 +54,8 @@ impl Storm {
         }
     }
 
-    /// The access of the next step. The generator goes on by its three draws.
+    /// Returns the access of the next step, and advances the generator by three draws.
+    // claim step, after: A storm draws its accesses by its generator.
     pub fn step(&mut self) -> Access
         requires { (world : World) × IsStormOf world self.old }
         ensures step { (world : World) → IsStormOf world self.old → DrawsIn world self.old.peer (storm_step world self.old.peer self.old.at) result }

@@ -1,4 +1,4 @@
-//! Frames that arrive at a bridge, one after the other, with the ports to which they go.
+//! Frames that arrive at a bridge, one after another, with the ports to which they go.
 ghost use Rattle.std.specs.Prelude.{◌≡◌, ◌≤◌, ◌<◌, IfOk, length};
 
 use frame_bridge::{Bridge, frames_are_forwarded};
@@ -7,16 +7,16 @@ use std::alloc::Global;
 use std::process::Abort;
 use std::test::Fail;
 
-/// An address that isn't a group's, by its number.
+/// Returns an address that is no group address, by its number.
 fn station(number: u16) -> [u8; 6] {
     let [high, low] = number.to_be_bytes();
     [2, 0, 0, 0, high, low]
 }
 
-/// All stations.
+/// The group address of all stations.
 const BROADCAST: [u8; 6] = [255; 6];
 
-/// A frame from the one address to the other.
+/// Returns a frame for the address `to` from the address `from`.
 fn frame(to: [u8; 6], from: [u8; 6]) -> [u8; 14] {
     let mut frame = [0; 14];
     frame[..6].copy_from_slice(&to);
@@ -25,7 +25,7 @@ fn frame(to: [u8; 6], from: [u8; 6]) -> [u8; 14] {
     frame
 }
 
-/// A frame arrives at this port, and goes to these.
+/// Checks the arrival of a frame at this port, and the ports to which it goes.
 fn arrives(
     rt: &impl Abort,
     bridge: &mut Bridge,
@@ -42,27 +42,29 @@ fn arrives(
     Ok(())
 }
 
+// claim frame_bridge.Bridge.arrive.ports
+// claim frame_bridge.Bridge.port_of
 #[test]
 fn frames_of_three_stations(rt: HostRuntime) -> Result<(), Fail> {
     let mut bridge = Bridge::new(rt.alloc(), 3)?;
     let group = [1, 0, 94, 0, 0, 1];
     let (one, two, three) = (station(1), station(2), station(3));
     let cases: [(u32, [u8; 6], [u8; 6], &[u32], u32); 11] = [
-        // to all, and back to the one that is known by then
+        // to all ports, and back to the address that is now known
         (0, BROADCAST, one, &[1, 2], 1),
         (1, one, two, &[0], 2),
-        // nobody knows the third
+        // the third address isn't known
         (0, three, one, &[1, 2], 2),
         (2, two, three, &[1], 3),
-        // between two at one port
+        // between two addresses at one port
         (1, two, three, &[], 3),
         // the third has moved to port 1
         (0, three, one, &[1], 3),
-        // to itself
+        // from an address to itself
         (0, one, one, &[], 3),
-        // a new one to itself is known as soon as it arrives
+        // from a new address to itself: it is known at once
         (2, station(4), station(4), &[], 4),
-        // a group as source isn't learned, and goes to all as destination
+        // a group address isn't learned as a source, and goes to all ports as a destination
         (1, one, group, &[0], 4),
         (0, group, one, &[1, 2], 4),
         (2, BROADCAST, BROADCAST, &[0, 1], 4),
@@ -79,6 +81,7 @@ fn frames_of_three_stations(rt: HostRuntime) -> Result<(), Fail> {
     Ok(())
 }
 
+// claim frame_bridge.Bridge.known.count
 #[test]
 fn sources_above_the_most(rt: HostRuntime) -> Result<(), Fail> {
     let mut bridge = Bridge::new(rt.alloc(), 3)?;
@@ -94,7 +97,7 @@ fn sources_above_the_most(rt: HostRuntime) -> Result<(), Fail> {
     assert_eq!(rt; bridge.known(), 1_024);
     assert_eq!(rt; bridge.port_of(&station(1_023)), Some(0));
     assert_eq!(rt; bridge.port_of(&station(1_024)), None);
-    // to the last, which isn't known, and to the one before
+    // to the last address, which isn't known, and to the one before
     arrives(
         &rt,
         &mut bridge,
@@ -109,7 +112,7 @@ fn sources_above_the_most(rt: HostRuntime) -> Result<(), Fail> {
         &frame(station(1_023), station(0)),
         &[0],
     )?;
-    // one that is known moves still
+    // a known address still moves
     arrives(
         &rt,
         &mut bridge,
@@ -122,6 +125,7 @@ fn sources_above_the_most(rt: HostRuntime) -> Result<(), Fail> {
     Ok(())
 }
 
+// claim frame_bridge.Bridge.arrive.ports
 #[test]
 fn each_of_eight_ports_to_all(rt: HostRuntime) -> Result<(), Fail> {
     let mut bridge = Bridge::new(rt.alloc(), 8)?;

@@ -1,4 +1,5 @@
-//! Tests of the bridge, in a crate of their own, so that the crates that they test are proved once. Whole runs are worked rows.
+//! Tests of the bridge, in a crate of their own, so that the crates that they test are proved once.
+//! Whole runs are worked rows.
 #![tactic(auto)]
 
 #[cfg(test)]

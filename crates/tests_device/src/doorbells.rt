@@ -1,4 +1,5 @@
-//! Values from outside: the worked doorbells, and one table of triggers with each condition of delivery broken in turn.
+//! Tests of interrupts over values worked out by hand: single doorbells, States and connections,
+//! and a table in which each row breaks one condition of delivery.
 ghost use Rattle.std.specs.Prelude.{◌≡◌, ◌<◌, IfOk};
 ghost use Rattle.pci_space.specs.Wiring.{IsWiring};
 ghost use Rattle.doorbell_irq.specs.Refinement.{peer_count};
@@ -8,13 +9,16 @@ use pci_space::{BadAccess, Wiring};
 use section_map::Geometry;
 use std::test::Fail;
 
+/// Offset of Interrupt Control in the register page.
 const INTERRUPT_CONTROL: u32 = 0x08;
 
+/// Offset of the Doorbell. Its value has the target in the high half, the vector in the low half.
 const DOORBELL: u32 = 0x0C;
 
+/// Offset of State.
 const STATE: u32 = 0x10;
 
-/// The devices of a world of 8 peers.
+/// Returns the devices of a world of 8 peers.
 fn worked_device(wiring: Wiring) -> Result<Device, Fail>
     requires { IsWiring wiring }
     ensures { IfOk result (λ device. peer_count device ≡ 8) }
@@ -23,13 +27,13 @@ fn worked_device(wiring: Wiring) -> Result<Device, Fail>
     Ok(Device::new(&geometry, wiring))
 }
 
-/// The first delivery, if there is one, and how many there were.
+/// Returns the number of deliveries, and the first one if there is one.
 fn came(effect: &Effect) -> (usize, Option<Delivery>) {
     let deliveries = effect.deliveries.as_slice();
     (deliveries.len(), deliveries.first().copied())
 }
 
-/// One delivery.
+/// Returns one delivery.
 fn one(peer: u32, vector: u32) -> (usize, Option<Delivery>) {
     (1, Some(Delivery { peer, vector }))
 }
@@ -37,13 +41,18 @@ fn one(peer: u32, vector: u32) -> (usize, Option<Delivery>) {
 /// No delivery.
 const NONE: (usize, Option<Delivery>) = (0, None);
 
+/// Whether a doorbell is delivered through MSI-X, and one-shot mode lets one interrupt come.
+// claim doorbell_irq.Device.register_write.effect
+// claim reference_history.is_lawful.lawful
 #[test]
 fn interrupts(rt: HostRuntime) -> Result<(), Fail> {
     let mut device = worked_device(Wiring::Msix(2))?;
+    // Peer 1 becomes bus master, enables MSI-X and unmasks vector 1.
     device.config_write(1, 4, 2, 4)?;
     device.config_write(1, 98, 2, 32768)?;
     device.msix_write(1, 28, 0);
     assert_eq!(rt; came(&device.register_write(1, INTERRUPT_CONTROL, 1)), NONE);
+    // One-shot mode: the first interrupt clears Interrupt Control.
     device.config_write(1, 67, 1, 1)?;
     assert_eq!(rt;
         came(&device.register_write(0, DOORBELL, 0x0001_0001)),
@@ -71,6 +80,10 @@ fn interrupts(rt: HostRuntime) -> Result<(), Fail> {
     Ok(())
 }
 
+/// Whether INTx, disconnections, resets and changes of State deliver as the rules say.
+// claim doorbell_irq.Device.register_write.effect
+// claim doorbell_irq.Device.reset.effect
+// claim doorbell_irq.Device.disconnect.effect
 #[test]
 fn connections_and_states(rt: HostRuntime) -> Result<(), Fail> {
     let mut device = worked_device(Wiring::Intx)?;
@@ -79,6 +92,7 @@ fn connections_and_states(rt: HostRuntime) -> Result<(), Fail> {
         came(&device.register_write(0, DOORBELL, 0x0001_0005)),
         one(1, 0)
     );
+    // Command bit 10 turns INTx off.
     device.config_write(1, 4, 2, 0x400)?;
     assert_eq!(rt;
         came(&device.register_write(0, DOORBELL, 0x0001_0005)),
@@ -97,7 +111,7 @@ fn connections_and_states(rt: HostRuntime) -> Result<(), Fail> {
         came(&device.register_write(0, DOORBELL, 0x0001_0005)),
         one(1, 0)
     );
-    // A peer may ring itself. The same State again changes nothing.
+    // A peer may ring itself. A write of the same State changes nothing.
     assert_eq!(rt;
         came(&device.register_write(1, DOORBELL, 0x0001_0005)),
         one(1, 0)
@@ -111,7 +125,7 @@ fn connections_and_states(rt: HostRuntime) -> Result<(), Fail> {
     assert_eq!(rt; effect.state, Some(0));
     assert_eq!(rt; came(&effect), one(1, 0));
     assert_eq!(rt; came(&device.reset(0)), NONE);
-    // A State that changes triggers every other peer, in ascending order.
+    // A changed State triggers every other peer, in ascending order.
     for peer in 0..8 {
         device.register_write(peer, INTERRUPT_CONTROL, 1);
     }
@@ -124,9 +138,12 @@ fn connections_and_states(rt: HostRuntime) -> Result<(), Fail> {
     Ok(())
 }
 
-/// Command, Message Control, Interrupt Control, Vector Control of entry 2, the word that is rung, and whether (1, 2) comes.
+/// Command, Message Control, Interrupt Control, Vector Control of entry 2, the doorbell's word, and
+/// whether (1, 2) is delivered.
 type Case = (u32, u32, u32, u32, u32, bool);
 
+/// Whether a doorbell is delivered exactly if each condition of delivery holds.
+// claim doorbell_irq.Device.reset.effect
 #[test]
 fn each_condition_broken(rt: HostRuntime) -> Result<(), Fail> {
     let cases: [Case; 19] = [
@@ -145,7 +162,7 @@ fn each_condition_broken(rt: HostRuntime) -> Result<(), Fail> {
         (0x004, 0x8000, 1, 0, 0x0001_0004, false),
         (0x004, 0x8000, 1, 0, 0x0001_0102, false),
         (0x004, 0x8000, 1, 0, 0x0001_8002, false),
-        // Another peer, one past the peers, and three that are 1 in their low bits alone.
+        // Another peer, one above the peers, and three that are 1 in their low bits alone.
         (0x004, 0x8000, 1, 0, 0x0002_0002, false),
         (0x004, 0x8000, 1, 0, 0x0008_0002, false),
         (0x004, 0x8000, 1, 0, 0x0009_0002, false),
@@ -164,7 +181,7 @@ fn each_condition_broken(rt: HostRuntime) -> Result<(), Fail> {
             delivered,
             "{word}"
         );
-        // A reset ends all of it, and what was dropped doesn't come later.
+        // A reset ends all of it, and what was dropped isn't delivered later.
         device.reset(1);
         assert_eq!(rt;
             came(&device.register_write(0, DOORBELL, word)),
@@ -175,6 +192,11 @@ fn each_condition_broken(rt: HostRuntime) -> Result<(), Fail> {
     Ok(())
 }
 
+/// Whether registers and MSI-X entries read back the bits that can be written, and no others.
+// claim doorbell_irq.Device.new
+// claim doorbell_irq.Device.config_read.allowed
+// claim doorbell_irq.Device.register_read
+// claim doorbell_irq.Device.msix_read
 #[test]
 fn reads(rt: HostRuntime) -> Result<(), Fail> {
     let mut device = worked_device(Wiring::Msix(2))?;
@@ -210,8 +232,9 @@ fn reads(rt: HostRuntime) -> Result<(), Fail> {
     };
     assert_eq!(rt; device.config_read(5, 0xFF, 2), Err(refused));
     assert_eq!(rt; device.config_write(5, 0xFF, 2, 0), Err(refused));
+    // Device ID 4106h and Vendor ID 110Ah.
     assert_eq!(rt; device.config_read(5, 0, 4), Ok(1090916618));
-    // Privileged Control goes back to 0 too.
+    // Privileged Control is 0 again too.
     device.config_write(5, 0x43, 1, 1)?;
     device.reset(5);
     assert_eq!(rt; device.config_read(5, 0x43, 1), Ok(0));
@@ -222,6 +245,8 @@ fn reads(rt: HostRuntime) -> Result<(), Fail> {
     Ok(())
 }
 
+/// Whether a route has the vectors that a doorbell reaches, and the modes of the peer.
+// claim doorbell_irq.Device.route
 #[test]
 fn routes(rt: HostRuntime) -> Result<(), Fail> {
     let mut device = worked_device(Wiring::Msix(64))?;
@@ -230,7 +255,7 @@ fn routes(rt: HostRuntime) -> Result<(), Fail> {
     device.config_write(1, 98, 2, 32768)?;
     device.msix_write(1, 0x1C, 0);
     device.msix_write(1, 0x3FC, 0);
-    // Vectors 1 and 63 are unmasked, while the peer takes no interrupts yet.
+    // Vectors 1 and 63 are unmasked, and interrupts are not enabled at the peer yet.
     let masked = Route {
         vectors: 0x8000_0000_0000_0002,
         ..Route::default()
@@ -247,7 +272,7 @@ fn routes(rt: HostRuntime) -> Result<(), Fail> {
     assert_eq!(rt; device.route(1), open);
     device.config_write(1, 98, 2, 0xC000)?;
     assert_eq!(rt; device.route(1), Route { vectors: 0, ..open });
-    // With INTx any vector comes, by the one line.
+    // With INTx any vector is delivered, by the one line.
     let mut device = worked_device(Wiring::Intx)?;
     let line = Route {
         vectors: 0xFFFF_FFFF_FFFF_FFFF,

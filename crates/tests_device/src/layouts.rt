@@ -2,6 +2,7 @@
 use section_map::{Denied, Geometry, GeometryFault, Outside, Part, Region, Section};
 use std::test::Fail;
 
+// claim section_map.Geometry.new.made
 #[test]
 fn faults_of_a_geometry(rt: HostRuntime) {
     let bad_page = |part, size| GeometryFault::BadPage { part, size };
@@ -36,6 +37,7 @@ fn faults_of_a_geometry(rt: HostRuntime) {
     }
 }
 
+// claim section_map.Geometry.new.made
 #[test]
 fn largest_region(rt: HostRuntime) -> Result<(), Fail> {
     let geometry = Geometry::new(2, 4096, 4096, 8_384_512)?;
@@ -48,11 +50,16 @@ fn largest_region(rt: HostRuntime) -> Result<(), Fail> {
     Ok(())
 }
 
+// claim section_map.Geometry.may_write
+// claim section_map.Geometry.section_of
+// claim section_map.Region.write.allowed
+// claim section_map.Region.read.inside
+// claim section_map.Region.set_state.written
 #[test]
 fn map_of_a_region(rt: HostRuntime) -> Result<(), Fail> {
     let geometry = Geometry::new(2, 4096, 4096, 16_384)?;
     let mut region = Region::new(rt.alloc(), &geometry)?;
-    // the word, where it lies, and whether peer 1 may write it
+    // the word, its section, and whether peer 1 may write it
     let words = [
         (0, Section::Table, false),
         (1, Section::Table, false),

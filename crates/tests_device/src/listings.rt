@@ -1,4 +1,5 @@
-//! Each law of listings may be called: it asks nothing of its caller. Listings of images are worked rows.
+//! Each law of listings may be called: it has no condition for its caller. Listings of images are
+//! worked rows.
 use section_dump::{cut_images_are_short, faults_are_exact, listings_are_one};
 
 #[test]

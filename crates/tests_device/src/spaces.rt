@@ -9,7 +9,7 @@ use pci_space::{
 use section_map::Geometry;
 use std::test::Fail;
 
-/// The space of a device of the worked configuration, with this protocol.
+/// Returns the space of a device of the worked configuration, with this protocol.
 fn space_of(protocol: u16, wiring: Wiring) -> Result<ConfigSpace, Fail>
     requires { IsWiring wiring }
 {
@@ -17,14 +17,14 @@ fn space_of(protocol: u16, wiring: Wiring) -> Result<ConfigSpace, Fail>
     Ok(device_space(&geometry, protocol, wiring))
 }
 
-/// The space of a device of the worked configuration.
+/// Returns the space of a device of the worked configuration.
 fn worked_space(wiring: Wiring) -> Result<ConfigSpace, Fail>
     requires { IsWiring wiring }
 {
     space_of(1, wiring)
 }
 
-/// All bytes of a space.
+/// Returns all bytes of a space.
 fn bytes_of(space: &ConfigSpace) -> Result<[u8; 256], Fail> {
     let mut bytes = [0; 256];
     for k in 0..256u16 {
@@ -33,6 +33,9 @@ fn bytes_of(space: &ConfigSpace) -> Result<[u8; 256], Fail> {
     Ok(bytes)
 }
 
+// claim pci_space.Space.read.value
+// claim pci_space.Space.write.written
+// claim pci_space.Space.read.allowed
 #[test]
 fn reads_and_writes(rt: HostRuntime) -> Result<(), Fail> {
     let mut space = worked_space(Wiring::Msix(2))?;
@@ -66,7 +69,7 @@ fn reads_and_writes(rt: HostRuntime) -> Result<(), Fail> {
     Ok(())
 }
 
-/// A field of these values, with no mask.
+/// Returns a field of these values, without a mask.
 fn field(place: u16, width: u16, reset: u64) -> Field {
     Field {
         place,
@@ -76,6 +79,7 @@ fn field(place: u16, width: u16, reset: u64) -> Field {
     }
 }
 
+// claim pci_space.FieldTable.of.sound
 #[test]
 fn tables_with_faults(rt: HostRuntime) {
     for (second, fault) in [
@@ -96,6 +100,10 @@ fn tables_with_faults(rt: HostRuntime) {
     );
 }
 
+// claim pci_space.Space.read.value
+// claim pci_space.device_space.rows
+// claim ivshm_cli.ivshm.complete
+// claim ivshm_cli.ivshm.cause
 #[test]
 fn configuration(rt: HostRuntime) -> Result<(), Fail> {
     for (wiring, lines) in [
@@ -135,6 +143,8 @@ fn configuration(rt: HostRuntime) -> Result<(), Fail> {
     Ok(())
 }
 
+// claim pci_space.walk
+// claim pci_space.walk_finds_the_device
 #[test]
 fn finds_the_device(rt: HostRuntime) -> Result<(), Fail> {
     let found = Found {
@@ -172,7 +182,7 @@ fn finds_the_device(rt: HostRuntime) -> Result<(), Fail> {
             ..found
         })
     );
-    // Other capabilities are passed over, and the list may run downwards.
+    // Other capabilities are skipped, and the list may go to lower offsets.
     bytes[0x41] = 0x80;
     bytes[0x80] = 0x10;
     bytes[0x81] = 0;
@@ -187,7 +197,7 @@ fn finds_the_device(rt: HostRuntime) -> Result<(), Fail> {
     Ok(())
 }
 
-/// Whether a walk finds the protocol of sampling ports, 4001h.
+/// A walk finds the protocol of sampling ports, 4001h.
 #[test]
 fn finds_the_protocol_of_ports(rt: HostRuntime) -> Result<(), Fail> {
     let bytes = bytes_of(&space_of(0x4001, Wiring::Msix(2))?)?;
@@ -195,6 +205,7 @@ fn finds_the_protocol_of_ports(rt: HostRuntime) -> Result<(), Fail> {
     Ok(())
 }
 
+// claim pci_space.walk
 #[test]
 fn faults_of_a_walk(rt: HostRuntime) -> Result<(), Fail> {
     let whole = bytes_of(&worked_space(Wiring::Msix(2))?)?;

@@ -1,4 +1,4 @@
-//! Worked calls of a port, with the values that the words give.
+//! Worked calls of a port, with the values of the words.
 ghost use Rattle.std.specs.Prelude.{◌≡◌, ◌≤◌, ◌<◌, IfOk, length};
 ghost use Rattle.sampling_port.specs.Views.{KeepsNumbers};
 
@@ -12,7 +12,7 @@ use std::alloc::Global;
 use std::process::Abort;
 use std::test::Fail;
 
-/// Two peers with sections of 4,096 bytes, at the words 1,024 and 2,048.
+/// Returns the geometry of two peers with sections of 4,096 bytes, at words 1,024 and 2,048.
 fn example(rt: &impl Abort) -> Geometry
     ensures { result.peers ≡ 2 }
 {
@@ -21,7 +21,7 @@ fn example(rt: &impl Abort) -> Geometry
     geometry
 }
 
-/// The port of this peer for messages of at most 8 bytes.
+/// Returns the port of peer `me` for messages of at most 8 bytes.
 fn port(rt: &impl Abort, alloc: Global, me: u32) -> Result<Port, PortFault>
     requires { me < 2 }
     ensures { IfOk result (λ port. (port.most ≡ 8) × (port.me ≡ me) × (port.shape.peers ≡ 2)) }
@@ -40,7 +40,7 @@ fn publish(rt: &impl Abort, port: &mut Port, message: &[u8])
     port.publish(message);
 }
 
-/// One step of the open call, on this access, that met this value.
+/// Makes one step of the open call: this access, this value and this note.
 fn takes(rt: &impl Abort, port: &mut Port, access: Access, value: u32, note: Option<PortNote>)
     ensures { KeepsNumbers port.old port.new }
 {
@@ -49,6 +49,8 @@ fn takes(rt: &impl Abort, port: &mut Port, access: Access, value: u32, note: Opt
     assert_eq!(rt; port.took(value), note);
 }
 
+// claim sampling_port.Port.took.note
+// claim sampling_port.fields_are_read_once
 #[test]
 fn one_message(rt: HostRuntime) -> Result<(), Fail> {
     let mut writer = port(&rt, rt.alloc(), 0)?;
@@ -77,7 +79,7 @@ fn one_message(rt: HostRuntime) -> Result<(), Fail> {
     Ok(())
 }
 
-/// A sample of peer 0 that refuses this length.
+/// Makes a sample of peer 0 that refuses this length.
 fn refuses_length(rt: &impl Abort, reader: &mut Port, value: u32)
     requires peers { reader.old.shape.peers ≡ 2 }
     ensures { KeepsNumbers reader.old reader.new }
@@ -92,13 +94,14 @@ fn refuses_length(rt: &impl Abort, reader: &mut Port, value: u32)
     takes(rt, reader, Access::Read(1_028), value, refused);
 }
 
+// claim sampling_port.Port.took.note
 #[test]
 fn values_of_a_hostile_peer(rt: HostRuntime) -> Result<(), Fail> {
     let mut reader = port(&rt, rt.alloc(), 1)?;
     refuses_length(&rt, &mut reader, 0);
     refuses_length(&rt, &mut reader, 9);
     refuses_length(&rt, &mut reader, 4_294_967_295);
-    // The longest message, the highest number.
+    // The longest message, and the highest number.
     assert!(rt; !reader.busy());
     reader.sample(0);
     let most = 4_294_967_295;
@@ -109,7 +112,7 @@ fn values_of_a_hostile_peer(rt: HostRuntime) -> Result<(), Fail> {
     let got = Some(PortNote::Got(most));
     takes(&rt, &mut reader, Access::Read(1_024), most, got);
     assert!(rt; reader.message() == [1, 2, 3, 4, 5, 6, 7, 8].as_slice());
-    // An older number is refused, and what was got stays.
+    // An older number is refused, and the message got doesn't change.
     assert!(rt; !reader.busy());
     reader.sample(0);
     let older = Some(PortNote::Refuse {
@@ -119,7 +122,7 @@ fn values_of_a_hostile_peer(rt: HostRuntime) -> Result<(), Fail> {
     takes(&rt, &mut reader, Access::Read(1_024), most - 1, older);
     assert!(rt; reader.message().len() == 8);
     assert_eq!(rt; reader.last(0), most);
-    // The number of the own port is another.
+    // The number of the port's own peer is another one.
     assert!(rt; !reader.busy());
     reader.sample(1);
     let nothing = Some(PortNote::Nothing);
@@ -127,6 +130,7 @@ fn values_of_a_hostile_peer(rt: HostRuntime) -> Result<(), Fail> {
     Ok(())
 }
 
+// claim sampling_port.Port.publish.value
 #[test]
 fn sizes_of_a_port(rt: HostRuntime) {
     let geometry = example(&rt);

@@ -25,6 +25,8 @@ const BIG: [u8; 54] =
     *b"\xa1\xb2\xc3\xd4\x00\x02\x00\x04\x00\x00\x00\x00\x00\x00\x00\x00\x00\x04\x00\x00\x00\x00\x00\x01\
     \x00\x00\x00\x00\x00\x00\x20\x35\x00\x00\x00\x0e\x00\x00\x00\x0e\xff\xff\xff\xff\xff\xff\x02\x00\x00\x00\x00\x01\x08\x00";
 
+// claim frame_capture.parse.file
+// claim frame_capture.print.printed
 #[test]
 fn one_packet_in_both_orders(rt: HostRuntime) -> Result<(), Fail> {
     let alloc = rt.alloc();
@@ -46,7 +48,7 @@ fn one_packet_in_both_orders(rt: HostRuntime) -> Result<(), Fail> {
     Ok(())
 }
 
-/// Is the frame of the line short enough for a packet?
+/// Whether the frame of the line is short enough for a packet.
 fn is_short(line: &Line) -> bool
     ensures { IsTrue result → IsShortLine line.now }
 {
@@ -56,14 +58,14 @@ fn is_short(line: &Line) -> bool
     }
 }
 
-/// Are those of all lines?
+/// Whether the frames of all lines are short enough.
 fn are_short(lines: &[Line]) -> bool
     ensures { IsTrue result → All IsShortLine lines.now }
 {
     lines.iter().all(|line| is_short(line))
 }
 
-/// The file of what a record delivers to the peer.
+/// Returns the capture file of what a record delivers to the peer.
 fn file_of<R: Abort>(rt: &R, alloc: Global, record: &[u8], peer: u32) -> Result<Vec<u8>, Fail> {
     let trace = record_text::parse(alloc, record)?;
     assert!(rt; peer < 2);
@@ -77,6 +79,7 @@ fn file_of<R: Abort>(rt: &R, alloc: Global, record: &[u8], peer: u32) -> Result<
 const UP_TO_THE_HISTORY: &[u8] =
     b"record 1\nivshm 1\npeers 2\ntable 4096\ncommon 0\nout 16384\nmtu 256\nirq msix 2\npeer 0 honest\npeer 1 honest\nbegin\nend\n";
 
+// claim frame_capture.captured.capture
 #[test]
 fn what_a_history_delivers(rt: HostRuntime) -> Result<(), Fail> {
     let alloc = rt.alloc();
@@ -100,6 +103,7 @@ fn what_a_history_delivers(rt: HostRuntime) -> Result<(), Fail> {
     Ok(())
 }
 
+// claim frame_capture.captured.capture
 #[test]
 fn lines_above_a_million_have_seconds(rt: HostRuntime) -> Result<(), Fail> {
     let alloc = rt.alloc();
@@ -116,7 +120,7 @@ fn lines_above_a_million_have_seconds(rt: HostRuntime) -> Result<(), Fail> {
     Ok(())
 }
 
-/// A capture of so many frames of so many bytes.
+/// Returns a capture of `count` frames of `size` bytes.
 fn many(alloc: Global, count: u32, size: u32) -> Result<Capture, Fail> {
     let bytes = vec![in alloc; 0u8; size as usize]?;
     let mut packets = Packets::new(alloc);
@@ -134,10 +138,12 @@ fn many(alloc: Global, count: u32, size: u32) -> Result<Capture, Fail> {
     })
 }
 
+// claim frame_capture.scenario_of.made
 #[test]
 fn frames_give_rounds_and_acts_have_a_limit(rt: HostRuntime) -> Result<(), Fail> {
     let alloc = rt.alloc();
-    // so many frames of this size are offered in so many acts, and one frame more is too much
+    // the size of the frames, the most that fit into a scenario, and the number of its acts; one
+    // frame more is too much
     for (size, most, acts) in [
         (14, 16_365, 3_998_367),
         (1_514, 1_992, 3_999_994),

@@ -30,6 +30,8 @@ fn two_thousand_rows(rt: HostRuntime) -> Result<(), Fail> {
     Ok(())
 }
 
+// claim record_chart.rows_of.rows
+// claim record_chart.deliveries_have_their_arrows
 #[test]
 fn laws_of_pictures() {
     rows_are_the_lines();

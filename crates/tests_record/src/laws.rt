@@ -1,4 +1,4 @@
-//! Each law may be called: none of them asks anything of its caller.
+//! Each law may be called: none has a condition for its caller.
 use history_laws::{
     accepted_frames_stand_in_the_section, calls_end_within_bounds, delivered_frames_are_read,
     delivered_frames_are_spelled, device_acts_change_nothing, done_polls_deliver_all,
@@ -7,6 +7,24 @@ use history_laws::{
     sessions_are_numbered, values_out_of_range_are_refused, wakes_are_rung,
 };
 
+// claim call_grammar.fields_are_read_once
+// claim history_laws.refused_values_are_read
+// claim history_laws.histories_deliver
+// claim history_laws.honest_peers_never_refuse
+// claim history_laws.histories_run_the_machine
+// claim history_laws.done_polls_deliver_all
+// claim history_laws.refused_values_are_out_of_range
+// claim history_laws.refused_peers_rest
+// claim history_laws.values_out_of_range_are_refused
+// claim history_laws.accepted_frames_stand_in_the_section
+// claim history_laws.delivered_frames_are_read
+// claim history_laws.delivered_frames_are_spelled
+// claim history_laws.indexes_are_read_once
+// claim history_laws.resets_are_quiet
+// claim history_laws.calls_end_within_bounds
+// claim history_laws.sessions_are_numbered
+// claim history_laws.device_acts_change_nothing
+// claim history_laws.wakes_are_rung
 #[test]
 fn laws_of_histories() {
     histories_run_the_machine();

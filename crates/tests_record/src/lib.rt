@@ -1,4 +1,5 @@
-//! Tests of what plays a schedule, judges a record, or draws from one, in a crate of their own, so that the crates that they test are proved once.
+//! Tests of the crates that play a schedule, judge a record, or draw a picture of one. They are in
+//! a crate of their own, so that the crates that they test are proved once.
 #![tactic(auto)]
 
 #[cfg(test)]

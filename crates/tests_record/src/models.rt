@@ -1,4 +1,4 @@
-//! Two peers, of which peer 0 ticks twice, and its history line by line.
+//! Two peers, of which peer 0 ticks twice, and their history line by line.
 ghost use Rattle.std.specs.Prelude.{◌≡◌, OnOk};
 
 use link_model::{Law, Line, Run, StepFault, Unlawful};
@@ -9,7 +9,7 @@ use std::test::Fail;
 const SCENARIO: &[u8] =
     b"ivshm 1\npeers 2\ntable 4096\ncommon 0\nout 16384\nmtu 256\nirq msix 2\npeer 0 honest\npeer 1 honest\nbegin\ntick 0\nturn 0 2\ntick 0\nturn 0 3\nend\n";
 
-/// The nine lines of its history.
+/// Returns the nine lines of this history.
 fn lines(alloc: Global) -> Result<Vec<Line>, Fail> {
     let mut lines = Vec::new(alloc);
     for state in [0, 1] {
@@ -33,7 +33,7 @@ fn unlawful(line: u64, law: Law) -> Unlawful {
     Unlawful { line, law }
 }
 
-/// Hands these lines to the run.
+/// Passes these lines to the run.
 fn take(run: &mut Run, lines: &[Line]) -> Result<(), StepFault>
     ensures { OnOk result (run.new.fault ≡ run.old.fault) }
 {
@@ -43,6 +43,8 @@ fn take(run: &mut Run, lines: &[Line]) -> Result<(), StepFault>
     Ok(())
 }
 
+// claim link_model.Run.step.taken
+// claim link_model.Run.close.whole
 #[test]
 fn a_whole_history(rt: HostRuntime) -> Result<(), Fail> {
     let alloc = rt.alloc();
@@ -57,6 +59,9 @@ fn a_whole_history(rt: HostRuntime) -> Result<(), Fail> {
     Ok(())
 }
 
+// claim link_model.Run.step.cause
+// claim link_model.Run.close.whole
+// claim link_model.Run.step.taken
 #[test]
 fn a_history_that_is_cut(rt: HostRuntime) -> Result<(), Fail> {
     let alloc = rt.alloc();
@@ -68,6 +73,8 @@ fn a_history_that_is_cut(rt: HostRuntime) -> Result<(), Fail> {
     Ok(())
 }
 
+// claim link_model.Run.step.cause
+// claim link_model.Run.step.again
 #[test]
 fn a_fault_stays(rt: HostRuntime) -> Result<(), Fail> {
     let alloc = rt.alloc();
@@ -80,5 +87,32 @@ fn a_fault_stays(rt: HostRuntime) -> Result<(), Fail> {
     assert!(rt; run.step(&wrong) == Err(StepFault::Unlawful(fault)));
     assert!(rt; run.step(&right) == Err(StepFault::Unlawful(fault)));
     assert!(rt; run.close() == Err(fault));
+    Ok(())
+}
+
+/// A struct without a lifetime that owns a run.
+#[derive(Drop)]
+struct Keeper {
+    run: Run,
+}
+
+/// Returns a run that outlives the scenario that it was made of.
+fn kept_run(alloc: Global) -> Result<Keeper, Fail> {
+    let scenario = parse(alloc, SCENARIO)?;
+    let run = Run::new(alloc, &scenario, 1)?;
+    Ok(Keeper { run })
+}
+
+#[test]
+fn a_step_is_a_function_pointer(rt: HostRuntime) -> Result<(), Fail> {
+    let alloc = rt.alloc();
+    let mut keeper = kept_run(alloc)?;
+    let step: fn(&mut Run, &Line) -> Result<(), StepFault> = Run::step;
+    for line in lines(alloc)?.as_slice() {
+        step(&mut keeper.run, line)?;
+    }
+    let surplus = Line::Idle { peer: 0 };
+    let fault = unlawful(10, Law::Order);
+    assert!(rt; step(&mut keeper.run, &surplus) == Err(StepFault::Unlawful(fault)));
     Ok(())
 }

@@ -7,7 +7,7 @@ use std::alloc::Global;
 use std::process::Abort;
 use std::test::Fail;
 
-/// Are these the same marks in the same order?
+/// Whether the marks are equal and in the same order.
 fn same_marks(marks: &[Mark], others: &[Mark]) -> bool {
     marks.len() == others.len() && marks.iter().zip(others).all(|(mark, other)| mark.is(other))
 }
@@ -15,15 +15,16 @@ fn same_marks(marks: &[Mark], others: &[Mark]) -> bool {
 /// The frame of 14 bytes.
 const FRAME: [u8; 14] = [255, 255, 255, 255, 255, 255, 2, 0, 0, 0, 0, 1, 8, 0];
 
-/// A line without its peer. Accesses: `r` read, `w` write, `s` State, `d` doorbell, `-` none. Marks: `v` saw, `c` reclaim,
-/// `l` look, `f` full, `a` accept, `g` deliver, `t` return, `k` done, `n` down, `x` refuse (the field by its place), `o` over.
+/// A line without its peer. Accesses: `r` read, `w` write, `s` State, `d` doorbell, `-` none.
+/// Marks: `v` saw, `c` reclaim, `l` look, `f` full, `a` accept, `g` deliver, `t` return, `k` done,
+/// `n` down, `x` refuse (the field by its number), `o` over.
 type Line = (char, u32, u64);
 
 fn small(value: u64) -> u32 {
     u32::try_from(value).unwrap_or(0)
 }
 
-/// The frame, or another one.
+/// Returns the frame, or another one.
 fn frame(alloc: Global, other: u32) -> Result<Frame, Fail> {
     if other == 0 {
         Ok(Frame::of(alloc, &FRAME)?)
@@ -64,7 +65,7 @@ fn mark_of(alloc: Global, line: Line) -> Result<Mark, Fail> {
     })
 }
 
-/// The steps of these lines: an access begins one, and the marks after it are its own.
+/// Returns the steps of these lines: an access begins a step, and the marks after it belong to it.
 fn steps_of(alloc: Global, lines: &[Line]) -> Result<Vec<Step>, Fail> {
     let mut steps: Vec<Step> = Vec::new(alloc);
     for line in lines {
@@ -95,7 +96,7 @@ fn steps_of(alloc: Global, lines: &[Line]) -> Result<Vec<Step>, Fail> {
     Ok(steps)
 }
 
-/// The line with its first number changed, or another mark.
+/// Returns the line with its first number changed, or another mark.
 fn changed(line: Line) -> Line {
     match line.0 {
         'f' | 't' | 'k' | 'n' | '-' => ('o', 0, 0),
@@ -104,7 +105,8 @@ fn changed(line: Line) -> Line {
     }
 }
 
-/// Peer 0 or peer 1 of a link with sections of 16,384 bytes and an MTU of 256, of which so many words are cleared.
+/// Returns the configuration of peer 0 or peer 1 of a link with sections of 16,384 bytes and an MTU
+/// of 256. `words` words of the section are cleared.
 fn config(me: u32, words: u32) -> Result<EndConfig, Fail> {
     let (other, own, theirs) = if me == 0 {
         (1, 1024, 5120)
@@ -122,14 +124,15 @@ fn config(me: u32, words: u32) -> Result<EndConfig, Fail> {
     })
 }
 
-/// The same peer of a link with events.
+/// Returns the configuration of the same peer in a link with events.
 fn event_who(me: u32) -> Result<EndConfig, Fail> {
     let mut config = config(me, 4096)?;
     config.queue = Queue::of_version(2, 16_384, 256)?;
     Ok(config)
 }
 
-/// An end in this phase, which accepted so many frames. Where frames have slots it doesn't matter how long they are.
+/// Returns an end in this phase that accepted `accepted` frames. For frames in slots their lengths
+/// don't matter.
 fn end(alloc: Global, phase: Phase, accepted: u32) -> End {
     let mut handshake = Handshake::new();
     handshake.enter(phase);
@@ -144,7 +147,7 @@ fn end(alloc: Global, phase: Phase, accepted: u32) -> End {
     }
 }
 
-/// An open call goes along these steps to its end.
+/// Checks that an open call makes these steps to its end.
 fn goes_along(
     rt: &impl Abort,
     alloc: Global,
@@ -164,7 +167,8 @@ fn goes_along(
     Ok(())
 }
 
-/// The lines are the call, step for step, and with any of them changed they aren't.
+/// Checks that the lines are the call, step for step, and that they aren't if any of them is
+/// changed.
 fn check(
     rt: &impl Abort,
     alloc: Global,
@@ -204,14 +208,15 @@ fn check(
     Ok(())
 }
 
-/// The same peer of a link with a ring of bytes, in which a frame may be as long as the ring.
+/// Returns the configuration of the same peer in a link with a byte ring, in which a frame may have
+/// the length of the ring.
 fn byte_who(me: u32) -> Result<EndConfig, Fail> {
     let mut config = config(me, 4096)?;
     config.queue = Queue::of_version(3, 16_384, 14_574)?;
     Ok(config)
 }
 
-/// An end in RUN, which accepted frames of these lengths and freed so many.
+/// Returns an end in RUN that accepted frames of these lengths and freed `freed` of them.
 fn end_of(alloc: Global, lengths: &[u64], freed: u32) -> Result<End, Fail> {
     let mut end = end(alloc, Phase::Run, 0);
     end.accepted = small(lengths.len() as u64);
@@ -220,7 +225,7 @@ fn end_of(alloc: Global, lengths: &[u64], freed: u32) -> Result<End, Fail> {
     Ok(end)
 }
 
-/// The lines of an offer's frame, to the descriptor's last word.
+/// The lines of an offer's frame, up to the descriptor's last word.
 const WRITES: [Line; 8] = [
     ('w', 1472, 4_294_967_295),
     ('w', 1473, 196_607),
@@ -232,6 +237,7 @@ const WRITES: [Line; 8] = [
     ('w', 1027, 0),
 ];
 
+// claim reference_calls.is_call
 #[test]
 fn shortest_handshake_and_stop(rt: HostRuntime) -> Result<(), Fail> {
     let alloc = rt.alloc();
@@ -274,6 +280,7 @@ fn shortest_handshake_and_stop(rt: HostRuntime) -> Result<(), Fail> {
     Ok(())
 }
 
+// claim reference_calls.is_call
 #[test]
 fn offers(rt: HostRuntime) -> Result<(), Fail> {
     let alloc = rt.alloc();
@@ -320,7 +327,8 @@ fn offers(rt: HostRuntime) -> Result<(), Fail> {
     Ok(())
 }
 
-/// The lines of an offer of frame 65,535, when all before it were freed: by descriptor 15 and entry 63.
+/// The lines of an offer of frame 65,535, after all frames before it were freed: with descriptor 15
+/// and entry 63.
 const LAST_WRITES: [Line; 13] = [
     ('r', 5424, 4_294_901_760),
     ('c', 0, 0),
@@ -337,7 +345,10 @@ const LAST_WRITES: [Line; 13] = [
     ('a', 0, 0),
 ];
 
-/// An offer of the first frame and of frame 65,535 hears the event in the low half of its word, and rings where that is the frame's.
+/// An offer of the first frame and of frame 65,535 reads the event index in the low half of its
+/// word, and rings if that is the frame's index.
+// claim reference_calls.is_call
+// claim reference_history.is_lawful.lawful
 #[test]
 fn event_asked(rt: HostRuntime) -> Result<(), Fail> {
     let alloc = rt.alloc();
@@ -375,7 +386,8 @@ fn event_asked(rt: HostRuntime) -> Result<(), Fail> {
     Ok(())
 }
 
-/// The lines of an offer by an end that freed 45 frames: it starts at this byte, by this number; or it is full, where the byte is 0.
+/// Returns the lines of an offer by an end that freed 45 frames. The frame starts at byte `start`
+/// and has number `number`; if the byte is 0, the ring is full.
 fn offered_at(alloc: Global, start: u32, number: u32) -> Result<Vec<Line>, Fail> {
     let mut lines: Vec<Line> = Vec::from_slice(alloc, &[('r', 5424, 2_949_120), ('c', 0, 0)])?;
     if start == 0 {
@@ -410,27 +422,30 @@ fn offered_at(alloc: Global, start: u32, number: u32) -> Result<Vec<Line>, Fail>
     Ok(lines)
 }
 
-/// An offer of 14 bytes in a ring of bytes, where 45 frames were freed: where it starts after the last frame, and whether it has room. The ring
-/// has 14,592 bytes, which are 228 blocks.
+/// An offer of 14 bytes in a byte ring after 45 frames were freed: its start after the last frame,
+/// and whether it fits. The ring has 14,592 bytes, which are 228 blocks.
+// claim reference_calls.is_call
 #[test]
 fn bytes_in_flight(rt: HostRuntime) -> Result<(), Fail> {
     let alloc = rt.alloc();
     let config = byte_who(0)?;
     let call = Call::Offer(frame(alloc, 0)?);
     let freed: [u64; 45] = [274; 45];
-    // How long the frames in flight are, and where the offered one starts; 0 where it is full.
+    // The lengths of the frames in flight, and the start of the offered frame, or 0 if the ring is
+    // full.
     let rows: [(&[u64], u32); 10] = [
-        // behind the 225 blocks of those that were freed
+        // after the 225 blocks of the freed frames
         (&[], 16_192),
         (&[14], 16_256),
         (&[64, 64], 16_320),
         (&[65], 16_320),
-        // from the first byte on, behind a frame that ends with the ring, and behind one that wouldn't have ended inside it
+        // at the first byte, after a frame that ends with the ring, and after one that would have
+        // ended beyond it
         (&[64, 64, 64], 1792),
         (&[192], 1792),
         (&[193], 2048),
         (&[14, 274, 1], 2176),
-        // in the last block before the oldest frame in flight, and where there is none
+        // in the last block before the oldest frame in flight, and without a free block
         (&[14, 64, 64, 14_336], 16_128),
         (&[14, 64, 64, 14_400], 0),
     ];
@@ -444,7 +459,8 @@ fn bytes_in_flight(rt: HostRuntime) -> Result<(), Fail> {
     Ok(())
 }
 
-/// As many frames of 14 bytes are in flight as there are descriptors, and one fewer.
+/// In flight are as many frames of 14 bytes as there are descriptors, and one fewer.
+// claim reference_calls.is_call
 #[test]
 fn descriptors_in_flight(rt: HostRuntime) -> Result<(), Fail> {
     let alloc = rt.alloc();
@@ -482,6 +498,7 @@ fn descriptors_in_flight(rt: HostRuntime) -> Result<(), Fail> {
     Ok(())
 }
 
+// claim reference_calls.is_call
 #[test]
 fn polls(rt: HostRuntime) -> Result<(), Fail> {
     let alloc = rt.alloc();
@@ -523,7 +540,7 @@ fn polls(rt: HostRuntime) -> Result<(), Fail> {
         ('r', 5122, 14),
         ('r', 5123, 0),
     ];
-    // How many of those lines stay, the read that is refused, and its mark.
+    // The number of those lines that don't change, the read that is refused, and its mark.
     let rows: [(usize, Line, Line); 9] = [
         (0, ('r', 5376, 4_259_840), ('x', 0, 65)),
         (2, ('r', 5377, 64), ('x', 1, 64)),
@@ -554,7 +571,10 @@ fn polls(rt: HostRuntime) -> Result<(), Fail> {
     Ok(())
 }
 
-/// A poll that finds nothing writes the event and looks again: where it finds nothing, a frame, and an index out of range.
+/// A poll that finds nothing writes its event index and looks again. The second look finds nothing,
+/// a frame, or an index out of range.
+// claim reference_calls.is_call
+// claim reference_history.is_lawful.lawful
 #[test]
 fn offer_between_the_looks(rt: HostRuntime) -> Result<(), Fail> {
     let alloc = rt.alloc();
@@ -627,7 +647,9 @@ fn offer_between_the_looks(rt: HostRuntime) -> Result<(), Fail> {
     Ok(())
 }
 
-/// Once a look found nothing the next poll is over at its first one.
+/// After a look that found nothing, the next poll ends at its first look.
+// claim reference_calls.is_call
+// claim reference_history.is_lawful.lawful
 #[test]
 fn armed_poll_stays_quiet(rt: HostRuntime) -> Result<(), Fail> {
     let alloc = rt.alloc();
@@ -642,7 +664,8 @@ fn armed_poll_stays_quiet(rt: HostRuntime) -> Result<(), Fail> {
     Ok(())
 }
 
-/// An end keeps whether its last look found nothing, until its next session.
+/// An end stores whether its last look found nothing, until its next session.
+// claim reference_calls.End.follow.seen
 #[test]
 fn an_end_keeps_its_last_look(rt: HostRuntime) -> Result<(), Fail> {
     let alloc = rt.alloc();
@@ -669,12 +692,13 @@ fn an_end_keeps_its_last_look(rt: HostRuntime) -> Result<(), Fail> {
     Ok(())
 }
 
-/// What an end wrote last to a word, or 0.
+/// Returns the last value that an end wrote to a word, or 0.
 fn written(end: &End, word: u32) -> u32 {
     let last = end.stores.iter().find(|store| store.word == word);
     last.map_or(0, |store| store.value)
 }
 
+// claim reference_calls.End.follow.seen
 #[test]
 fn an_end_follows_its_steps(rt: HostRuntime) -> Result<(), Fail> {
     let alloc = rt.alloc();
@@ -697,7 +721,8 @@ fn an_end_follows_its_steps(rt: HostRuntime) -> Result<(), Fail> {
     Ok(())
 }
 
-/// An end keeps how long the frames are that it accepted, until its next session.
+/// An end stores the lengths of the frames that it accepted, until its next session.
+// claim reference_calls.End.follow.seen
 #[test]
 fn an_end_keeps_the_lengths_of_its_session(rt: HostRuntime) -> Result<(), Fail> {
     let alloc = rt.alloc();
@@ -720,7 +745,8 @@ fn an_end_keeps_the_lengths_of_its_session(rt: HostRuntime) -> Result<(), Fail> 
     Ok(())
 }
 
-/// Which section the worked examples stand on, and which frames it has no room for: a slot is the MTU and 18 bytes, at a multiple of 64.
+/// The section of the worked examples, and the frames that don't fit: a slot has the MTU and 18
+/// bytes, rounded up to a multiple of 64.
 #[test]
 fn sections_of_the_worked_examples(rt: HostRuntime) {
     let example = Queue::of(16_384, 256).expect(&rt, "a queue");

@@ -1,4 +1,4 @@
-//! Whole calls of an end, and the choices of an automatic peer.
+//! Whole calls of an end, and the choices of an automatic end.
 ghost use Rattle.std.specs.Prelude.{◌≡◌, ◌≤◌, false, IfOk};
 ghost use Rattle.link_endpoint.specs.Engine.{is_busy};
 
@@ -13,14 +13,16 @@ use std::alloc::Global;
 use std::process::Abort;
 use std::test::Fail;
 
-/// The words of a region with a table of 1,024 words, no common section, and two sections of 4,096 words.
+/// The number of words of a region with a State Table of 1,024 words, no common section, and two
+/// sections of 4,096 words.
 const WORDS: usize = 9_216;
 
 const FRAME: [u8; 14] = [
     0xff, 0xff, 0xff, 0xff, 0xff, 0xff, 0x02, 0, 0, 0, 0, 0x01, 0x08, 0,
 ];
 
-/// One step of the open call of peer `me` on these words: its access, the value that a read gives, and its notes.
+/// Makes one step of the open call of peer `me` on these words: its access, the value that a read
+/// returns, and its notes.
 fn step(
     rt: &impl Abort,
     words: &mut [u32],
@@ -53,7 +55,8 @@ fn step(
     assert!(rt; end.took(read).as_slice() == notes);
 }
 
-/// A tick that reads this value and sets this state, over a section that begins at word `clears` where it clears one.
+/// Makes a tick that reads `value` and sets `state`. It clears the section that begins at word
+/// `clears`, if there is one.
 fn tick(
     rt: &impl Abort,
     words: &mut [u32],
@@ -78,7 +81,8 @@ fn tick(
     assert!(rt; !end.busy());
 }
 
-/// The end of this peer in the region of the worked examples: sections of 16,384 bytes, an MTU of 256, and the vector 1.
+/// Returns the end of peer `me` in the region of the worked examples: sections of 16,384 bytes, an
+/// MTU of 256, and vector 1.
 fn example(rt: &impl Abort, alloc: Global, me: u32) -> Result<Endpoint, Fail>
     requires { me ≤ 1 }
     ensures { IfOk result (λ e. is_busy e ≡ false) }
@@ -89,6 +93,11 @@ fn example(rt: &impl Abort, alloc: Global, me: u32) -> Result<Endpoint, Fail>
     Ok(Endpoint::new(alloc, me, &geometry, &queue, 1)?)
 }
 
+// claim link_endpoint.Endpoint.new.value
+// claim link_endpoint.Endpoint.next.access
+// claim link_endpoint.Endpoint.took.steps
+// claim link_endpoint.Endpoint.begin.refines
+// claim link_endpoint.Endpoint.phase.value
 #[test]
 fn handshake_and_one_frame(rt: HostRuntime) -> Result<(), Fail> {
     let mut words = vec![in rt.alloc(); 0; WORDS]?;
@@ -206,7 +215,7 @@ fn handshake_and_one_frame(rt: HostRuntime) -> Result<(), Fail> {
     Ok(())
 }
 
-/// Some writes of the open call at once: the first access, and the bytes of the words.
+/// Makes writes of the open call at once: the first access, and the bytes of the words.
 fn writes(rt: &impl Abort, end: &mut Endpoint, access: Access, bytes: &[u8]) {
     let mut room = [0xee; 16];
     assert!(rt; end.busy());
@@ -221,7 +230,8 @@ fn writes(rt: &impl Abort, end: &mut Endpoint, access: Access, bytes: &[u8]) {
     end.took_writes(count);
 }
 
-/// Some reads of the open call at once: their first access, the bytes that they give, and the notes of the last.
+/// Makes reads of the open call at once: the first access, the bytes read, and the notes of the
+/// last read.
 fn reads(rt: &impl Abort, end: &mut Endpoint, access: Access, bytes: &[u8], notes: &[Note]) {
     assert!(rt; end.busy());
     assert_eq!(rt; end.next(), access);
@@ -231,7 +241,7 @@ fn reads(rt: &impl Abort, end: &mut Endpoint, access: Access, bytes: &[u8], note
     assert!(rt; end.took_reads(bytes).as_slice() == notes);
 }
 
-/// This order, with or without a fence after the access.
+/// Returns this order, with or without a fence after the access.
 fn order_of(order: Order, fence_after: bool) -> Ordering {
     Ordering {
         order,
@@ -240,7 +250,7 @@ fn order_of(order: Order, fence_after: bool) -> Ordering {
     }
 }
 
-/// The same end in a link with events.
+/// Returns the same end in a link with events.
 fn with_events(rt: &impl Abort, alloc: Global, me: u32) -> Result<Endpoint, Fail>
     requires { me ≤ 1 }
     ensures { IfOk result (λ e. is_busy e ≡ false) }
@@ -251,7 +261,7 @@ fn with_events(rt: &impl Abort, alloc: Global, me: u32) -> Result<Endpoint, Fail
     Ok(Endpoint::new(alloc, me, &geometry, &queue, 1)?)
 }
 
-/// No order, with or without a fence before and after the access.
+/// Returns the relaxed order, with or without a fence before and after the access.
 fn fenced(fence_before: bool, fence_after: bool) -> Ordering {
     Ordering {
         order: Order::Relaxed,
@@ -260,6 +270,10 @@ fn fenced(fence_before: bool, fence_after: bool) -> Ordering {
     }
 }
 
+// claim tx_engine.Tx.next.access
+// claim rx_engine.Rx.begin.refines
+// claim link_endpoint.Endpoint.offer_again.refines
+// claim link_endpoint.Endpoint.offer.frame
 #[test]
 fn an_asked_doorbell(rt: HostRuntime) -> Result<(), Fail> {
     let mut words = vec![in rt.alloc(); 0; WORDS]?;
@@ -275,7 +289,7 @@ fn an_asked_doorbell(rt: HostRuntime) -> Result<(), Fail> {
     let index = Access::Read(1_280);
     let quiet = [Note::Look(0), Note::Done];
 
-    // The poll finds nothing, writes its event, and looks again.
+    // The poll finds nothing, writes its event index, and looks again.
     assert!(rt; !second.busy());
     second.begin(Call::Poll);
     let none = [Note::Look(0)];
@@ -284,12 +298,12 @@ fn an_asked_doorbell(rt: HostRuntime) -> Result<(), Fail> {
     assert_eq!(rt; second.order(), fenced(false, true));
     step(&rt, words, &mut second, 1, Access::Write(5_553, 0), 0, &[]);
     step(&rt, words, &mut second, 1, index, 0, &quiet);
-    // The next one finds the event written.
+    // The next poll finds the event index written.
     assert!(rt; !second.busy());
     second.begin(Call::Poll);
     step(&rt, words, &mut second, 1, index, 0, &quiet);
 
-    // The first frame is asked for, and the second one isn't.
+    // The doorbell of the first frame is wanted, and that of the second one isn't.
     assert!(rt; !first.busy());
     first.offer(&FRAME);
     let found = [Note::Reclaim(0)];
@@ -334,6 +348,8 @@ fn an_asked_doorbell(rt: HostRuntime) -> Result<(), Fail> {
     Ok(())
 }
 
+// claim link_endpoint.Endpoint.took_reads.steps
+// claim link_endpoint.Endpoint.order
 #[test]
 fn one_frame_at_once(rt: HostRuntime) -> Result<(), Fail> {
     let mut words = vec![in rt.alloc(); 0; WORDS]?;
@@ -381,7 +397,7 @@ fn one_frame_at_once(rt: HostRuntime) -> Result<(), Fail> {
     assert_eq!(rt; second.order(), order_of(Order::Acquire, false));
     step(&rt, words, &mut second, 1, index, 65_536, &[Note::Look(1)]);
     assert_eq!(rt; second.order(), order_of(Order::Relaxed, false));
-    // the copies above went to no memory
+    // the copies above were written to no memory
     assert!(rt; words.len() == WORDS);
     words[1_024] = 1_792;
     words[1_026] = 14;
@@ -407,7 +423,7 @@ fn one_frame_at_once(rt: HostRuntime) -> Result<(), Fail> {
     Ok(())
 }
 
-/// All that the open offer writes before its index, at once: where it goes, and its bytes.
+/// Makes all writes of the open offer before its index at once: their words and their bytes.
 fn at_once(rt: &impl Abort, end: &mut Endpoint, told: Bursts, bytes: &[u8]) {
     let mut room = [0xee; 36];
     let Some(bursts) = end.bursts() else {
@@ -428,7 +444,8 @@ fn at_once(rt: &impl Abort, end: &mut Endpoint, told: Bursts, bytes: &[u8]) {
     assert!(rt; end.bursts().is_none());
 }
 
-/// Where the words of a frame, of its descriptor and of its entry go: so many are left of the frame.
+/// Returns the bursts of a frame, its descriptor and its entry. `count` words of the frame are
+/// left.
 fn bursts_from(frame: u32, count: u32, descriptor: u32) -> Bursts {
     Bursts {
         frame: Burst { word: frame, count },
@@ -443,6 +460,8 @@ fn bursts_from(frame: u32, count: u32, descriptor: u32) -> Bursts {
     }
 }
 
+// claim tx_engine.Tx.bursts
+// claim link_endpoint.Endpoint.bursts
 #[test]
 fn all_before_the_index(rt: HostRuntime) -> Result<(), Fail> {
     let mut words = vec![in rt.alloc(); 0; WORDS]?;
@@ -460,7 +479,7 @@ fn all_before_the_index(rt: HostRuntime) -> Result<(), Fail> {
         vector: 1,
     };
 
-    // The first word of the frame goes by itself.
+    // The first word of the frame is written by itself.
     assert!(rt; !first.busy());
     first.offer(&FRAME);
     assert!(rt; first.bursts().is_none());
@@ -476,7 +495,7 @@ fn all_before_the_index(rt: HostRuntime) -> Result<(), Fail> {
     step(&rt, words, &mut first, 0, index, 0, &[Note::Accept]);
     step(&rt, words, &mut first, 0, ring, 0, &[Note::Over]);
 
-    // The entry of the second frame stands beside that of the first.
+    // The entry of the second frame is in the same word as that of the first.
     assert!(rt; !first.busy());
     first.offer(&[8; 14]);
     step(&rt, words, &mut first, 0, Access::Read(5_424), 0, &found);
@@ -490,6 +509,8 @@ fn all_before_the_index(rt: HostRuntime) -> Result<(), Fail> {
     Ok(())
 }
 
+// claim link_endpoint.Endpoint.new.value
+// claim link_endpoint.Endpoint.took.refuses
 #[test]
 fn refusal_lasts_until_the_reset(rt: HostRuntime) -> Result<(), Fail> {
     let mut words = vec![in rt.alloc(); 0; WORDS]?;
@@ -547,12 +568,14 @@ fn refusal_lasts_until_the_reset(rt: HostRuntime) -> Result<(), Fail> {
     Ok(())
 }
 
+// claim link_endpoint.Auto.choose.choice
+// claim link_endpoint.Auto.add.added
 #[test]
 fn automatic_peer(rt: HostRuntime) -> Result<(), Fail> {
     let mut auto = Auto::new(rt.alloc(), 1);
     auto.add(Frame::of(rt.alloc(), &FRAME)?)?;
     assert!(rt; auto.choose(Phase::Reset) == Choice::Tick);
-    // the first offer meets a full ring
+    // the first offer finds a full ring
     for choice in [Choice::Offer, Choice::Poll, Choice::Tick, Choice::Offer] {
         assert!(rt; auto.choose(Phase::Run) == choice);
     }

@@ -2,7 +2,7 @@
 use link_handshake::{Handshake, Move, Phase};
 use std::process::Abort;
 
-// What an end does that reads these states of the other, one a tick: the states that it sets.
+// Takes one tick for each of these states of the other, and compares the states that the end sets.
 fn sets_in_turn(rt: &impl Abort, end: &mut Handshake, seen: [u32; 4], want: [Option<u32>; 4]) {
     for (value, want) in seen.into_iter().zip(want) {
         let set = match end.saw(value) {
@@ -20,6 +20,8 @@ fn sets_in_turn(rt: &impl Abort, end: &mut Handshake, seen: [u32; 4], want: [Opt
     }
 }
 
+// claim link_handshake.Handshake.saw
+// claim link_handshake.phases_in_step.skips_none
 #[test]
 fn handshakes(rt: HostRuntime) {
     let mut end = Handshake::new();
@@ -31,7 +33,7 @@ fn handshakes(rt: HostRuntime) {
         [Some(1), Some(2), Some(3), None],
     );
     assert!(rt; end.phase() == Phase::Run);
-    // the other end is reset and comes again
+    // the other end is reset and begins again
     sets_in_turn(
         &rt,
         &mut end,
@@ -49,6 +51,7 @@ fn handshakes(rt: HostRuntime) {
     );
 }
 
+// claim link_handshake.Handshake.refuse
 #[test]
 fn leaving_the_link(rt: HostRuntime) {
     let mut end = Handshake::new();

@@ -10,15 +10,16 @@ use std::process::Abort;
 use std::test::Fail;
 use tx_engine::{Tx, idle_engine_outlives_steps};
 
-/// A frame of the longest length, which takes 320 bytes.
+/// A frame of the longest length, whose footprint is 320 bytes.
 const LONG: [u8; 274] = [0; 274];
 
-/// A frame of 14 bytes, for everybody.
+/// A broadcast frame of 14 bytes.
 const FRAME: [u8; 14] = [
     0xff, 0xff, 0xff, 0xff, 0xff, 0xff, 0x02, 0x00, 0x00, 0x00, 0x00, 0x01, 0x08, 0x00,
 ];
 
-/// The sender of peer 0 in a region of two peers: sections of 16,384 bytes begin at the words 1,024 and 5,120.
+/// Returns the sender of peer 0 in a region of two peers, whose sections of 16,384 bytes begin at
+/// words 1,024 and 5,120.
 fn example(rt: &impl Abort, alloc: Global) -> Result<Tx, NoMemory>
     ensures { IfOk result (λ tx. tx.sizes.mtu ≡ 256) }
 {
@@ -26,7 +27,7 @@ fn example(rt: &impl Abort, alloc: Global) -> Result<Tx, NoMemory>
     Tx::new(alloc, &queue, 1_024, 5_120, 1, 1)
 }
 
-/// The same of a link of version 3, whose data area is a ring of 14,592 bytes.
+/// Returns the same for a link of version 3, whose data area is a byte ring of 14,592 bytes.
 fn example_ring(rt: &impl Abort, alloc: Global) -> Result<Tx, NoMemory>
     ensures { IfOk result (λ tx. tx.sizes.mtu ≡ 256) }
 {
@@ -63,7 +64,7 @@ fn publishes(rt: &impl Abort, tx: &mut Tx)
     }
 }
 
-/// Offers a frame that has room, and goes through all the steps, whose reads give 0.
+/// Offers a frame that fits, and makes all the steps. Their reads return 0.
 fn accepts(rt: &impl Abort, tx: &mut Tx, frame: &[u8])
     requires { IsFrame tx.old.sizes frame.now }
     ensures { tx.new.sizes ≡ tx.old.sizes }
@@ -77,6 +78,10 @@ fn accepts(rt: &impl Abort, tx: &mut Tx, frame: &[u8])
     assert!(rt; !tx.busy());
 }
 
+// claim tx_engine.Tx.new.value
+// claim tx_engine.Tx.begin.refines
+// claim tx_engine.Tx.next.access
+// claim tx_engine.Tx.took
 #[test]
 fn first_frame(rt: HostRuntime) -> Result<(), Fail> {
     let mut tx = example(&rt, rt.alloc())?;
@@ -112,6 +117,9 @@ fn first_frame(rt: HostRuntime) -> Result<(), Fail> {
     Ok(())
 }
 
+// claim tx_engine.Tx.next.access
+// claim tx_engine.Tx.took
+// claim reference_history.is_lawful.lawful
 #[test]
 fn full_ring(rt: HostRuntime) -> Result<(), Fail> {
     let mut tx = example(&rt, rt.alloc())?;
@@ -126,7 +134,7 @@ fn full_ring(rt: HostRuntime) -> Result<(), Fail> {
         0,
         &[Note::Reclaim(0), Note::Full],
     );
-    // Two frames come back, and the next one goes into the slot of the first.
+    // Two frames are returned, and the next one gets the slot of the first.
     offers(&rt, &mut tx, &FRAME);
     takes(
         &rt,
@@ -141,8 +149,10 @@ fn full_ring(rt: HostRuntime) -> Result<(), Fail> {
     Ok(())
 }
 
-/// After 45 long frames 192 bytes of the ring are left, and after a short one 128. When the first frame comes back, the next long one begins
-/// at its byte.
+/// After 45 long frames 192 bytes of the ring are free, and after a short one 128. When the first
+/// frame is returned, the next long one begins at its first byte.
+// claim tx_engine.Tx.took
+// claim tx_engine.Tx.busy.open
 #[test]
 fn full_bytes(rt: HostRuntime) -> Result<(), Fail> {
     let mut tx = example_ring(&rt, rt.alloc())?;
@@ -172,6 +182,7 @@ fn full_bytes(rt: HostRuntime) -> Result<(), Fail> {
     Ok(())
 }
 
+// claim reference_history.is_lawful.lawful
 #[test]
 fn hostile_returns(rt: HostRuntime) -> Result<(), Fail> {
     let mut tx = example(&rt, rt.alloc())?;

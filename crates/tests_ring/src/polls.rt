@@ -12,14 +12,15 @@ fn example(rt: &impl Abort) -> Queue {
     Queue::of(16_384, 256).expect(rt, "a queue")
 }
 
-/// One step of the open poll: its access, the value that it gives, and its notes.
+/// Makes one step of the open poll: its access, the value that it returns, and its notes.
 fn step(rt: &impl Abort, rx: &mut Rx, access: Access, value: u32, notes: &[Note]) {
     assert!(rt; rx.busy());
     assert_eq!(rt; rx.next(), access);
     assert!(rt; rx.took(value).as_slice() == notes);
 }
 
-/// Some reads of a frame's words at once: the first one's access, the bytes that they give, and the notes of the last.
+/// Makes reads of a frame's words at once: the first access, the bytes read, and the notes of the
+/// last read.
 fn reads(rt: &impl Abort, rx: &mut Rx, access: Access, bytes: &[u8], notes: &[Note]) {
     assert!(rt; rx.busy());
     assert_eq!(rt; rx.next(), access);
@@ -33,6 +34,14 @@ const FRAME: [u8; 14] = [
     0xff, 0xff, 0xff, 0xff, 0xff, 0xff, 0x02, 0, 0, 0, 0, 0x01, 0x08, 0,
 ];
 
+// claim rx_engine.Rx.new.value
+// claim rx_engine.Rx.begin.refines
+// claim rx_engine.Rx.next.access
+// claim rx_engine.Rx.took.steps
+// claim reference_history.is_lawful.lawful
+// claim section_dump.dump.image
+// claim section_dump.dump.listing
+// claim ivshm_cli.ivshm.cause
 #[test]
 fn one_frame(rt: HostRuntime) -> Result<(), Fail> {
     let queue = example(&rt);
@@ -87,7 +96,7 @@ fn one_frame(rt: HostRuntime) -> Result<(), Fail> {
     Ok(())
 }
 
-/// A poll of peer 0 whose reads give these values, the last of which it refuses.
+/// Makes a poll of peer 0 whose reads return these values. It refuses the last of them.
 fn refuses(rt: &impl Abort, rx: &mut Rx, values: &[u32], field: FieldName, value: u64) {
     assert!(rt; !rx.busy());
     rx.begin();
@@ -107,7 +116,8 @@ fn refuses(rt: &impl Abort, rx: &mut Rx, values: &[u32], field: FieldName, value
     assert!(rt; !rx.busy());
 }
 
-/// The frame of one offer, whose words are read in two pieces: the first two words, then the others.
+/// The frame of one offer, whose words are read in two parts: the first two words, then the others.
+// claim rx_engine.Rx.took_reads.steps
 #[test]
 fn a_frame_in_two_pieces(rt: HostRuntime) -> Result<(), Fail> {
     let queue = example(&rt);

@@ -1,4 +1,4 @@
-//! Layouts, ranges and faults of some sections.
+//! Layouts, ranges and faults of a few sections.
 ghost use Rattle.std.specs.Prelude.{◌≤◌, ◌^◌};
 
 use split_ring::steps::{Note, Notes};
@@ -18,6 +18,7 @@ fn refused(field: FieldName, value: u64) -> Refused {
     Refused { field, value }
 }
 
+// claim split_ring.Queue.of.queue
 #[test]
 fn geometry_and_queue(rt: HostRuntime) {
     assert_eq!(rt; Queue::of(16_384, 255).err(), Some(QueueFault::BadMtu(255)));
@@ -39,7 +40,7 @@ fn geometry_and_queue(rt: HostRuntime) {
         Queue::of(16_384, 65_536).err(),
         Some(QueueFault::BadMtu(65_536))
     );
-    // The MTU comes before the size, and the size before the slot.
+    // The MTU is checked before the size, and the size before the slot.
     assert_eq!(rt; Queue::of(0, 0).err(), Some(QueueFault::BadMtu(0)));
     assert_eq!(rt;
         Queue::of(4_096, 65_535).err(),
@@ -68,7 +69,8 @@ fn versions(rt: HostRuntime) {
     );
 }
 
-/// The queue size, the used ring's place, the ring part and the data area of a section.
+/// Compares the queue size, the used ring's offset, and the sizes of the rings and the data area of
+/// a section.
 fn layout_is(rt: &impl Abort, out: u64, mtu: u32, want: (u32, u32, u32, u32))
     requires { out ≤ 2 ^ 24 }
 {
@@ -82,6 +84,9 @@ fn layout_is(rt: &impl Abort, out: u64, mtu: u32, want: (u32, u32, u32, u32))
     assert_eq!(rt; queue.mtu(), mtu);
 }
 
+// claim split_ring.Queue.of.queue
+// claim split_ring.queue_size_is_greatest
+// claim split_ring.Queue.descriptor.place
 #[test]
 fn two_layouts(rt: HostRuntime) {
     layout_is(&rt, 16_384, 256, (64, 1_216, 1_792, 14_592));
@@ -96,6 +101,7 @@ fn slots_are(rt: &impl Abort, out: u64, mtu: u32, slot: u32, limit: u32)
     assert_eq!(rt; queue.limit(), limit);
 }
 
+// claim split_ring.Queue.descriptor.place
 #[test]
 fn slots_in_flight(rt: HostRuntime) {
     slots_are(&rt, 16_384, 256, 320, 45);
@@ -126,6 +132,7 @@ fn words_of_the_fields(rt: HostRuntime) {
     assert_eq!(rt; queue.payload(), 4 * 448);
 }
 
+// claim split_ring.Queue.check_avail.inside
 #[test]
 fn bounds_of_the_index_checks(rt: HostRuntime) {
     let queue = example(&rt);
@@ -148,6 +155,7 @@ fn bounds_of_the_index_checks(rt: HostRuntime) {
     assert_eq!(rt; queue.check_id(0, 7), Err(refused(FieldName::UsedId, 7)));
 }
 
+// claim split_ring.Queue.check_avail.inside
 #[test]
 fn bounds_of_the_descriptor_checks(rt: HostRuntime) {
     let queue = example(&rt);
@@ -171,6 +179,8 @@ fn bounds_of_the_descriptor_checks(rt: HostRuntime) {
     assert_eq!(rt; queue.check_flags(1), Err(refused(FieldName::DescFlags, 1)));
 }
 
+// claim split_ring.Queue.check_avail.inside
+// claim reference_history.is_lawful.lawful
 #[test]
 fn longest_frame(rt: HostRuntime) {
     let queue = Queue::of(520_192, 65_535).expect(&rt, "a queue");
@@ -181,6 +191,8 @@ fn longest_frame(rt: HostRuntime) {
     );
 }
 
+// claim split_ring.need_event
+// claim history_laws.wakes_are_rung
 #[test]
 fn events(rt: HostRuntime) {
     let table = [

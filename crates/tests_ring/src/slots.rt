@@ -1,4 +1,4 @@
-//! Descriptors, slots and the bytes of a ring as they go round.
+//! Descriptors, slots and the bytes of a ring in several rounds.
 ghost use Rattle.std.specs.Prelude.{◌≡◌, ◌+◌, ◌<◌, ◌≤◌, true};
 ghost use Rattle.frame_slots.specs.Allocator.{has_room_in, with_placed};
 
@@ -8,7 +8,8 @@ use frame_slots::{
 use split_ring::Queue;
 use std::process::Abort;
 
-/// The slot of descriptor `i` in a section of 16,384 bytes for an MTU of 256: slots of 320 bytes stand from byte 1,792 on.
+/// Returns the slot of descriptor `i` in a section of 16,384 bytes for an MTU of 256. Slots of 320
+/// bytes begin at byte 1,792.
 fn slot(i: u32) -> Option<Slot>
     requires { i < 45 }
 {
@@ -18,7 +19,7 @@ fn slot(i: u32) -> Option<Slot>
     })
 }
 
-/// Places a frame of `len` bytes at this byte of the section.
+/// Places a frame of `len` bytes, which must be at byte `address` of the section.
 fn places(rt: &impl Abort, slots: &mut Slots, len: u32, address: u32)
     requires least { 14 ≤ len }
     requires most { len ≤ slots.old.sizes.mtu + 18 }
@@ -29,7 +30,7 @@ fn places(rt: &impl Abort, slots: &mut Slots, len: u32, address: u32)
     assert_eq!(rt; slot.address, address);
 }
 
-/// Sees that a frame of `len` bytes has no room.
+/// Checks that a frame of `len` bytes doesn't fit.
 fn has_none(rt: &impl Abort, slots: &mut Slots, len: u32)
     requires least { 14 ≤ len }
     requires most { len ≤ slots.old.sizes.mtu + 18 }
@@ -40,6 +41,7 @@ fn has_none(rt: &impl Abort, slots: &mut Slots, len: u32)
     }
 }
 
+// claim frame_slots.Slots.place.taken
 #[test]
 fn descriptors_go_round(rt: HostRuntime) {
     let queue = Queue::of(16_384, 256).expect(&rt, "a queue");
@@ -66,7 +68,8 @@ fn descriptors_go_round(rt: HostRuntime) {
     allocator_refines_session();
 }
 
-/// Frames of 14 bytes take 64 bytes each: the area of 14,592 bytes has 228 of them from end to end.
+/// Frames of 14 bytes have a footprint of 64 bytes, so 228 of them fill the area of 14,592 bytes.
+// claim frame_slots.Slots.place.taken
 #[test]
 fn frames_go_round_the_ring(rt: HostRuntime) {
     let queue = Queue::of_version(3, 16_384, 256).expect(&rt, "a queue");
@@ -78,7 +81,9 @@ fn frames_go_round_the_ring(rt: HostRuntime) {
     }
 }
 
-/// Frames of 274 bytes take 320 bytes: after 45 of them 192 bytes are left, and after one of 14 bytes 128.
+/// Frames of 274 bytes have a footprint of 320 bytes: after 45 of them 192 bytes are free, and
+/// after one of 14 bytes 128.
+// claim frame_slots.Slots.place.taken
 #[test]
 fn ring_is_full(rt: HostRuntime) {
     let queue = Queue::of_version(3, 16_384, 256).expect(&rt, "a queue");
@@ -99,7 +104,8 @@ fn ring_is_full(rt: HostRuntime) {
     places(&rt, &mut slots, 14, 1_792);
 }
 
-/// A frame may be as long as the area.
+/// A frame may have the length of the area.
+// claim frame_slots.Slots.place.taken
 #[test]
 fn frame_fills_the_area(rt: HostRuntime) {
     let queue = Queue::of_version(3, 16_384, 14_574).expect(&rt, "a queue");

@@ -1,5 +1,6 @@
-//! Gates for tests: they hold running peers beside one another, or count what is called. A gate spins, for a bounded time, and lets other
-//! threads run as it does; where its spins are spent it opens for good, and says so.
+//! Gates for tests: they hold running peers next to each other, or count calls. A gate spins for a
+//! bounded time, and lets other threads run meanwhile. When its spins are used up it opens for
+//! good, and reports so.
 use peer_runner::Gate;
 use std::sync::atomic::{AtomicU64, Ordering};
 use std::thread::yield_now;
@@ -7,17 +8,18 @@ use std::thread::yield_now;
 /// The most spins of one call.
 const SPINS: u32 = 100_000_000;
 
-/// So many spins follow each other at once; then another thread runs between two of them, since the other peer may wait for this processor.
+/// The number of spins without a pause. After them another thread runs between two spins, since the
+/// other peer may wait for this processor.
 const SPINS_AT_ONCE: u32 = 100_000;
 
-/// Between two looks of a held call.
+/// Pauses between two looks of a held call.
 fn pause(spin: u32) {
     if spin >= SPINS_AT_ONCE {
         yield_now();
     }
 }
 
-/// The number of a peer that isn't one of the two.
+/// Returns the number of the other of two peers.
 fn other(peer: u32) -> u32 {
     if peer == 0 { 1 } else { 0 }
 }
@@ -50,8 +52,8 @@ impl Pair {
     }
 }
 
-/// Keeps two peers within so many turns of each other, until one has ended. With 0 they are in lockstep: none begins a turn before
-/// the other has come to it.
+/// Keeps two peers within `span` turns of each other, until one has ended. With a span of 0 they
+/// are in lockstep: neither begins a turn before the other has come to it.
 #[derive(Drop)]
 pub(crate) struct Near {
     span: u64,
@@ -70,7 +72,7 @@ impl Near {
         }
     }
 
-    /// The spins of a call were spent.
+    /// Whether a call used up its spins.
     pub(crate) fn is_spent(&self) -> bool {
         self.spent.load(Ordering::SeqCst) != 0
     }
@@ -94,7 +96,8 @@ impl Gate for Near {
     }
 }
 
-/// Holds the first call of each peer until the other has called too. Peers that run one after the other never pass it.
+/// Holds the first call of each of two peers until the other has called too. Peers that run one
+/// after the other use up its spins.
 #[derive(Drop)]
 pub(crate) struct Meeting {
     called: Pair,
@@ -109,7 +112,7 @@ impl Meeting {
         }
     }
 
-    /// Both peers have called, and no spins were spent.
+    /// Whether both peers have called, and no call used up its spins.
     pub(crate) fn was_passed(&self) -> bool {
         self.called.get(0) != 0 && self.called.get(1) != 0 && self.spent.load(Ordering::SeqCst) == 0
     }
@@ -133,7 +136,8 @@ impl Gate for Meeting {
     fn ended(&self, _peer: u32) {}
 }
 
-/// Holds the first call of each of so many peers until all have called. Peers that run one after the other never pass it.
+/// Holds the first call of each of `peers` peers until all have called. Peers that run one after
+/// the other use up its spins.
 #[derive(Drop)]
 pub(crate) struct Assembly {
     peers: u64,
@@ -150,7 +154,7 @@ impl Assembly {
         }
     }
 
-    /// All peers have called, and no spins were spent.
+    /// Whether all peers have called, and no call used up its spins.
     pub(crate) fn was_passed(&self) -> bool {
         self.called.load(Ordering::SeqCst) >= self.peers && self.spent.load(Ordering::SeqCst) == 0
     }
@@ -176,7 +180,8 @@ impl Gate for Assembly {
     fn ended(&self, _peer: u32) {}
 }
 
-/// Holds the first call of each of so many peers until all have called, and then peers 0 and 1 near each other.
+/// Holds the first call of each peer until all have called, and then keeps peers 0 and 1 near each
+/// other.
 #[derive(Drop)]
 pub(crate) struct NearAssembly {
     pub(crate) assembly: Assembly,
@@ -207,8 +212,9 @@ impl Gate for NearAssembly {
     }
 }
 
-/// Counts the calls of two peers, and those that come out of turn: another number than the next one, or a call after the end. It holds
-/// the peers near each other, so that neither spends its turns before the other has begun.
+/// Counts the calls of two peers. `faults` is 1 if a call was unexpected: of a third peer, with a
+/// number that isn't the next one, or after the end. It keeps the peers near each other, so that
+/// neither uses up its turns before the other has begun.
 #[derive(Drop)]
 pub(crate) struct Counter {
     pub(crate) near: Near,
@@ -217,7 +223,7 @@ pub(crate) struct Counter {
     pub(crate) faults: AtomicU64,
 }
 
-/// What was counted, for each of two peers.
+/// A count for each of two peers.
 #[derive(Drop)]
 pub(crate) struct Tally {
     counts: Pair,

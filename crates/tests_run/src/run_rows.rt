@@ -1,4 +1,5 @@
-//! Running peers through the top call, under gates that hold them beside one another, judged by the record that is written.
+//! Running peers through the top call, under gates that hold them next to each other. The record
+//! written is what is compared.
 use crate::gates::{Counter, Meeting, Near, NearAssembly};
 use crate::heads::{HONEST, HOSTILE, IN_BYTES, WITH_EVENTS};
 use ivs_base::{MemorySink, MemorySource};
@@ -13,7 +14,7 @@ use std::thread::Threads;
 /// The frame of the worked examples.
 const FRAME: &str = "ffffffffffff0200000000010800";
 
-/// How a run ended, what it wrote, and what is left of its peers.
+/// The result of a run: its status, its text, and the words and pass of its peers.
 #[derive(Drop)]
 struct Told {
     status: Status,
@@ -22,7 +23,7 @@ struct Told {
 }
 
 impl Told {
-    /// How many lines begin so.
+    /// Returns the number of lines that begin with `start`.
     fn count(&self, start: &[u8]) -> usize {
         self.text
             .split(|byte| *byte == b'\n')
@@ -30,7 +31,7 @@ impl Told {
             .count()
     }
 
-    /// The lines of sessions, of resets and of peers that were spent, in their order.
+    /// Returns the lines of sessions, of resets and of peers that are spent, in their order.
     fn sessions(&self, alloc: Global) -> Result<Vec<u8>, AllocError> {
         let mut found = Vec::new(alloc);
         for line in self.text.split(|byte| *byte == b'\n') {
@@ -43,7 +44,7 @@ impl Told {
         Ok(found)
     }
 
-    /// How many lines are this one.
+    /// Returns the number of lines that equal `is`.
     fn lines(&self, is: &[u8]) -> usize {
         self.text
             .split(|byte| *byte == b'\n')
@@ -52,7 +53,7 @@ impl Told {
     }
 }
 
-/// The answer to the word `run`, under this gate.
+/// Runs the word `run` on the input, under this gate.
 fn run<R: Threads + Sync, G: Gate + Sync>(
     rt: &R,
     alloc: Global,
@@ -77,8 +78,8 @@ fn run<R: Threads + Sync, G: Gate + Sync>(
     Ok(Told { status, text, ran })
 }
 
-/// Two honest peers that choose their calls, after this head and these acts: each offers so many frames, expects as many as the other has, and takes so
-/// many turns at most.
+/// Returns a scenario of two honest automatic peers, with this head and these acts. Each offers its
+/// number of frames, expects the other's number, and takes at most its number of turns.
 fn automatic(
     alloc: Global,
     head: &str,
@@ -97,7 +98,7 @@ fn automatic(
     Ok(text)
 }
 
-/// Both peers finished, and each delivered what the other offered.
+/// Checks that both peers finished, and that each delivered what the other offered.
 fn check_delivered<R: Abort>(rt: &R, told: &Told, frames: [u32; 2]) {
     let [first, second] = frames;
     assert_eq!(rt; told.status, Status::Done);
@@ -111,6 +112,7 @@ fn check_delivered<R: Abort>(rt: &R, told: &Told, frames: [u32; 2]) {
     assert_eq!(rt; told.count(b"deliver 0 "), second as usize);
 }
 
+// claim ivshm_cli.ivshm.running
 #[test]
 fn near_peers_exchange_frames(rt: HostRuntime) -> Result<(), Fail> {
     let alloc = rt.alloc();
@@ -131,8 +133,10 @@ fn near_peers_exchange_frames(rt: HostRuntime) -> Result<(), Fail> {
     Ok(())
 }
 
-/// Both come to their first turn before either takes it, so they run at the same time. How far one gets while the other waits for a processor is the
-/// scheduler's: that both come to their end is asked where they are kept near each other from there on.
+/// Both come to their first turn before either takes it, so they run at the same time. The
+/// scheduler decides how far one gets while the other waits for a processor. That both come to
+/// their end is checked with peers that are kept near each other.
+// claim ivshm_cli.ivshm.running
 #[test]
 fn peers_run_beside_one_another(rt: HostRuntime) -> Result<(), Fail> {
     let alloc = rt.alloc();
@@ -156,6 +160,7 @@ fn peers_run_beside_one_another(rt: HostRuntime) -> Result<(), Fail> {
     Ok(())
 }
 
+// claim ivshm_cli.ivshm.running
 #[test]
 fn lockstep_through_a_session(rt: HostRuntime) -> Result<(), Fail> {
     let alloc = rt.alloc();
@@ -184,7 +189,8 @@ fn a_gate_is_called_before_each_turn(rt: HostRuntime) -> Result<(), Fail> {
     Ok(())
 }
 
-/// Two peers that can't finish, since peer 0 waits for a frame that nobody sends, and peer 1 for one too many; peer 0 is reset in its first session.
+/// Returns a scenario of two peers that can't finish: peer 0 waits for a frame that is never sent,
+/// and peer 1 for one frame too many. Peer 0 is reset in its first session.
 fn restarting(alloc: Global) -> Result<String, AllocError> {
     let mut text = format!(in alloc; "{HONEST}auto 0 1\nauto 1 41\n")?;
     for _ in 0..40 {
@@ -194,6 +200,7 @@ fn restarting(alloc: Global) -> Result<String, AllocError> {
     Ok(text)
 }
 
+// claim peer_runner.drive
 #[test]
 fn a_reset_peer_opens_a_session_anew(rt: HostRuntime) -> Result<(), Fail> {
     let alloc = rt.alloc();
@@ -211,11 +218,13 @@ fn a_reset_peer_opens_a_session_anew(rt: HostRuntime) -> Result<(), Fail> {
     Ok(())
 }
 
-/// The number in a field of a line, counted from 0.
+/// Returns the number in a field of a line, counted from 0.
 fn number(line: &[u8], field: usize) -> Option<u64> {
     line_format::number(line.split(|byte| *byte == b' ').nth(field)?)
 }
 
+// claim ivshm_cli.ivshm.running
+// claim step_lines.Storm.step.step
 #[test]
 fn a_storm_beside_an_honest_peer(rt: HostRuntime) -> Result<(), Fail> {
     let alloc = rt.alloc();
@@ -239,7 +248,8 @@ fn a_storm_beside_an_honest_peer(rt: HostRuntime) -> Result<(), Fail> {
     Ok(())
 }
 
-/// Two peers of the link with five frames each way beside six storms of 1,000 turns, once these acts are done.
+/// Returns a scenario of two peers of the link, with five frames each way, and six storms of 1,000
+/// turns. `acts` come first.
 fn eight(alloc: Global, wiring: &str, acts: &str) -> Result<String, AllocError> {
     let mut text = format!(in alloc;
         "ivshm 1\npeers 8\ntable 4096\ncommon 0\nout 16384\nmtu 256\nirq {wiring}\npeer 0 honest\npeer 1 honest\n"

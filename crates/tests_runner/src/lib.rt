@@ -1,4 +1,5 @@
-//! Tests of running peers, in a crate of their own, so that the crates that they test are proved once.
+//! Tests of running peers, in a crate of their own, so that the crates that they test are proved
+//! once.
 #![tactic(auto)]
 
 #[cfg(test)]

@@ -1,4 +1,5 @@
-//! Runs of small scenarios. The large ones, with gates that show that threads run at the same time, are tests of the top call.
+//! Runs of small scenarios. The large ones, with gates that show that threads run at the same time,
+//! are tests of the top call.
 
 ghost use Rattle.std.specs.Prelude.{◌<◌};
 
@@ -12,20 +13,22 @@ use std::sync::atomic::Ordering::SeqCst;
 use std::test::Fail;
 use std::thread::{Threads, yield_now};
 
-/// How often a held call looks for the other peer before the gate opens for good.
+/// The number of looks for the other peer in a held call, before the gate opens for good.
 pub(crate) const SPINS: u64 = 100_000_000;
 
-/// So many looks follow each other at once; then another thread runs between two of them, since the other peer may wait for this processor.
+/// The number of looks without a pause. After them another thread runs between two looks, since the
+/// other peer may wait for this processor.
 const LOOKS_AT_ONCE: u64 = 100_000;
 
-/// Between two looks of a held call.
+/// Pauses between two looks of a held call.
 pub(crate) fn spin(look: u64) {
     if look >= LOOKS_AT_ONCE {
         yield_now();
     }
 }
 
-/// Holds peers 0 and 1 within so many turns of each other until one has ended, and counts its calls for them.
+/// Holds peers 0 and 1 within `span` turns of each other until one has ended, and counts the calls
+/// of each.
 #[derive(Drop)]
 pub(crate) struct Lockstep {
     span: u64,
@@ -44,7 +47,7 @@ impl Lockstep {
         }
     }
 
-    /// No call was held for longer than its spins.
+    /// Whether no call was held for longer than its spins.
     pub(crate) fn was_kept(&self) -> bool {
         self.opened.load(SeqCst) == 0
     }
@@ -83,7 +86,7 @@ impl Gate for Lockstep {
     }
 }
 
-/// Holds all peers but one until that one has ended.
+/// Holds all peers but the first until that one has ended.
 #[derive(Drop)]
 struct After {
     first: u32,
@@ -119,8 +122,9 @@ impl Gate for After {
     }
 }
 
-/// Lets peers 0 and 1 run one after the other, leg by leg: in each, peer 0 goes on up to its turn of the first number, and then peer 1 up
-/// to its turn of the second one. After the last leg both go on freely.
+/// Lets peers 0 and 1 run one after the other, leg by leg. In each leg peer 0 runs up to its turn
+/// of the first number, and then peer 1 up to its turn of the second number. After the last leg
+/// both run freely.
 #[derive(Drop)]
 struct Relay {
     legs: [[u64; 2]; 3],
@@ -139,7 +143,8 @@ impl Relay {
         }
     }
 
-    /// How many turns the other one has to have ended before this turn of peer 0 or of peer 1.
+    /// Returns the number of turns that the other peer must have ended before this turn of `peer`,
+    /// 0 or 1.
     fn due(&self, peer: u32, turn: u64) -> u64 {
         let mut due = 0;
         let mut before = 0;
@@ -186,7 +191,7 @@ impl Gate for Relay {
     }
 }
 
-/// The run of a scenario in running form.
+/// Runs a scenario in running form. Returns its trace.
 pub(crate) fn run<R: Threads + Sync, G: Gate + Sync>(
     rt: &R,
     alloc: Global,
@@ -202,7 +207,7 @@ pub(crate) fn run<R: Threads + Sync, G: Gate + Sync>(
     Ok(Some(trace))
 }
 
-/// How many lines tell of a frame accepted, and of one delivered.
+/// Returns the numbers of lines that accept a frame and that deliver one.
 fn frames(lines: &[Line]) -> (usize, usize) {
     let accepted = lines
         .iter()
@@ -236,8 +241,9 @@ fn two_threads_deliver(rt: HostRuntime) -> Result<(), Fail> {
     Ok(())
 }
 
-/// The first draws of seed 7, worked by hand from the generator's formula: a write to a word of the section, State 7, a write to a
-/// word of the section, and one to a word of its ring part.
+/// The first draws of seed 7, computed by hand from the generator's formula. They are a write to a
+/// word of the section, State 7, a write to a word of the section, and a write to a word of its
+/// rings.
 #[test]
 fn a_storm_runs_beside_an_end(rt: HostRuntime) -> Result<(), Fail> {
     let text =
@@ -299,7 +305,7 @@ fn one_peer_runs_alone(rt: HostRuntime) -> Result<(), Fail> {
     Ok(())
 }
 
-/// How many interrupts the lines tell.
+/// Returns the number of interrupt lines.
 fn interrupts(lines: &[Line]) -> usize {
     lines
         .iter()
@@ -307,7 +313,7 @@ fn interrupts(lines: &[Line]) -> usize {
         .count()
 }
 
-/// How many doorbells at peer 0 the lines tell.
+/// Returns the number of doorbells at peer 0.
 fn bells(lines: &[Line]) -> usize {
     lines
         .iter()
@@ -315,7 +321,8 @@ fn bells(lines: &[Line]) -> usize {
         .count()
 }
 
-/// The sixth draw of seed 49 is a doorbell at peer 0 with vector 1, the only one at peer 0 so far.
+/// The sixth draw of seed 49 is a doorbell at peer 0 with vector 1, its first.
+// claim peer_runner.drive
 #[test]
 fn an_interrupt_comes(rt: HostRuntime) -> Result<(), Fail> {
     let text =
@@ -333,7 +340,9 @@ fn an_interrupt_comes(rt: HostRuntime) -> Result<(), Fail> {
     Ok(())
 }
 
-/// The third draw of seed 44 is a doorbell at peer 0 with vector 1, and the fifth one with vector 0. One look finds both.
+/// The third draw of seed 44 is a doorbell at peer 0 with vector 1, and the fifth draw is one with
+/// vector 0. One look finds both.
+// claim peer_runner.drive
 #[test]
 fn one_look_finds_two_interrupts(rt: HostRuntime) -> Result<(), Fail> {
     let text =
@@ -350,7 +359,9 @@ fn one_look_finds_two_interrupts(rt: HostRuntime) -> Result<(), Fail> {
     Ok(())
 }
 
-/// The same two doorbells at a peer in one-shot mode, where the first takes two turns and the second one.
+/// The same two doorbells at a peer in one-shot mode: the first one takes two turns, and the second
+/// takes one.
+// claim peer_runner.drive
 #[test]
 fn a_one_shot_peer_hears_once(rt: HostRuntime) -> Result<(), Fail> {
     let text =
@@ -368,8 +379,9 @@ fn a_one_shot_peer_hears_once(rt: HostRuntime) -> Result<(), Fail> {
     Ok(())
 }
 
-/// Two honest peers of the link, of which peer 1 hears the vector of frames alone. Peer 0 rings for its first frame before peer 1 goes on,
-/// and for its second one once the first was taken: one interrupt comes for each, before its frame.
+/// Two honest peers of the link. Peer 1 gets interrupts of the frames' vector alone. Peer 0 rings
+/// for its first frame before peer 1 runs, and for its second one after the first was delivered.
+/// One interrupt comes for each, before its frame.
 #[test]
 fn each_doorbell_between_honest_peers_is_heard(rt: HostRuntime) -> Result<(), Fail> {
     let text =
@@ -399,7 +411,9 @@ fn each_doorbell_between_honest_peers_is_heard(rt: HostRuntime) -> Result<(), Fa
     Ok(())
 }
 
-/// A peer whose Interrupt Control is 0 is told nothing, and doorbells at it have their lines and their turns all the same.
+/// A peer with Interrupt Control 0 gets no interrupt. A doorbell to that peer still takes a turn
+/// and adds a line.
+// claim peer_runner.drive
 #[test]
 fn nothing_comes_where_interrupts_are_off(rt: HostRuntime) -> Result<(), Fail> {
     let text =
@@ -415,7 +429,7 @@ fn nothing_comes_where_interrupts_are_off(rt: HostRuntime) -> Result<(), Fail> {
     Ok(())
 }
 
-/// Two peers of the link beside six storms.
+/// Two peers of the link and six storms.
 #[test]
 fn eight_peers_run(rt: HostRuntime) -> Result<(), Fail> {
     let text =
@@ -436,7 +450,7 @@ fn eight_peers_run(rt: HostRuntime) -> Result<(), Fail> {
     Ok(())
 }
 
-/// Did a poll look and find nothing?
+/// Whether the line is a look that found nothing.
 fn is_look(line: &Line) -> bool {
     match line {
         Line::Look { count, .. } => *count == 0,
@@ -444,7 +458,7 @@ fn is_look(line: &Line) -> bool {
     }
 }
 
-/// Was the event of peer 1 written, which asks at frame 0?
+/// Whether the line writes peer 1's event index for frame 0.
 fn is_write(line: &Line) -> bool {
     match line {
         Line::Write { word, value, .. } => *word == 5_553 && *value == 0,
@@ -452,12 +466,12 @@ fn is_write(line: &Line) -> bool {
     }
 }
 
-/// Is a poll done?
+/// Whether the line ends a poll.
 fn is_done(line: &Line) -> bool {
     matches!(line, Line::Done { .. })
 }
 
-/// How many lines stand before the first interrupt.
+/// Returns the number of lines before the first interrupt.
 fn before_interrupt(lines: &[Line]) -> usize {
     let mut count: usize = 0;
     for line in lines.iter() {
@@ -469,8 +483,11 @@ fn before_interrupt(lines: &[Line]) -> usize {
     count
 }
 
-/// The frame that comes is asked for, and rung. Peer 1 arms its event and sleeps: ten looks find nothing, and the eleventh finds the bit, before its next
-/// choice. It sleeps again before the poll that takes the frame, and that time no bit comes: it polls after 64 looks.
+/// The doorbell of the next frame is wanted, and rung. Peer 1 sets its event index and sleeps: ten
+/// looks find nothing, and the eleventh finds the bit, before its next choice. It sleeps again
+/// before the poll that delivers the frame. That time no bit comes, and it polls after 64 looks.
+// claim link_endpoint.Endpoint.is_armed
+// claim peer_runner.drive
 #[test]
 fn a_sleeping_peer_is_woken(rt: HostRuntime) -> Result<(), Fail> {
     let text =
@@ -496,8 +513,9 @@ fn a_sleeping_peer_is_woken(rt: HostRuntime) -> Result<(), Fail> {
     Ok(())
 }
 
-/// Bursts of frames against a sleeping peer, twenty times in a row: the first frame is rung before it looks again, and all frames are delivered
-/// within the turns.
+/// Bursts of frames for a sleeping peer, twenty times in a row. The first frame is rung before the
+/// peer looks again, and all frames are delivered within the turns.
+// claim peer_runner.drive
 #[test]
 fn bursts_wake_a_sleeping_peer(rt: HostRuntime) -> Result<(), Fail> {
     let alloc = rt.alloc();
@@ -529,8 +547,8 @@ fn bursts_wake_a_sleeping_peer(rt: HostRuntime) -> Result<(), Fail> {
     Ok(())
 }
 
-/// Peers of a link with events, of which one takes interrupts: frames in slots, and in a ring of bytes, where the second one starts 64 bytes after
-/// the first.
+/// Peers of a link with events, of which one takes interrupts. Frames are in slots, and then in a
+/// byte ring, where the second frame starts 64 bytes after the first.
 #[test]
 fn two_threads_deliver_by_events(rt: HostRuntime) -> Result<(), Fail> {
     let alloc = rt.alloc();
@@ -568,7 +586,24 @@ fn two_threads_deliver_by_events(rt: HostRuntime) -> Result<(), Fail> {
     Ok(())
 }
 
-/// Each law may be called: none of them asks anything of its caller.
+/// Each law may be called: none has a condition for its caller.
+// claim peer_runner.words_are_made
+// claim peer_runner.all_words_are_made
+// claim peer_runner.interrupts_are_rung
+// claim peer_runner.doorbells_stand
+// claim peer_runner.accesses_are_calls
+// claim peer_runner.words_are_written
+// claim peer_runner.phases_show
+// claim peer_runner.flight_is_spelled
+// claim peer_runner.offers_store_apart
+// claim peer_runner.read_values_are_in_range
+// claim peer_runner.honest_peers_never_refuse
+// claim peer_runner.other_opens_none
+// claim peer_runner.session_words_are_numbers
+// claim peer_runner.sessions_are_paired
+// claim peer_runner.pair_keeps
+// claim peer_runner.read_values_are_as_sent
+// claim peer_runner.hostile_words_are_free
 #[test]
 fn laws_of_the_rule() {
     laws::words_are_made();

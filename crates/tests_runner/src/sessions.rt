@@ -1,4 +1,4 @@
-//! Peers that are reset as they run, and the sessions that they number and carry.
+//! Peers that are reset as they run, and the session numbers that they store and load.
 use crate::runs::{Lockstep, SPINS, run, spin};
 use ivs_base::Frame;
 use lawful_history::Line;
@@ -11,12 +11,13 @@ use std::sync::atomic::Ordering::SeqCst;
 use std::test::Fail;
 use std::thread::Threads;
 
-/// A link of two peers up to its acts, the second one honest or hostile.
+/// A link of two peers up to its acts. The second peer is honest or hostile.
 const HEAD: &str =
     "peers 2\ntable 4096\ncommon 0\nout 16384\nmtu 256\nirq msix 2\npeer 0 honest\npeer 1 ";
 
-/// One session of a peer, as its lines tell it: the number of the other's that it carries, or 0 where it didn't reach RUN, and where the lines
-/// stand by which frames were accepted and delivered in it.
+/// One session of a peer, from its lines. `carried` is the number of the other's session, or 0 if
+/// this session didn't reach RUN. `accepted` and `delivered` are the indices of the lines of its
+/// frames.
 #[derive(Debug, Drop)]
 struct Session {
     carried: u32,
@@ -34,7 +35,7 @@ impl Session {
     }
 }
 
-/// The sessions that the lines tell, in their order. Each mark of a session has its number.
+/// Returns the sessions of the lines, in their order. Each session mark has its session's number.
 fn sessions<R: Abort>(rt: &R, alloc: Global, lines: &[Line]) -> Result<Vec<Session>, AllocError> {
     let mut all: Vec<Session> = Vec::new(alloc);
     for (at, line) in lines.iter().enumerate() {
@@ -63,7 +64,7 @@ fn sessions<R: Abort>(rt: &R, alloc: Global, lines: &[Line]) -> Result<Vec<Sessi
     Ok(all)
 }
 
-/// The frame of a mark.
+/// Returns the frame of a mark.
 fn frame_at(lines: &[Line], at: usize) -> Option<&Frame> {
     match lines.get(at) {
         Some(Line::Accept { frame, .. } | Line::Deliver { frame, .. }) => Some(frame),
@@ -71,8 +72,9 @@ fn frame_at(lines: &[Line], at: usize) -> Option<&Frame> {
     }
 }
 
-/// The sessions of one peer carry numbers of the other's that rise, and each delivered a beginning of what the other accepted in the session
-/// that it carries. Returns in how many frames were delivered.
+/// Checks that the sessions of one peer have rising numbers of the other's. Each must deliver a
+/// prefix of what the other accepted in that session. Returns the number of sessions that delivered
+/// frames.
 fn check_carried<R: Abort>(
     rt: &R,
     lines: &[Line],
@@ -102,7 +104,8 @@ fn check_carried<R: Abort>(
     with_frames
 }
 
-/// The sessions of both peers, paired; returns in how many of each frames were delivered.
+/// Checks that the sessions of both peers are paired. Returns for each the number of sessions that
+/// delivered frames.
 fn check_paired<R: Abort>(
     rt: &R,
     alloc: Global,
@@ -121,7 +124,7 @@ fn check_paired<R: Abort>(
     ])
 }
 
-/// How many resets the lines tell.
+/// Returns the number of resets in the lines.
 fn resets(lines: &[Line]) -> usize {
     lines
         .iter()
@@ -129,8 +132,8 @@ fn resets(lines: &[Line]) -> usize {
         .count()
 }
 
-/// Two peers that choose their calls, with so many frames of 64 bytes each; peer 0 takes so many turns, is reset, and so on, and peer 1 is
-/// never reset.
+/// Returns a scenario of two automatic peers with frames of 64 bytes. Peer 0 is reset after each
+/// span of its turns, and peer 1 is never reset.
 fn restarting(
     alloc: Global,
     version: u32,
@@ -159,7 +162,8 @@ fn restarting(
     Ok(text)
 }
 
-/// Peer 0 can't finish, since nothing comes for it, nor can peer 1, which waits for a frame too many. Peer 0 is reset in its first session.
+/// Peer 0 can't finish, since no frame comes for it. Peer 1 can't finish either, since it waits for
+/// one frame too many. Peer 0 is reset in its first session.
 #[test]
 fn a_reset_peer_opens_a_session_anew(rt: HostRuntime) -> Result<(), Fail> {
     let alloc = rt.alloc();
@@ -190,7 +194,7 @@ fn a_reset_peer_opens_a_session_anew(rt: HostRuntime) -> Result<(), Fail> {
     Ok(())
 }
 
-/// Holds the first turn of peers 0 and 1 until the other has come to its own.
+/// Holds the first turn of peers 0 and 1 until the other has come to its own first turn.
 #[derive(Drop)]
 struct Meeting {
     come: [AtomicU64; 2],
@@ -205,7 +209,7 @@ impl Meeting {
         }
     }
 
-    /// Whether both came, and neither waited for the other in vain.
+    /// Whether both came, and neither waited for longer than its spins.
     fn was_kept(&self) -> bool {
         let [first, second] = &self.come;
         first.load(SeqCst) == 1 && second.load(SeqCst) == 1 && self.missed.load(SeqCst) == 0
@@ -231,7 +235,8 @@ impl Gate for Meeting {
     fn ended(&self, _peer: u32) {}
 }
 
-/// Both gates at once: the first turns of peers 0 and 1 meet, and from there on the two are kept near each other.
+/// Both gates at once: the first turns of peers 0 and 1 meet, and from then on the two stay near
+/// each other.
 #[derive(Drop)]
 struct MeetingLockstep {
     meeting: Meeting,
@@ -263,8 +268,8 @@ impl Gate for MeetingLockstep {
     }
 }
 
-/// Fifty resets of peer 0 in 3,900,000 turns beside a peer that is never reset: the sessions of both are paired. Returns in how many of each frames
-/// were delivered.
+/// Runs fifty resets of peer 0 in 3,900,000 turns, with a peer 1 that is never reset. Checks that
+/// the sessions of both are paired. Returns for each the number of sessions that delivered frames.
 fn fifty_resets<R: Threads + Sync + Abort, G: Gate + Sync>(
     rt: &R,
     alloc: Global,
@@ -282,8 +287,11 @@ fn fifty_resets<R: Threads + Sync + Abort, G: Gate + Sync>(
     Ok(counts)
 }
 
-/// Near each other, frames come through in many of the sessions, whether the first turns met or not. Where they met and both go on freely, how
-/// many sessions carry frames is the scheduler's, and whatever comes through is paired.
+/// If the peers stay near each other, many of the sessions deliver frames, whether the first turns
+/// met or not. If they met and both run freely, the scheduler decides how many sessions do, and all
+/// are paired.
+// claim peer_runner.sessions_are_paired
+// claim peer_runner.drive
 #[test]
 fn fifty_resets_beside_a_steady_peer(rt: HostRuntime) -> Result<(), Fail> {
     let alloc = rt.alloc();
@@ -302,6 +310,7 @@ fn fifty_resets_beside_a_steady_peer(rt: HostRuntime) -> Result<(), Fail> {
 }
 
 /// Resets at many places of the handshake and after it, in each version.
+// claim peer_runner.sessions_are_paired
 #[test]
 fn resets_at_any_place(rt: HostRuntime) -> Result<(), Fail> {
     let alloc = rt.alloc();
@@ -323,7 +332,8 @@ fn resets_at_any_place(rt: HostRuntime) -> Result<(), Fail> {
     Ok(())
 }
 
-/// Beside a hostile peer, which is reset too, every session carries 0; the hostile peer has no session of its own, and writes its own words alone.
+/// With a hostile peer, which is reset too, every session has the other's number 0. The hostile
+/// peer has no session of its own, and writes its own words alone.
 fn check_storm<R: Threads + Sync + Abort, G: Gate + Sync>(
     rt: &R,
     alloc: Global,
@@ -353,6 +363,7 @@ fn check_storm<R: Threads + Sync + Abort, G: Gate + Sync>(
     Ok(())
 }
 
+// claim peer_runner.drive
 #[test]
 fn sessions_beside_a_storm_carry_none(rt: HostRuntime) -> Result<(), Fail> {
     let alloc = rt.alloc();
@@ -365,7 +376,8 @@ fn sessions_beside_a_storm_carry_none(rt: HostRuntime) -> Result<(), Fail> {
     Ok(())
 }
 
-/// A peer that is finished in a span ends there, with its resets undone.
+/// A peer that finishes in a span ends there, and its later resets don't happen.
+// claim peer_runner.drive
 #[test]
 fn a_finished_peer_is_reset_no_more(rt: HostRuntime) -> Result<(), Fail> {
     let alloc = rt.alloc();

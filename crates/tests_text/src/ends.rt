@@ -1,4 +1,4 @@
-//! The layout's numbers by hand, and ends that fail, or that take and give little.
+//! The layout's numbers by hand, and sources and sinks that fail, or that read and write few bytes.
 use ivs_base::{
     Frame, InputSource, MemorySink, MemorySource, OutputSink, ReadEnd, WriteFault, distance, plus,
     read_all, up64, word_of, write_whole,
@@ -7,9 +7,11 @@ use std::io;
 use std::io::{ErrorKind, Read, Write};
 use std::test::Fail;
 
+// claim ivs_base.up64.value
+// claim ivs_base.distance
 #[test]
 fn numbers_of_the_layout(rt: HostRuntime) {
-    // after 64 entries stand 1,158 bytes and the used ring; a slot holds a frame of 274 bytes
+    // after 64 entries come 1,158 bytes and the used ring; a slot holds a frame of 274 bytes
     for (value, want) in [
         (0u32, 0),
         (1, 64),
@@ -26,6 +28,8 @@ fn numbers_of_the_layout(rt: HostRuntime) {
     }
 }
 
+// claim ivs_base.distance
+// claim ivs_base.Frame.of
 #[test]
 fn words_of_a_frame(rt: HostRuntime) -> Result<(), Fail> {
     let bytes = [
@@ -42,6 +46,10 @@ fn words_of_a_frame(rt: HostRuntime) -> Result<(), Fail> {
     Ok(())
 }
 
+// claim ivs_base.read_all.bytes
+// claim ivs_base.read_all.fault
+// claim ivs_base.read_all.quiet
+// claim ivs_base.MemorySource.read.fails
 #[test]
 fn whole_reads(rt: HostRuntime) -> Result<(), Fail> {
     let eleven = b"eleven byte".as_slice();
@@ -63,10 +71,12 @@ fn whole_reads(rt: HostRuntime) -> Result<(), Fail> {
     Ok(())
 }
 
+// claim ivs_base.write_whole.front
+// claim ivs_base.MemorySource.read.fails
 #[test]
 fn a_fault_leaves_a_front(rt: HostRuntime) -> Result<(), Fail> {
     let record = b"record 1\nivshm 1\n".as_slice();
-    // the room, the bytes that a call takes, the call that fails, and the bytes written
+    // the capacity, the bytes that a call writes, the call that fails, and the bytes written
     for (room, piece, fails, want) in [
         (100usize, 10usize, 2u64, 10),
         (12, 5, 0, 10),
@@ -83,8 +93,8 @@ fn a_fault_leaves_a_front(rt: HostRuntime) -> Result<(), Fail> {
     Ok(())
 }
 
-// A reader and a writer that say nothing of their bytes. The second read fails, and the second write
-// takes nothing.
+// A reader and a writer without a model of their bytes. The second read fails, and the second write
+// writes nothing.
 #[derive(Drop)]
 struct Untold(u8);
 
@@ -110,6 +120,7 @@ impl Write for Untold {
     }
 }
 
+// claim ivs_base.InputSource.read.end
 #[test]
 fn faults_of_the_standard_ends(rt: HostRuntime) -> Result<(), Fail> {
     let mut source = InputSource::new(Untold(0));
@@ -130,7 +141,7 @@ fn faults_of_the_standard_ends(rt: HostRuntime) -> Result<(), Fail> {
     Ok(())
 }
 
-// A writer that takes one byte a call, and fails after so many.
+// A writer that takes one byte a call, and fails after `most` bytes.
 #[derive(Drop)]
 struct Trickle {
     held: Vec<u8>,
@@ -154,6 +165,7 @@ impl Write for Trickle {
     }
 }
 
+// claim ivs_base.InputSource.read.end
 #[test]
 fn writers_that_take_little(rt: HostRuntime) -> Result<(), Fail> {
     let record = b"record 1\nivshm 1\n".as_slice();
@@ -170,6 +182,7 @@ fn writers_that_take_little(rt: HostRuntime) -> Result<(), Fail> {
     Ok(())
 }
 
+// claim ivs_base.InputSource.read.end
 #[test]
 fn readers_give_their_bytes(rt: HostRuntime) -> Result<(), Fail> {
     let text = b"ivshm 1\npeers 2\n".as_slice();

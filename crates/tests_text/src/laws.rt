@@ -1,4 +1,4 @@
-//! Each law may be called: it asks nothing of its caller.
+//! Each law may be called: it has no condition for its caller.
 use bridge_text::{bytes_after_end_are_bad_line, cut_is_no_end, fault_is_first, spelled_is_read};
 
 #[test]

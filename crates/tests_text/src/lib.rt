@@ -1,5 +1,6 @@
-//! Tests of the ends that bytes come from and go to, and of what texts have no row for, in a crate of their own, so that the crates that
-//! they test are proved once. The texts themselves are worked rows.
+//! Tests of sources and sinks, and of what no worked row covers in texts. They are in a crate of
+//! their own, so that the crates that they test are proved once. The texts themselves are worked
+//! rows.
 #![tactic(auto)]
 
 #[cfg(test)]

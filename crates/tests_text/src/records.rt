@@ -1,4 +1,4 @@
-//! The record of running peers of which one is reset.
+//! The record of running peers, one of which is reset.
 ghost use Rattle.std.specs.Prelude.{◌≡◌};
 ghost use Rattle.scenario_text.specs.Running.{has_turn};
 ghost use Rattle.scenario_text.specs.Spelling.{world_of};
@@ -14,7 +14,7 @@ use std::test::Fail;
 const WITH_A_RESET: &[u8] =
     b"ivshm 1\npeers 2\ntable 4096\ncommon 0\nout 16384\nmtu 256\nirq intx\npeer 0 honest\npeer 1 honest\nbegin\nauto 0 0\nturn 0 5\nreset 0\nturn 0 4\nend\n";
 
-/// Has the peer a turn line?
+/// Whether the peer has a turn line.
 #[tactic(auto, unfolding(scenario_text::specs::Running::has_turn))]
 fn runs(scenario: &Scenario, peer: u32) -> bool
     ensures { result ≡ has_turn (world_of scenario.now).acts peer }
@@ -29,7 +29,7 @@ fn runs(scenario: &Scenario, peer: u32) -> bool
     false
 }
 
-/// What peer 0 did in a scenario of two peers, where it alone runs.
+/// Returns the run of a scenario of two peers in which peer 0 alone runs.
 fn alone(alloc: Global, scenario: Scenario, trace: OwnTrace) -> Result<Option<RunTrace>, NoMemory>
     requires { trace.peer ≡ 0 }
 {

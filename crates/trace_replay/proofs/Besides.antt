@@ -15,6 +15,7 @@ use Rattle.record_text.specs.Answers.{Refuses}
 use Rattle.record_text.specs.Spelling.{IsSpelling}
 use Rattle.link_model.specs.declared.expected_run.ExpectedRun.{ExpectedRun}
 use Rattle.link_model.specs.declared.fault.Unlawful.{Unlawful}
+use Rattle.link_model.specs.ScenarioParts.{world_of_parts}
 use Rattle.link_model.specs.ExpectedRun.{world_in, GoesOn}
 use Rattle.link_model.specs.Difference.{Differs, Leaves}
 use Rattle.link_model.proofs.Differing.{leaves_longer, not_lawful}
@@ -31,21 +32,21 @@ pub stayed : (bytes : List ℕ) (version : ℕ) (world : World) (before lines : 
 stayed bytes version world before lines false now is_false past = past
 stayed bytes version world before lines true now is_false past = absurd cc
 
--- the course and the reader go on by the same lines
-pub both_go_on : (bytes : List ℕ) (expected_run expected_run' : ExpectedRun) (reader : Reader) (lines : List Line) → expected_run'.scenario.now ≡ expected_run.scenario.now → expected_run'.version ≡ expected_run.version →
+-- the expected run and the reader go on by the same lines
+pub both_go_on : (bytes : List ℕ) (expected_run expected_run' : ExpectedRun) (reader : Reader) (lines : List Line) → expected_run'.scenario ≡ expected_run.scenario → expected_run'.version ≡ expected_run.version →
     IsReading bytes expected_run.version (world_in expected_run) lines reader → GoesOn lines expected_run' → IsBeside bytes expected_run' reader
 both_go_on bytes expected_run expected_run' reader lines scenario version reads goes = record {
   lines = lines;
-  reads = subst (λ (v : ℕ). IsReading bytes v (world_in expected_run') lines reader) (sym version) (subst (λ (w : World). IsReading bytes expected_run.version w lines reader) (sym (ap world_of scenario)) reads);
+  reads = subst (λ (v : ℕ). IsReading bytes v (world_in expected_run') lines reader) (sym version) (subst (λ (w : World). IsReading bytes expected_run.version w lines reader) (sym (ap world_of_parts scenario)) reads);
   goes = goes;
 }
 
 -- at the start nothing was read
 pub nothing_read : (bytes : List ℕ) (version : ℕ) (scenario : Scenario) (expected_run : ExpectedRun) (reader : Reader) → IsReading bytes version (world_of scenario) [] reader →
-    GoesOn [] expected_run × (expected_run.scenario.now ≡ scenario) × (expected_run.version ≡ version) → IsBeside bytes expected_run reader
+    GoesOn [] expected_run × (world_in expected_run ≡ world_of scenario) × (expected_run.version ≡ version) → IsBeside bytes expected_run reader
 nothing_read bytes version scenario expected_run reader reads begun = record {
   lines = [];
-  reads = subst (λ (v : ℕ). IsReading bytes v (world_in expected_run) [] reader) (sym begun.2) (subst (λ (s : Scenario). IsReading bytes version (world_of s) [] reader) (sym begun.1) reads);
+  reads = subst (λ (v : ℕ). IsReading bytes v (world_in expected_run) [] reader) (sym begun.2) (subst (λ (w : World). IsReading bytes version w [] reader) (sym begun.1) reads);
   goes = begun.0;
 }
 

@@ -1,4 +1,4 @@
--- A record's text beside the lawful history.
+-- Comparing a record's text with the lawful history.
 use Rattle.std.specs.Prelude.{ℕ, List, ◌++◌}
 use Rattle.scenario_text.specs.Scenario.{World}
 use Rattle.lawful_history.specs.declared.line.Line.{Line}
@@ -8,7 +8,7 @@ use Rattle.record_text.specs.Spelling.{IsSpelling}
 use Rattle.link_model.specs.declared.expected_run.ExpectedRun.{ExpectedRun}
 use Rattle.link_model.specs.ExpectedRun.{world_in, GoesOn}
 
--- the lines that were read of the text are those that were taken on the course of its scenario's lawful history
+-- the lines of the text that were read are those that the expected run of its scenario took
 pub record IsBeside (bytes : List ℕ) (expected_run : ExpectedRun) (reader : Reader) : Type 0 where
   pub lines : List Line
   pub reads : IsReading bytes expected_run.version (world_in expected_run) lines reader

@@ -1,4 +1,4 @@
--- What the check of a record's text says.
+-- The verdict on a record's text.
 use Rattle.std.specs.Prelude.{ℕ, List}
 use Rattle.scenario_text.specs.Scenario.{World}
 use Rattle.lawful_history.specs.declared.line.Line.{Line}

@@ -1,4 +1,4 @@
-//! A record's text beside the lawful history, as that is played.
+//! Compares a record's text with the lawful history while that is played.
 
 ghost use Rattle.std.specs.Prelude.{ℕ, List, IfOk, OnOk, IfErr};
 ghost use Rattle.scenario_text.specs.Scenario.{World};
@@ -15,7 +15,8 @@ use link_model::{ExpectedRun, StepFault};
 use record_text::{Reader, RecordFault};
 use std::alloc::Global;
 
-/// Takes lines as long as the bytes that come next are those of the lines that wait. No line is read.
+/// Takes the lines that wait for as long as the text goes on with them. Parses no line. Returns
+/// `NoMemory` if memory ran out.
 pub fn pass_alike(expected_run: &mut ExpectedRun, reader: &mut Reader) -> Result<(), NoMemory>
     requires { (bytes : List ℕ) × IsBeside bytes expected_run.old reader.old }
     ensures { (bytes : List ℕ) → IsBeside bytes expected_run.old reader.old → OnOk result (IsBeside bytes expected_run.new reader.new) }
@@ -29,7 +30,8 @@ pub fn pass_alike(expected_run: &mut ExpectedRun, reader: &mut Reader) -> Result
     }
 }
 
-/// Reads the lines that are left, and forgets them. The error is the first fault of the text.
+/// Reads the lines that are left and keeps none. Returns the first fault of the text, and
+/// `NoMemory` if memory ran out.
 fn read_on(alloc: Global, reader: &mut Reader) -> Result<(), RecordFault>
     ensures read { (bytes : List ℕ) (version : ℕ) (world : World) (lines : List Line) → IsReading bytes version world lines reader.old → OnOk result (IsRead bytes version world lines) }
     ensures refused { (bytes : List ℕ) (version : ℕ) (world : World) (lines : List Line) → IsReading bytes version world lines reader.old → IfErr result (λ fault. Refuses fault (answer bytes)) }
@@ -38,7 +40,9 @@ fn read_on(alloc: Global, reader: &mut Reader) -> Result<(), RecordFault>
     Ok(())
 }
 
-/// Reads the lines that are left one by one, beside the lawful history up to the first that differs, and says which it is.
+/// Reads the lines that are left one by one, and compares them with the lawful history up to the
+/// first that differs. Returns the verdict, or the first fault of the text, and `NoMemory` if
+/// memory ran out.
 pub fn judge(
     alloc: Global,
     expected_run: &mut ExpectedRun,

@@ -1,15 +1,18 @@
-//! The check of a record: is its history the lawful one, and if not, which line is the first that differs, and which law
-//! does it break? It stands on `link_model` for the run that takes a history line by line, and on `record_text` for records. The contracts of
-//! `replay` and of `replay_text` promise the verdict of `specs/Verdict`.
+//! The check of a record: whether its history is the lawful one, and if not, which line is the
+//! first that differs and which law that line breaks. `link_model` compares a history line by line,
+//! and `record_text` reads records. The contracts of `replay` and `replay_text` promise the verdict
+//! of `specs/Verdict`.
 //!
 //! # Design
 //!
-//! - A text and the lawful history go side by side (`IsBeside`): the lines that were read are the lines that were taken on the course. As
-//!   long as they agree, the lines that wait are written and held to the bytes, some 256 at a time, and no line is read. At the first part
-//!   that differs the lines are read and taken one by one, up to the first that differs. What comes after it is read, since a later line
-//!   that is none is told first, and forgotten.
-//! - So a text is passed over once, and nothing of it is kept. The law of a difference is found by the course, and the first fault of a
-//!   text by the reader: each in one place.
+//! - A text is read while the lawful history is played (`IsBeside`): the lines that were read are
+//!   those that the expected run took. As long as both agree, the lines that wait are written and
+//!   their bytes compared with the text, about 256 lines at a time, and no line is parsed. From the
+//!   first part that differs on the lines are parsed and compared one by one, up to the first that
+//!   differs. The rest is parsed as well, since a fault of the text comes before a verdict.
+//! - So a text is read once, and nothing of it is kept. The law of a difference is found by the
+//!   expected run, and the first fault of a text by the reader: each in one place.
+// tested: `replay` succeeds with ample memory.
 #![tactic(auto)]
 
 ghost use Rattle.std.specs.Prelude.{IfOk, IfErr};
@@ -30,9 +33,12 @@ use record_text::{Reader, RecordFault, Trace};
 use std::alloc::Global;
 pub use verdict::Verdict;
 
-/// Is the record's history what a record of its version tells of the lawful one of its scenario? Else the first line that differs, and the
-/// law that is broken there.
-/// NoMemory says that memory ran out.
+/// Returns `Same` exactly if the record's history is what a record of its version has of the lawful
+/// history of its scenario. Otherwise returns the first line that differs and the law that it
+/// breaks. Returns `NoMemory` if memory ran out.
+// claim: `Same` is answered exactly if the lines are what a record of the trace's version holds of
+//    the lawful history of its scenario. `Differs` names the first line that differs, and the law
+//    that it breaks.
 pub fn replay(alloc: Global, trace: &Trace) -> Result<Verdict, NoMemory>
     ensures { IfOk result (IsVerdict (world_of trace.now.scenario) trace.now.version trace.now.lines) }
 {
@@ -51,15 +57,17 @@ pub fn replay(alloc: Global, trace: &Trace) -> Result<Verdict, NoMemory>
     }
 }
 
-/// Whether the history of the record that the text spells is what a record of its version tells of the lawful one; or the first fault of the
-/// text. NoMemory says that memory ran out. The lawful history is played once and held to the text. From the first difference on the lines
-/// are read one by one, judged and forgotten.
+/// Returns the verdict of `replay` on the record that the text spells, or the first fault of the
+/// text. Returns `NoMemory` if memory ran out. The lawful history is played once, and no line of
+/// the text is kept.
+// claim verdict, refused: The verdict on a text is that on the record that it spells. A refusal is
+//    the text's first fault, also one after a difference.
 pub fn replay_text(alloc: Global, bytes: &[u8]) -> Result<Verdict, RecordFault>
     ensures verdict { IfOk result (IsVerdictOfText bytes.now) }
     ensures refused { IfErr result (λ fault. Refuses fault (answer bytes.now)) }
 {
     let (version, scenario, mut reader) = Reader::begin(alloc, bytes)?;
-    let mut expected_run = match ExpectedRun::new(alloc, &scenario, version) {
+    let mut expected_run = match ExpectedRun::new(alloc, scenario, version) {
         Ok(expected_run) => expected_run,
         Err(_) => return Err(RecordFault::NoMemory),
     };

@@ -1,4 +1,4 @@
--- The remainders that a sender keeps, and the accesses that they give.
+-- The remainders that a sender stores, and the accesses that follow from them.
 use Rattle.std.proofs.Common.{◌≡◌, ℕ, ◌+◌, ◌-◌, ◌/◌, ◌%◌, ◌<◌, ◌≤◌, length, slice_index, arith, ap, sym, ◌∙◌, subst}
 use Rattle.std.proofs.lemmas.Nat.{mod_below}
 use Rattle.split_ring.specs.declared.steps.Access.TheVariants.{Read, Write}
@@ -16,11 +16,11 @@ use Rattle.tx_engine.specs.Refinement.{RefinesAt, CountsMatch, IsAt, IsMadeFor, 
 use Rattle.tx_engine.proofs.Counting.{fewer, once}
 use Rattle.tx_engine.proofs.Flights.{oldest_of_flight}
 
--- what standing means at the place where the sender is
+-- The facts of the end that follow from the sender's place `here`.
 pub at_here : (tx : Sender) (here : Place) (config : EndConfig) (end : End) (place : laws.Place) → tx.place ≡ here → RefinesAt tx config end place → IsAt here tx config end place
 at_here tx here config end place is refines = subst (λ p. IsAt p tx config end place) is refines.at
 
--- the frames freed, from those accepted and those in flight
+-- The number of frames freed, from those accepted and those in flight.
 pub freed_is : (tx : Sender) (config : EndConfig) (end : End) (freed : ℕ) → IsSender tx → CountsMatch tx config end freed → (tx.accepted + 65536 - tx.in_flight) % 65536 ≡ freed % 65536
 freed_is tx config end freed is counts =
     let few = is.in_flight in
@@ -30,12 +30,12 @@ freed_is tx config end freed is counts =
     let left : length end.accepted - tx.in_flight ≡ freed = omega arith in
     ap (λ a. (a + 65536 - tx.in_flight) % 65536) counts.accepted ∙ (fewer (length end.accepted) 65536 tx.in_flight (omega arith) small ∙ ap (λ n. n % 65536) left)
 
--- the oldest descriptor in flight
+-- The oldest descriptor in flight.
 pub oldest_is : (tx : Sender) (config : EndConfig) (end : End) (freed : ℕ) → IsSender tx → IsMadeFor tx config → CountsMatch tx config end freed → (tx.next + limit_of tx.sizes - tx.in_flight) % limit_of tx.sizes ≡ descriptor_of config freed
 oldest_is tx config end freed is made counts =
     oldest_of_flight (allocator_of tx) (lengths_of end.accepted) freed (length end.accepted) counts.flight.refines ∙ ap (λ q. freed % limit_of q) (sym made.sizes)
 
--- the place of the next entry
+-- The position of the next entry.
 pub entry_is : (tx : Sender) (config : EndConfig) (number : ℕ) → IsSender tx → IsMadeFor tx config → tx.accepted ≡ number % 65536 → tx.accepted % size_of tx.sizes ≡ avail_entry_of config number
 entry_is tx config number is made accepted =
     ap (λ a. a % size_of tx.sizes) accepted ∙ (once number 65536 (size_of tx.sizes) is.bounds.turns ∙ ap (λ q. number % size_of q) (sym made.sizes))
@@ -45,7 +45,7 @@ entry_below tx config number is made =
     let bounds : HasBounds config.sizes = subst HasBounds (sym made.sizes) is.bounds in
     mod_below number (size_of config.sizes) (omega (arith, bounds.size_least))
 
--- the read of an id
+-- The read of an id.
 pub id_access : (tx : Sender) (config : EndConfig) (end : End) (place : laws.Place) (more : ℕ) → IsSender tx → IsMadeFor tx config → IsAt (ReadingUsedId more) tx config end place →
     Read (tx.theirs + word_offset tx.sizes (UsedId ((tx.accepted + 65536 - tx.in_flight) % 65536 % size_of tx.sizes))) ≡ laws.access_at config place
 id_access tx config end place more is made (freed, same, found, counts) =
@@ -53,7 +53,7 @@ id_access tx config end place more is made (freed, same, found, counts) =
     ap (λ k. Read (tx.theirs + word_offset tx.sizes (UsedId k))) entry ∙ (ap (λ q. Read (tx.theirs + word_offset q (UsedId (freed % size_of q)))) (sym made.sizes)
     ∙ (ap (λ t. Read (t + word_offset config.sizes (UsedId (freed % size_of config.sizes)))) (sym made.theirs) ∙ sym (ap (laws.access_at config) same)))
 
--- the word of the next entry
+-- The word of the next entry.
 pub entry_word_is : (tx : Sender) (config : EndConfig) (end : End) (slot : slots.Slot) → IsSender tx → IsMadeFor tx config → tx.accepted ≡ length end.accepted % 65536 → HasCopy tx config end →
     slot.descriptor ≡ descriptor_of config (length end.accepted) →
     entry_word_of tx slot.descriptor ≡ with_entry (avail_entry_of config (length end.accepted)) (end.written (config.own + word_offset config.sizes (AvailEntry (avail_entry_of config (length end.accepted))))) (descriptor_of config (length end.accepted))
@@ -64,7 +64,7 @@ entry_word_is tx config end slot is made accepted copy descriptor =
     ap (λ k. with_entry k (slice_index tx.entries (k / 2)) slot.descriptor) entry ∙ (ap (λ word. with_entry (avail_entry_of config number) word slot.descriptor) (sym (copy (avail_entry_of config number) below))
     ∙ ap (with_entry (avail_entry_of config number) (end.written (config.own + word_offset config.sizes (AvailEntry (avail_entry_of config number))))) descriptor)
 
--- the write of the entry
+-- The write of the entry.
 pub entry_access : (tx : Sender) (config : EndConfig) (end : End) (place : laws.Place) (slot : slots.Slot) → IsSender tx → IsMadeFor tx config → IsAt (WritingAvailEntry slot) tx config end place →
     Write (tx.own + word_offset tx.sizes (AvailEntry (tx.accepted % size_of tx.sizes))) (entry_word_of tx slot.descriptor) ≡ laws.access_at config place
 entry_access tx config end place slot is made (same, (counts, slot_is)) =

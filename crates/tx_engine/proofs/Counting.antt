@@ -1,4 +1,4 @@
--- Counts of frames, by their remainders.
+-- Counts of frames, modulo a size.
 use Rattle.std.proofs.Common.{◌≡◌, ℕ, zero, suc, ◌+◌, ◌-◌, ◌*◌, ◌/◌, ◌%◌, ◌≤◌, arith, ap, sym, ◌∙◌}
 use Rattle.std.proofs.Math.Nat.{mod-add-mod, mod-mod_of_dvd, dvd_iff_mod-eq-zero, add-mul-mod_self_left, add-mod_right, div-add-mod, mul-suc, mul-zero}
 
@@ -13,16 +13,16 @@ fewer_turns c (suc turns) rest by turn within =
     let same : c * suc turns + rest - by ≡ rest + c - by + c * turns = omega (arith, one) in
     sym (ap (λ n. n % c) same ∙ add-mul-mod_self_left (rest + c - by) c turns)
 
--- the remainder of a number that is so many fewer, from its own
+-- The remainder of a number that is less by `by`, from the number's remainder.
 pub fewer : (number c by : ℕ) → by ≤ number → by ≤ c → (number % c + c - by) % c ≡ (number - by) % c
 fewer number c by within turn =
     let whole = div-add-mod number c in
     fewer_turns c (number / c) (number % c) by turn (omega arith) ∙ ap (λ n. (n - by) % c) whole
 
--- the remainder by a divisor of the first
+-- The remainder by a divisor of `m`, from the remainder by `m`.
 pub once : (number m n : ℕ) → m % n ≡ 0 → number % m % n ≡ number % n
 once number m n divides = mod-mod_of_dvd n {b = m} number ((dvd_iff_mod-eq-zero n {n = m}).1 divides)
 
--- the remainder of the next number
+-- The remainder of the next number.
 pub one_more : (number c : ℕ) → (number % c + 1) % c ≡ (number + 1) % c
 one_more number c = mod-add-mod number c 1

@@ -1,4 +1,4 @@
--- What a sender does after the write of an entry.
+-- The sender after the write of an available entry.
 use Rattle.std.proofs.Common.{◌≡◌, ℕ, ◌+◌, ◌*◌, ◌/◌, ◌%◌, ◌<◌, ◌==◌, if◌then◌else◌, List, [], length, slice_index, slice_set, set, arith, refl, ap, sym, ◌∙◌, subst, inl, inr, eq-eqb, ne_eqb}
 use Rattle.std.proofs.lemmas.Bool.Decides.{eqb_tells}
 use Rattle.std.proofs.lemmas.List.{get_or-set_same, get_or-set_other, length-set}
@@ -19,11 +19,11 @@ use Rattle.tx_engine.specs.Refinement.{IsAt, HasCopy, TakesStep, StaysOpen}
 use Rattle.tx_engine.proofs.Accesses.{entry_is, entry_below, entry_word_is}
 use Rattle.tx_engine.proofs.Reading.{takes}
 
--- the word of an entry
+-- The word of an entry.
 word_is : (q : Sizes) (k : ℕ) → word_offset q (AvailEntry k) ≡ 4 * size_of q + 1 + k / 2
 word_is q k = omega arith
 
--- the copy after the write of an entry's word
+-- The copy after the write of an entry's word.
 copied : (tx : Sender) (config : EndConfig) (end : End) (k value : ℕ) → HasCopy tx config end → 2 * length tx.entries ≡ size_of config.sizes → size_of config.sizes % 64 ≡ 0 → k < size_of config.sizes →
     (j : ℕ) → j < size_of config.sizes →
     (if config.own + word_offset config.sizes (AvailEntry j) == config.own + word_offset config.sizes (AvailEntry k) then value else end.written (config.own + word_offset config.sizes (AvailEntry j))) ≡ slice_index (slice_set tx.entries (k / 2) value) (j / 2)
@@ -38,7 +38,7 @@ copied tx config end k value copy sized whole within j below =
       | inr apart ↦ no (at == here) value (end.written at) (ne_eqb _ _ (λ e. apart.1 (omega (arith, at_is, here_is, e)))) ∙ (copy j below ∙ sym (get_or-set_other tx.entries (k / 2) (j / 2) value 0 apart.1))
     ]
 
--- the sender keeps the word in its copy
+-- The sender stores the word in its copy.
 pub entry_taken : (tx old : Sender) (slot : slots.Slot) (value at word : ℕ) (notes : List Note) → tx ≡ old → IsSender tx → tx.place ≡ WritingAvailEntry slot → at ≡ old.accepted % size_of old.sizes →
     word ≡ entry_word_of old slot.descriptor → notes ≡ [] → TakesStep old value notes (record tx { entries = slice_set tx.entries (at / 2) word; place = WritingAvailIndex })
 entry_taken tx old slot value at word notes tx_is is here at_is word_is notes_are =
@@ -69,7 +69,7 @@ entry_taken tx old slot value at word notes tx_is is here at_is word_is notes_ar
       ),
     )))
 
--- and the offer goes on
+-- The offer is still open.
 pub entry_left : (tx old : Sender) (slot : slots.Slot) (value at word : ℕ) → tx ≡ old → IsSender tx → tx.place ≡ WritingAvailEntry slot → at ≡ old.accepted % size_of old.sizes →
     word ≡ entry_word_of old slot.descriptor → StaysOpen old value [] (record tx { entries = slice_set tx.entries (at / 2) word; place = WritingAvailIndex })
 entry_left tx old slot value at word tx_is is here at_is word_is = record {

@@ -1,4 +1,4 @@
--- The fields of a sender, as its value has them.
+-- The fields of a sender, from its view.
 use Rattle.std.proofs.Common.{◌≡◌, ℕ, ◌+◌, ◌-◌, ◌/◌, ◌%◌, List, [], ◌∷◌, length, slice_index, arith, ap, sym, ◌∙◌, subst}
 use Rattle.std.proofs.lemmas.List.{length-take}
 use Rattle.ivs_base.specs.Numbers.{distance}
@@ -23,11 +23,11 @@ length_is t kept = omega (arith, length-take t.length t.buffer.items, kept.buffe
 pub turn_is : (t : Inside) → IsWellFormed t → t.slots ≡ allocator_of (sender_of t)
 turn_is t kept = ap (λ q. let turn : Allocator = record t.slots { sizes = q } in turn) kept.slots
 
--- what holds at the place where the sender is
+-- The invariant of the sender's place `here`.
 pub place_holds : (t : Inside) (here : Place) → IsWellFormed t → t.place ≡ here → IsPlace (sender_of t) here
 place_holds t here kept is = subst (λ p. IsPlace (sender_of t) p) is kept.sender.place
 
--- a sender can go on after a read
+-- A sender can continue its offer after a read.
 pub can_go_on : (t : Inside) → IsWellFormed t → IsFrame t.queue (sender_of t).frame → CanGoOn (sender_of t)
 can_go_on t kept frame = record { queue = kept.sender.queue; lengths = kept.sender.lengths; least = frame.0; most = frame.1 }
 
@@ -35,7 +35,7 @@ pub goes_on_from : (t : Inside) (count : ℕ) (old : Allocator) (place : Place) 
     GoesOn old t.lengths.items (length (sender_of t).frame) count place new lengths
 goes_on_from t count old place new lengths kept on = subst (λ n. GoesOn old t.lengths.items n count place new lengths) (sym (length_is t kept)) on
 
--- the sender reads a used index in range
+-- The sender reads a used index in range.
 pub index_step : (t : Inside) (old : Sender) (value count freed in_flight : ℕ) (place : Place) (turn : Allocator) (lengths : List ℕ) (notes : List Note) → sender_of t ≡ old → IsWellFormed t → t.place ≡ ReadingUsedIndex →
     freed ≡ (t.accepted + 65536 - t.slots.in_flight) % 65536 → in_flight ≡ t.slots.in_flight → IsUsedIndex freed (value / 65536) in_flight → count ≡ distance freed (value / 65536) →
     GoesOn t.slots t.lengths.items t.length count place turn lengths → notes ≡ Reclaim count ∷ full_notes place → TakesStep old value notes (with_turn (sender_of t) turn lengths place)
@@ -47,7 +47,7 @@ index_step t old value count freed in_flight place turn lengths notes view_is ke
     subst (λ s. TakesStep s value notes (with_turn (sender_of t) turn lengths place)) view_is
     (index_taken (sender_of t) value count place turn lengths notes kept.sender (can_go_on t kept (place_holds t ReadingUsedIndex kept here)) here within_all count_all on_all notes_are)
 
--- the sender reads the id of the oldest frame in flight
+-- The sender reads the id of the oldest frame in flight.
 pub id_step : (t : Inside) (old : Sender) (more id oldest : ℕ) (free : Allocator) (place : Place) (turn : Allocator) (lengths : List ℕ) (notes : List Note) → sender_of t ≡ old → IsWellFormed t → t.place ≡ ReadingUsedId more →
     oldest ≡ oldest_of t.slots → id ≡ oldest → free ≡ with_freed t.slots (slice_index t.lengths.items oldest) → GoesOn free t.lengths.items t.length more place turn lengths →
     notes ≡ full_notes place → TakesStep old id notes (with_turn (sender_of t) turn lengths place)
@@ -60,7 +60,7 @@ id_step t old more id oldest free place turn lengths notes view_is kept here old
     subst (λ s. TakesStep s id notes (with_turn (sender_of t) turn lengths place)) view_is
     (id_taken (sender_of t) more id place turn lengths notes kept.sender (can_go_on t kept holds.1) holds.0 here (id_is ∙ (oldest_is ∙ ap oldest_of now)) on_all notes_are)
 
--- the sender reads another id
+-- The sender reads another id.
 pub id_refusal : (t : Inside) (old : Sender) (more id oldest : ℕ) (refused : Refused) (notes : List Note) → sender_of t ≡ old → IsWellFormed t → t.place ≡ ReadingUsedId more → oldest ≡ oldest_of t.slots → ¬ IsUsedId oldest id →
     refused ≡ record { field = UsedId; value = id } → notes ≡ Refuse refused ∷ [] → TakesStep old id notes (record old { place = Refusing })
 id_refusal t old more id oldest refused notes view_is kept here oldest_is other refused_is notes_are =

@@ -1,4 +1,4 @@
--- The slots of a sender, and the lengths that it keeps, as frames are placed and freed.
+-- The slots of a sender and the stored lengths, when frames are placed and freed.
 use Rattle.std.proofs.Common.{◌≡◌, ℕ, ◌+◌, ◌-◌, ◌*◌, ◌%◌, ◌<◌, ◌≤◌, true, List, length, slice_index, slice_set, set, arith, refl, ap, sym, ◌∙◌, subst, eq-eqb, ne_eqb}
 use Rattle.std.specs.Prelude.{◌==◌, cond}
 use mathlib.Core.Logic.{dite}
@@ -18,7 +18,7 @@ use Rattle.call_grammar.specs.Words.{words_for}
 use Rattle.tx_engine.specs.Sender.{FlightRefinesSession, HasFlight}
 use Rattle.tx_engine.proofs.Counting.{fewer}
 
--- whatever lengths follow
+-- The lengths of frames from `sent` on make no difference.
 pub told_flight : (t : Allocator) (lengths : List ℕ) (length_of others : ℕ → ℕ) (freed sent : ℕ) → ((j : ℕ) → j < sent → length_of j ≡ others j) → FlightRefinesSession t lengths length_of freed sent →
     FlightRefinesSession t lengths others freed sent
 told_flight t lengths length_of others freed sent same h = record {
@@ -26,7 +26,7 @@ told_flight t lengths length_of others freed sent same h = record {
   kept = λ k from below. h.kept k from below ∙ same k below;
 }
 
--- a frame is placed, and its length is kept
+-- A frame is placed, and its length is stored.
 pub placed_flight : (t : Allocator) (lengths : List ℕ) (length_of : ℕ → ℕ) (freed sent bytes : ℕ) → IsQueue t.sizes → length lengths ≡ limit_of t.sizes → FlightRefinesSession t lengths length_of freed sent →
     length_of sent ≡ bytes → 14 ≤ bytes → bytes ≤ t.sizes.mtu + 18 → has_room_in t bytes ≡ true → FlightRefinesSession (with_placed t bytes) (slice_set lengths t.next bytes) length_of freed (sent + 1)
 placed_flight t lengths length_of freed sent bytes queue sized h is least most room = record {
@@ -48,7 +48,7 @@ placed_flight t lengths length_of freed sent bytes queue sized h is least most r
     near : (k : ℕ) → freed ≤ k → sent < k + limit_of t.sizes
     near k from = let few = few_of t bytes room in let all = h.refines.in_flight in omega (arith, few, all, from)
 
--- the oldest one is freed
+-- The oldest frame is freed.
 pub freed_flight : (t : Allocator) (lengths : List ℕ) (length_of : ℕ → ℕ) (freed sent bytes : ℕ) → FlightRefinesSession t lengths length_of freed sent → freed < sent → length_of freed ≡ bytes →
     FlightRefinesSession (with_freed t bytes) lengths length_of (freed + 1) sent
 freed_flight t lengths length_of freed sent bytes h some is = record {
@@ -56,7 +56,7 @@ freed_flight t lengths length_of freed sent bytes h some is = record {
   kept = λ k from below. h.kept k (omega arith) below;
 }
 
--- the descriptor of the oldest frame, and its length
+-- The descriptor of the oldest frame, and its length.
 pub oldest_of_flight : (t : Allocator) (length_of : ℕ → ℕ) (freed sent : ℕ) → RefinesSession t length_of freed sent → oldest_of t ≡ freed % limit_of t.sizes
 oldest_of_flight t length_of freed sent h =
     let all = h.in_flight in let most = h.most in
@@ -77,7 +77,7 @@ flight_freed t lengths (length_of, freed, sent, h) some =
     let lt : freed < sent = omega (arith, all, some) in
     (length_of, freed + 1, sent, freed_flight t lengths length_of freed sent _ h lt (sym (oldest_kept t lengths length_of freed sent h lt)))
 
--- a session in which the next frame has so many bytes
+-- A session whose next frame has `bytes` bytes.
 abbrev with_next : (length_of : ℕ → ℕ) (sent bytes : ℕ) → ℕ → ℕ
 with_next length_of sent bytes k = cond (k == sent) bytes (length_of k)
 
@@ -97,7 +97,7 @@ flight_placed t lengths bytes queue sized (length_of, freed, sent, h) least most
       (told_flight t lengths length_of (with_next length_of sent bytes) freed sent (λ j lt. before_is length_of sent bytes j lt) h) (next_is length_of sent bytes) least most room,
 )
 
--- the words of a placed frame stand inside the section
+-- The words of a placed frame are inside the section.
 pub slot_holds : (t : Allocator) (lengths : List ℕ) (bytes : ℕ) → IsQueue t.sizes → HasFlight t lengths → 14 ≤ bytes → bytes ≤ t.sizes.mtu + 18 → has_room_in t bytes ≡ true →
     ((next_slot t bytes).address % 4 ≡ 0) × ((next_slot t bytes).address + 4 * words_for bytes ≤ t.sizes.out)
 slot_holds t lengths bytes queue (length_of, freed, sent, h) least most room =

@@ -1,9 +1,9 @@
--- The words of the frame in hand.
+-- The words of the offered frame.
 use Rattle.std.proofs.Common.{◌≡◌, ℕ, ◌+◌, ◌-◌, ◌≤◌, List, take, drop, min, arith, ap, sym, ◌∙◌, inl, inr}
 use Rattle.std.proofs.lemmas.Bool.{cases_lt}
 use Rattle.std.proofs.lemmas.List.{drop-take, take-take, take_all, length-take}
 
--- the first four of some first bytes
+-- The first four bytes of the first `m` bytes.
 four_of : (bytes : List ℕ) (m : ℕ) → take (min m 4) bytes ≡ take 4 (take m bytes)
 four_of bytes m =
     elim (cases_lt m 4) [
@@ -15,7 +15,7 @@ four_of bytes m =
           ap (λ n. take n bytes) four ∙ sym (take-take 4 m bytes many)
     ]
 
--- four bytes of the first ones, or as many as there are of them
+-- Four bytes of the first `size` bytes, from `start` on, or fewer at the end.
 pub four_bytes : (bytes : List ℕ) (size start : ℕ) → start ≤ size → take (min size (start + 4) - start) (drop start bytes) ≡ take 4 (drop start (take size bytes))
 four_bytes bytes size start within =
     let m = size - start in

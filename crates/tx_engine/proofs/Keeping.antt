@@ -1,4 +1,4 @@
--- What a sender keeps as its offer goes on after a read, and at the start of a session.
+-- The sender's invariant when an offer continues after a read, and at the start of a session.
 use Rattle.std.proofs.Common.{◌≡◌, ℕ, zero, suc, ◌+◌, ◌-◌, ◌*◌, ◌/◌, ◌%◌, ◌^◌, ◌<◌, ◌≤◌, Bool, true, false, List, [], length, replicate, slice_index, get_or, arith, refl, ap, sym, ◌∙◌, subst}
 use Rattle.std.specs.Vec.{with_items}
 use Rattle.std.proofs.lemmas.Nat.{mod_below}
@@ -23,7 +23,7 @@ use Rattle.tx_engine.proofs.Flights.{flight_freed, flight_placed, slot_holds}
 use Rattle.tx_engine.proofs.Reading.{with_turn, freed_one, oldest_length}
 use Rattle.tx_engine.proofs.Fields.{turn_is, place_holds, goes_on_from}
 
--- a sender without its place
+-- A sender without a place in an offer.
 abbrev pub closed : Sender → Sender
 closed tx = record tx { place = Closed }
 
@@ -41,7 +41,7 @@ closed_is tx is = record {
   place = tt;
 }
 
--- one frame less is in flight
+-- One frame less is in flight.
 pub freed_is_sender : (tx : Sender) → IsSender tx → 0 < tx.in_flight → IsSender (closed (freed_one tx))
 freed_is_sender tx is some = record {
   queue = is.queue;
@@ -56,7 +56,7 @@ freed_is_sender tx is some = record {
   place = tt;
 }
 
--- the sender where the offer goes on
+-- The sender stays well formed when its offer continues.
 pub goes_on_kept : (tx : Sender) (ids : ℕ) (place : Place) (turn : Allocator) (lengths : List ℕ) → IsSender (closed tx) → IsFrame tx.sizes tx.frame → ids ≤ tx.in_flight →
     GoesOn (allocator_of tx) tx.lengths (length tx.frame) ids place turn lengths → IsSender (with_turn tx turn lengths place)
 goes_on_kept tx zero place turn lengths is frame within on = pick (has_room_in (allocator_of tx) (length tx.frame)) refl
@@ -107,7 +107,7 @@ goes_on_kept tx (suc more) place turn lengths is frame within on =
       place = (omega (arith, within), frame);
     })))
 
--- the slots stay those of the queue
+-- The slots keep the sizes of the queue.
 sizes_stay : (old : Allocator) (lengths : List ℕ) (bytes ids : ℕ) (place : Place) (turn : Allocator) (kept : List ℕ) → GoesOn old lengths bytes ids place turn kept → turn.sizes ≡ old.sizes
 sizes_stay old lengths bytes zero place turn kept on = pick (has_room_in old bytes) refl
   where
@@ -116,7 +116,7 @@ sizes_stay old lengths bytes zero place turn kept on = pick (has_room_in old byt
     pick false full = ap (λ (t : Allocator). t.sizes) (on.ends refl full).1
 sizes_stay old lengths bytes (suc more) place turn kept on = ap (λ (t : Allocator). t.sizes) (on.reads (omega arith)).1
 
--- the length that is read is that kept of the oldest frame
+-- The length that is read is the stored length of the oldest frame.
 pub oldest_read : (t : Inside) → IsWellFormed t → (oldest bytes : ℕ) → oldest ≡ oldest_of t.slots → bytes ≡ get_or t.lengths.items oldest bytes → bytes ≡ slice_index t.lengths.items oldest
 oldest_read t kept oldest bytes oldest_is read =
     let b = kept.sender.bounds in
@@ -125,12 +125,12 @@ oldest_read t kept oldest bytes oldest_is read =
     let low : oldest_of t.slots < limit_of t.slots.sizes = mod_below _ (limit_of t.slots.sizes) (omega (arith, sizes, b.limit_least)) in
     read ∙ get_or_default t.lengths.items oldest bytes 0 (omega (arith, oldest_is, low, sizes, sized))
 
--- a sender whose kept lengths were written through a slice
+-- A sender whose stored lengths were written through a slice.
 pub seen_written : (t : Inside) (place : Place) (turn : Allocator) (lengths : List ℕ) → length lengths ≡ t.lengths.len →
     with_turn (sender_of t) turn lengths place ≡ sender_of (record t { slots = turn; lengths = with_items t.lengths lengths; place = place })
 seen_written t place turn lengths sized = ap (λ l. with_turn (sender_of t) turn l place) (sym (with_items_is t.lengths lengths sized))
 
--- the fields after the read of the used index
+-- The fields after the read of the used index.
 pub index_kept : (t : Inside) (count : ℕ) (place : Place) (turn : Allocator) (lengths : List ℕ) → length lengths ≡ t.lengths.len → IsWellFormed t → t.place ≡ ReadingUsedIndex → count ≤ t.slots.in_flight →
     GoesOn t.slots t.lengths.items t.length count place turn lengths → IsWellFormed (record t { slots = turn; lengths = with_items t.lengths lengths; place = place })
 index_kept t count place turn lengths sized kept here within on =
@@ -143,7 +143,7 @@ index_kept t count place turn lengths sized kept here within on =
       length = kept.length;
     }
 
--- and of an id
+-- The fields after the read of an id.
 pub id_kept : (t : Inside) (more : ℕ) (free : Allocator) (place : Place) (turn : Allocator) (lengths : List ℕ) → length lengths ≡ t.lengths.len → IsWellFormed t → t.place ≡ ReadingUsedId more →
     free ≡ with_freed t.slots (slice_index t.lengths.items (oldest_of t.slots)) →
     GoesOn free t.lengths.items t.length more place turn lengths → IsWellFormed (record t { slots = turn; lengths = with_items t.lengths lengths; place = place })
@@ -161,7 +161,7 @@ id_kept t more free place turn lengths sized kept here free_is on =
       length = kept.length;
     }
 
--- a sender of these numbers, this frame and these lists, where nothing is accepted
+-- A sender with these parameters, this frame and these lists that accepted nothing.
 abbrev pub begun_sender : Sizes → (own theirs target vector : ℕ) → (frame : List ℕ) → Allocator → (lengths entries : List ℕ) → Sender
 begun_sender sizes own theirs target vector frame slots lengths entries = record {
   sizes = sizes;
@@ -181,7 +181,7 @@ begun_sender sizes own theirs target vector frame slots lengths entries = record
   place = Closed;
 }
 
--- the same at the start of a session
+-- The sender at the start of a session.
 abbrev pub starting : Sizes → (own theirs target vector : ℕ) → (frame : List ℕ) → Sender
 starting sizes own theirs target vector frame = record (fresh_sender sizes own theirs target vector) { frame = frame }
 

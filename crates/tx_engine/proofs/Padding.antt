@@ -1,4 +1,4 @@
--- Words of bytes with 0 after the last.
+-- Words of bytes that are padded with 0.
 use Rattle.std.proofs.Common.{◌≡◌, ℕ, zero, suc, ◌+◌, ◌-◌, ◌*◌, ◌≤◌, List, [], ◌∷◌, ◌++◌, length, take, drop, replicate, refl, sym, ap, ◌∙◌, arith}
 use Rattle.std.proofs.lemmas.List.{drop-take, take-take, drop-drop, length-append, length-drop, length-replicate}
 use Rattle.ivs_base.specs.Numbers.{word_of}
@@ -31,28 +31,28 @@ padded count zero some bytes = after_front count some bytes
 padded count (suc at) some [] = dropped_zeros count (suc at) some ∙ sym (none_taken count (suc at))
 padded count (suc at) some (byte ∷ bytes) = padded count at some bytes
 
--- word k of the first n bytes of these is that of all of them
+-- A word of the first `n` bytes is the same word of all bytes.
 pub first_word : (bytes : List ℕ) (n start : ℕ) → start + 4 ≤ n → take 4 (drop start (take n bytes)) ≡ take 4 (drop start bytes)
 first_word bytes n start within =
     let m = n - start in
     let whole : n ≡ start + m = omega arith in
     ap (λ k. take 4 (drop start (take k bytes))) whole ∙ ap (take 4) (drop-take start m bytes) ∙ take-take 4 m (drop start bytes) (omega arith)
 
--- word j of the bytes from word `at` on, of which n are copied with 0 after them
+-- Word `j` of the bytes from word `at` on, of which `n` are copied and padded with 0.
 pub padded_word : (bytes : List ℕ) (n some at j : ℕ) → 4 * j + 4 ≤ n → word_of (take 4 (drop (4 * j) (take n (drop (4 * at) bytes) ++ replicate some 0))) ≡ word_of (take 4 (drop (4 * (at + j)) bytes))
 padded_word bytes n some at j within =
     let place : 4 * at + 4 * j ≡ 4 * (at + j) = omega arith in
     padded 4 (4 * j) some (take n (drop (4 * at) bytes)) ∙ ap word_of (first_word (drop (4 * at) bytes) n (4 * j) within)
     ∙ ap (λ b. word_of (take 4 b)) (drop-drop (4 * j) (4 * at) bytes) ∙ ap (λ n. word_of (take 4 (drop n bytes))) place
 
--- word j of the bytes from word `at` on, with 0 after the last byte of all
+-- Word `j` of the bytes from word `at` on, padded with 0 after the last byte.
 pub padded_tail : (bytes : List ℕ) (some at j : ℕ) → word_of (take 4 (drop (4 * j) (drop (4 * at) (bytes ++ replicate some 0)))) ≡ word_of (take 4 (drop (4 * (at + j)) bytes))
 padded_tail bytes some at j =
     let place : 4 * at + 4 * j ≡ 4 * (at + j) = omega arith in
     ap (λ b. word_of (take 4 b)) (drop-drop (4 * j) (4 * at) (bytes ++ replicate some 0)) ∙ ap (λ n. word_of (take 4 (drop n (bytes ++ replicate some 0)))) place
     ∙ padded 4 (4 * (at + j)) some bytes
 
--- the last words of a frame: their bytes, and each of them
+-- The last words of a frame: their number of bytes, and each word.
 pub last_sized : (frame : List ℕ) (count : ℕ) → count ≤ words_for (length frame) → length (last_words frame count) ≡ 4 * count
 last_sized frame count few =
     let some = 4 * words_for (length frame) - length frame in

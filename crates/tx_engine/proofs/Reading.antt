@@ -1,4 +1,4 @@
--- What a sender does after the read of the used index or of an id.
+-- The sender after the read of the used index or of an id.
 use Rattle.std.proofs.Common.{◌≡◌, ℕ, zero, suc, ◌+◌, ◌-◌, ◌/◌, ◌%◌, ◌<◌, ◌≤◌, ◌==◌, true, false, if◌then◌else◌, Bool, List, [], ◌∷◌, ◌++◌, length, slice_index, slice_set, arith, refl, ap, sym, ◌∙◌, subst, eq-eqb, ne_eqb}
 use Rattle.ivs_base.specs.Numbers.{distance}
 use Rattle.split_ring.specs.declared.ranges.FieldName.TheVariants.{UsedIndex, UsedId}
@@ -29,7 +29,7 @@ use Rattle.tx_engine.specs.Refinement.{CountsMatch, CountsPlaced, slot_of_pendin
 use Rattle.tx_engine.proofs.Flights.{told_flight, placed_flight, freed_flight, oldest_kept}
 use Rattle.tx_engine.proofs.Accesses.{at_here, freed_is, oldest_is}
 
--- what stays of a sender
+-- The fields of a sender that a read doesn't change.
 abbrev IsKept : (old new : Sender) → Type 0
 IsKept old new = new ≡ record old {
   accepted = new.accepted;
@@ -46,7 +46,7 @@ IsKept old new = new ≡ record old {
 made_on : (old new : Sender) (config : EndConfig) → IsKept old new → IsMadeFor old config → IsMadeFor new config
 made_on old new config kept made = subst (λ s. IsMadeFor s config) (sym kept) (record { sizes = made.sizes; own = made.own; theirs = made.theirs; target = made.target; vector = made.vector })
 
--- what a sender takes, from what it takes of each end at its place
+-- The step of a sender, from its step at each end that it refines at its place.
 pub takes : (old new : Sender) (here : Place) (value : ℕ) (notes : List Note) → old.place ≡ here →
     IsKept old new →
     ((config : EndConfig) (end : End) (place : laws.Place) → IsMadeFor old config → IsAt here old config end place → (marks_of old.frame notes ≡ laws.marks_at config place value)
@@ -57,25 +57,25 @@ takes old new here value notes is kept steps = record {
   kept = kept;
 }
 
--- the sender with these slots and kept lengths at this place
+-- The sender with these slots and stored lengths at this place.
 abbrev pub with_turn : Sender → Allocator → List ℕ → Place → Sender
 with_turn tx turn lengths place = record tx { next = turn.next; in_flight = turn.in_flight; head = turn.head; tail = turn.tail; left = turn.left; lengths = lengths; place = place }
 
--- the sender at a place that it reads from
+-- A sender whose offered frame and stored lengths have sizes in range.
 pub record CanGoOn (tx : Sender) : Type 0 where
   pub queue : IsQueue tx.sizes
   pub lengths : length tx.lengths ≡ limit_of tx.sizes
   pub least : 14 ≤ length tx.frame
   pub most : length tx.frame ≤ tx.sizes.mtu + 18
 
--- the end stands for the session with the frame in hand as well
+-- The slots also refine the session that the offered frame extends.
 with_frame : (tx : Sender) (config : EndConfig) (end : End) (freed : ℕ) → CountsMatch tx config end freed →
     FlightRefinesSession (allocator_of tx) tx.lengths (lengths_of (end.accepted ++ tx.frame ∷ [])) freed (length end.accepted)
 with_frame tx config end freed counts =
     told_flight (allocator_of tx) tx.lengths (lengths_of end.accepted) (lengths_of (end.accepted ++ tx.frame ∷ [])) freed (length end.accepted)
     (λ j low. sym (length_before end.accepted tx.frame j low)) counts.flight
 
--- the frame in hand has room in the slots exactly where it has in the session
+-- The offered frame fits in the slots exactly if it fits in the session.
 decided : (tx : Sender) (config : EndConfig) (end : End) (freed : ℕ) → CanGoOn tx → IsMadeFor tx config → CountsMatch tx config end freed →
     has_room_in (allocator_of tx) (length tx.frame) ≡ frame_fits config (pending_of config end tx.frame) freed
 decided tx config end freed can made counts =
@@ -86,7 +86,7 @@ decided tx config end freed can made counts =
     (turns_lem.decides (allocator_of tx) all freed number can.queue (with_frame tx config end freed counts).refines (omega (arith, last, can.least)) (omega (arith, last, can.most)) ∙
     ap (λ q. has_room q all freed number) (sym made.sizes))
 
--- the slot that it gets is that of the session
+-- The slot that the frame gets is the slot of the session.
 slot_is : (tx : Sender) (config : EndConfig) (end : End) (freed : ℕ) → CanGoOn tx → IsMadeFor tx config → CountsMatch tx config end freed → has_room_in (allocator_of tx) (length tx.frame) ≡ true →
     next_slot (allocator_of tx) (length tx.frame) ≡ slot_of_pending config (pending_of config end tx.frame)
 slot_is tx config end freed can made counts room =
@@ -98,7 +98,7 @@ slot_is tx config end freed can made counts room =
     (subst (λ n. has_room_in (allocator_of tx) n ≡ true) (sym last) room) ∙
     ap (λ q. let s : slots.Slot = record { descriptor = number % limit_of q; address = start_of q all number } in s) (sym made.sizes))
 
--- the offer of the frame in hand goes on at its first word
+-- The first word of the offered frame is next.
 fills_at : (tx : Sender) (config : EndConfig) (end : End) (freed : ℕ) → CanGoOn tx → CountsMatch tx config end freed → IsMadeFor tx config → has_room_in (allocator_of tx) (length tx.frame) ≡ true →
     laws.ids_place config (pending_of config end tx.frame) freed 0 ≡ laws.WritingFrameWord (pending_of config end tx.frame) 0 (words_for (length tx.frame) - 1)
 fills_at tx config end freed can counts made room =
@@ -108,7 +108,7 @@ fills_at tx config end freed can counts made room =
     let some : w ≡ suc (w - 1) = omega arith in
     yes (frame_fits config pending freed) (laws.fill_place pending 0 w) laws.Closed (sym (decided tx config end freed can made counts) ∙ room) ∙ ap (laws.fill_place pending 0) some
 
--- where all that were found are freed, the offer goes on at the place of the grammar
+-- After the last id the offer is at the place of the grammar.
 goes_on : (tx : Sender) (config : EndConfig) (end : End) (freed count : ℕ) (place : Place) (turn : Allocator) (lengths : List ℕ) → CanGoOn tx → IsMadeFor tx config → CountsMatch tx config end freed → end.freed ≡ freed + count →
     GoesOn (allocator_of tx) tx.lengths (length tx.frame) count place turn lengths → IsAt place (with_turn tx turn lengths place) config end (laws.ids_place config (pending_of config end tx.frame) freed count)
 goes_on tx config end freed zero place turn lengths can made counts found on = pick (has_room_in (allocator_of tx) (length tx.frame)) refl
@@ -159,7 +159,7 @@ goes_on tx config end freed (suc more) place turn lengths can made counts found 
     (subst (λ l. IsAt (ReadingUsedId more) (with_turn tx (allocator_of tx) l (ReadingUsedId more)) config end (laws.ReadingUsedId pending freed more)) (sym h.2)
     (freed, refl, omega (arith, found), record { accepted = counts.accepted; flight = counts.flight; copy = counts.copy })))
 
--- an offer that ends after its reads is marked as full, and no other
+-- An offer that ends after its reads has the mark Full, and no other offer has it.
 full_marked : (tx : Sender) (config : EndConfig) (end : End) (freed : ℕ) (place : Place) (turn : Allocator) (lengths : List ℕ) → CanGoOn tx → IsMadeFor tx config → CountsMatch tx config end freed →
     GoesOn (allocator_of tx) tx.lengths (length tx.frame) 0 place turn lengths → marks_of tx.frame (full_notes place) ≡ full_marks config (pending_of config end tx.frame) freed
 full_marked tx config end freed place turn lengths can made counts on = pick (has_room_in (allocator_of tx) (length tx.frame)) refl
@@ -173,7 +173,7 @@ full_marked tx config end freed place turn lengths can made counts on = pick (ha
     pick false full = ap (λ p. marks_of tx.frame (full_notes p)) (on.ends refl full).0 ∙
         sym (no (frame_fits config pending freed) [] (Full ∷ []) (sym (decided tx config end freed can made counts) ∙ full))
 
--- an offer goes on at a place that is open where it has ids to read
+-- An offer with ids to read has no Full note.
 no_full : (tx : Sender) (more : ℕ) (place : Place) (turn : Allocator) (lengths : List ℕ) → GoesOn (allocator_of tx) tx.lengths (length tx.frame) (suc more) place turn lengths → full_notes place ≡ []
 no_full tx more place turn lengths on = ap full_notes (on.reads (omega arith)).0
 
@@ -192,7 +192,7 @@ full_keeps end frame WritingAvailIndex = refl
 full_keeps end frame ReadingAvailEvent = refl
 full_keeps end frame Ringing = refl
 
--- the notes after the used index are its marks
+-- The notes after the read of the used index are its marks.
 reclaimed : (tx : Sender) (config : EndConfig) (end : End) (count : ℕ) (place : Place) (turn : Allocator) (lengths : List ℕ) → CanGoOn tx → IsMadeFor tx config → CountsMatch tx config end end.freed →
     GoesOn (allocator_of tx) tx.lengths (length tx.frame) count place turn lengths → marks_of tx.frame (note.Reclaim count ∷ full_notes place) ≡ reclaim_marks config (pending_of config end tx.frame) end.freed count
 reclaimed tx config end zero place turn lengths can made counts on = ap (λ marks. Reclaim 0 ∷ marks) (full_marked tx config end end.freed place turn lengths can made counts on)
@@ -201,7 +201,7 @@ reclaimed tx config end (suc more) place turn lengths can made counts on =
     ap (λ notes. Reclaim (suc more) ∷ marks_of tx.frame notes) (no_full tx more place turn lengths on)
     ∙ sym (no (suc more == 0) (Reclaim 0 ∷ full_marks config pending end.freed) (Reclaim (suc more) ∷ []) (ne_eqb _ _ (λ e. omega (arith, e))))
 
--- the sender reads a used index in range
+-- The sender reads a used index in range.
 pub index_taken : (tx : Sender) (value count : ℕ) (place : Place) (turn : Allocator) (lengths : List ℕ) (notes : List Note) → IsSender tx → CanGoOn tx → tx.place ≡ ReadingUsedIndex →
     IsUsedIndex ((tx.accepted + 65536 - tx.in_flight) % 65536) (value / 65536) tx.in_flight → count ≡ distance ((tx.accepted + 65536 - tx.in_flight) % 65536) (value / 65536) →
     GoesOn (allocator_of tx) tx.lengths (length tx.frame) count place turn lengths → notes ≡ note.Reclaim count ∷ full_notes place → TakesStep tx value notes (with_turn tx turn lengths place)
@@ -224,22 +224,22 @@ index_taken tx value count place turn lengths notes is can here within count_is 
     subst (λ p. (marks_of tx.frame notes ≡ laws.marks_at config p value) × IsAt place (with_turn tx turn lengths place) config (end_after end (laws.step_at config p value)) (laws.next_place config p value)) (sym same)
     (marks, subst (λ e. IsAt place (with_turn tx turn lengths place) config e (laws.next_place config (laws.ReadingUsedIndex pending end.freed) value)) (sym end_is) (subst (λ q. IsAt place (with_turn tx turn lengths place) config freed q) (sym next) goes)))
 
--- the length that is kept of the oldest frame in flight
+-- The stored length of the oldest frame in flight.
 abbrev pub oldest_length : Sender → ℕ
 oldest_length tx = slice_index tx.lengths (oldest_of (allocator_of tx))
 
--- the sender with one frame less in flight
+-- The sender with one frame less in flight.
 abbrev pub freed_one : Sender → Sender
 freed_one tx = with_turn tx (with_freed (allocator_of tx) (oldest_length tx)) tx.lengths tx.place
 
--- the notes after an id are its marks
+-- The notes after the read of an id are its marks.
 id_marked : (tx : Sender) (config : EndConfig) (end : End) (freed more : ℕ) (place : Place) (turn : Allocator) (lengths : List ℕ) → CanGoOn tx → IsMadeFor tx config → CountsMatch tx config end freed →
     GoesOn (allocator_of tx) tx.lengths (length tx.frame) more place turn lengths → marks_of tx.frame (full_notes place) ≡ (if more == 0 then full_marks config (pending_of config end tx.frame) freed else [])
 id_marked tx config end freed zero place turn lengths can made counts on = full_marked tx config end freed place turn lengths can made counts on
 id_marked tx config end freed (suc more) place turn lengths can made counts on =
     ap (marks_of tx.frame) (no_full tx more place turn lengths on) ∙ sym (no (suc more == 0) (full_marks config (pending_of config end tx.frame) freed) [] (ne_eqb _ _ (λ e. omega (arith, e))))
 
--- the sender reads the id of the oldest frame in flight
+-- The sender reads the id of the oldest frame in flight.
 pub id_taken : (tx : Sender) (more id : ℕ) (place : Place) (turn : Allocator) (lengths : List ℕ) (notes : List Note) → IsSender tx → CanGoOn tx → more < tx.in_flight → tx.place ≡ ReadingUsedId more →
     id ≡ oldest_of (allocator_of tx) → GoesOn (allocator_of (freed_one tx)) tx.lengths (length tx.frame) more place turn lengths → notes ≡ full_notes place → TakesStep tx id notes (with_turn tx turn lengths place)
 id_taken tx more id place turn lengths notes is can some here oldest on notes_are = takes tx (with_turn tx turn lengths place) (ReadingUsedId more) id notes here refl (λ config end at made (freed, same, found, counts).
@@ -264,7 +264,7 @@ id_taken tx more id place turn lengths notes is can some here oldest on notes_ar
     subst (λ p. (marks_of tx.frame notes ≡ laws.marks_at config p id) × IsAt place (with_turn tx turn lengths place) config (end_after end (laws.step_at config p id)) (laws.next_place config p id)) (sym same)
     (marks, subst (λ e. IsAt place (with_turn tx turn lengths place) config e (laws.next_place config (laws.ReadingUsedId pending freed more) id)) (sym end_is) (subst (λ q. IsAt place (with_turn tx turn lengths place) config end q) (sym next) goes)))
 
--- the sender reads another id
+-- The sender reads another id.
 pub id_refused : (tx : Sender) (more id : ℕ) (refused : Refused) → IsSender tx → tx.place ≡ ReadingUsedId more → ¬ IsUsedId (oldest_of (allocator_of tx)) id → refused ≡ record { field = UsedId; value = id } →
     TakesStep tx id (note.Refuse refused ∷ []) (record tx { place = Refusing })
 id_refused tx more id refused is here other refused_is = takes tx (record tx { place = Refusing }) (ReadingUsedId more) id (note.Refuse refused ∷ []) here refl (λ config end at made (freed, same, found, counts).

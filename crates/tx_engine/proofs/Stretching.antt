@@ -1,4 +1,4 @@
--- Some words of the frame in hand, written at once.
+-- Bursts of words of the offered frame.
 use Rattle.std.proofs.Common.{◌≡◌, ℕ, zero, suc, ◌+◌, ◌-◌, ◌*◌, ◌/◌, ◌%◌, ◌<◌, ◌≤◌, List, [], ◌∷◌, ◌++◌, length, take, drop, refl, sym, ap, ◌∙◌, arith, subst}
 use Rattle.std.proofs.lemmas.Grind.{common_steps}
 use Rattle.std.proofs.lemmas.List.{length-take}
@@ -23,12 +23,12 @@ use Rattle.tx_engine.specs.Refinement.{RefinesAt, IsAt, StaysOpen}
 use Rattle.tx_engine.proofs.Accesses.{at_here}
 use Rattle.tx_engine.proofs.Writing.{fills_on, fills_last, writes_low, writes_high, writes_length, writes_flags}
 
--- the place before word `at`, where so many are to come
+-- The place before word `at`, if `count` words are left.
 abbrev pub fill_at : slots.Slot → (at count : ℕ) → Place
 fill_at slot at zero = WritingDescAddressLow slot
 fill_at slot at (suc more) = WritingFrameWord slot at more
 
--- a sender at another place
+-- A sender at another place.
 pub placed : (tx : Sender) (place : Place) → IsSender tx → IsPlace (record tx { place = place }) place → IsSender (record tx { place = place })
 placed tx place is holds = record {
   queue = is.queue;
@@ -72,7 +72,7 @@ fills tx new slot at (suc more) (value ∷ next ∷ values) is has count here so
     let first = fills_one tx slot at (suc more) value is has count here in
     (between, first, fills between new slot (at + 1) more (next ∷ values) first.sender has (omega (arith, count)) refl (omega arith) (omega (arith, within)) new_after)
 
--- the writes of the words that are left
+-- The writes of the words left.
 writes : (config : EndConfig) (pending : PendingOffer) (at more : ℕ) (values : List ℕ) → length values ≤ more →
     laws.access_at config (place_after config (laws.WritingFrameWord pending at more) values) ≡ access.Write (config.own + start_at config pending / 4 + (at + length values)) (frame_word pending.frame (at + length values))
 writes config pending at more [] few = ap (λ n. access.Write (config.own + start_at config pending / 4 + n) (frame_word pending.frame n)) (omega arith)
@@ -84,7 +84,7 @@ abbrev word_of_write : Access → ℕ
 word_of_write (access.Write word value) = word
 word_of_write _ = 0
 
--- the words that are left are written from the word of the first on, where the bytes spell them
+-- The words left are written as a burst from the first of them on, if the bytes are these words.
 pub writes_on : (tx : Sender) (config : EndConfig) (end : End) (place : laws.Place) (word value : ℕ) (slot : slots.Slot) (at more : ℕ) (bytes : List ℕ) → tx.place ≡ WritingFrameWord slot at more → length bytes % 4 ≡ 0 → length bytes ≤ 4 * (more + 1) →
     ((j : ℕ) → 4 * j + 4 ≤ length bytes → word_of (take 4 (drop (4 * j) bytes)) ≡ frame_word tx.frame (at + j)) →
     RefinesAt tx config end place → laws.access_at config place ≡ access.Write word value → WritesBurst config place word bytes
@@ -99,11 +99,11 @@ writes_on tx config end place word value slot at more bytes here whole within sp
 open_seen : (p : Place) (tx : Sender) (config : EndConfig) (end : End) (place : laws.Place) → IsAt p tx config end place → is_open p ≡ laws.is_open place
 open_seen p tx config end place is = grind (arith, common_steps)
 
--- an offer is open where the place is open for which its sender stands
+-- An offer is open exactly if the place that the sender refines is open.
 pub open_is : (tx : Sender) (config : EndConfig) (end : End) (place : laws.Place) → RefinesAt tx config end place → is_open tx.place ≡ laws.is_open place
 open_is tx config end place refines = open_seen tx.place tx config end place refines.at
 
--- the descriptor
+-- The writes of the descriptor.
 
 describes_low : (tx : Sender) (slot : slots.Slot) (value : ℕ) → IsSender tx → HasSlot tx slot → tx.place ≡ WritingDescAddressLow slot → StaysOpen tx value [] (record tx { place = WritingDescAddressHigh slot })
 describes_low tx slot value is has here = record {
@@ -157,7 +157,7 @@ describes tx slot count (a ∷ b ∷ c ∷ d ∷ []) is has here some few sized 
     (record tx { place = WritingDescAddressHigh slot }, one, (record tx { place = WritingDescLength slot }, two, (record tx { place = WritingDescFlags slot }, three, four)))
 describes tx slot count (a ∷ b ∷ c ∷ d ∷ e ∷ values) is has here some few sized = absurd (omega (arith, few, sized))
 
--- the words of a descriptor as bytes
+-- The words of a descriptor as bytes.
 abbrev pub descriptor_bytes : (address bytes : ℕ) → List ℕ
 descriptor_bytes address bytes = word_bytes address ++ (word_bytes 0 ++ (word_bytes bytes ++ word_bytes 0))
 

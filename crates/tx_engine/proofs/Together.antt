@@ -1,4 +1,4 @@
--- All that an offer writes before its index, at once.
+-- All bursts that an offer writes before its index.
 use Rattle.std.proofs.Common.{◌≡◌, ℕ, zero, suc, ◌+◌, ◌-◌, ◌*◌, ◌/◌, ◌%◌, ◌<◌, ◌≤◌, List, [], ◌∷◌, ◌++◌, length, take, drop, refl, sym, ap, ◌∙◌, arith, subst}
 use Rattle.std.proofs.lemmas.List.{length-take, length-drop, take-append-drop}
 use Rattle.ivs_base.specs.Numbers.{word_of}
@@ -25,20 +25,20 @@ use Rattle.tx_engine.proofs.Stretching.{fill_at, placed, fills, describes, write
 
 -- The steps
 
--- some steps, and then some more
+-- Some steps, and then more steps.
 joined : {S : Type 0} (Takes : S → ℕ → List Note → S → Type 0) (old mid new : S) (values more : List ℕ) → 0 < length more → StepsThrough Takes old values [] mid → StepsThrough Takes mid more [] new → StepsThrough Takes old (values ++ more) [] new
 joined Takes old mid new [] more some first rest = subst (λ s. StepsThrough Takes s more [] new) first.1 rest
 joined Takes old mid new (value ∷ []) [] some first rest = absurd (omega (arith, some))
 joined Takes old mid new (value ∷ []) (other ∷ more) some first rest = (mid, first, rest)
 joined Takes old mid new (value ∷ next ∷ values) more some (between, first, others) rest = (between, first, joined Takes between mid new (next ∷ values) more some others rest)
 
--- one step
+-- One step.
 once : {S : Type 0} (Takes : S → ℕ → List Note → S → Type 0) (old new : S) (values : List ℕ) → length values ≡ 1 → ((value : ℕ) → Takes old value [] new) → StepsThrough Takes old values [] new
 once Takes old new [] one step = absurd (omega (arith, one))
 once Takes old new (value ∷ []) one step = step value
 once Takes old new (value ∷ next ∷ values) one step = absurd (omega (arith, one))
 
--- the words that are left of the frame, the descriptor and the entry
+-- The steps of the words left of the frame, of the descriptor and of the available entry.
 pub takes_all : (tx new : Sender) (slot : slots.Slot) (at more : ℕ) (values : List ℕ) → IsSender tx → HasSlot tx slot → at + more + 1 ≡ words_for (length tx.frame) → tx.place ≡ WritingFrameWord slot at more →
     length values ≡ more + 1 + 4 + 1 → ((value : ℕ) → StaysOpen (record tx { place = WritingAvailEntry slot }) value [] new) → StepsThrough StaysOpen tx values [] new
 takes_all tx new slot at more values is has count here sized enters =
@@ -65,7 +65,7 @@ takes_all tx new slot at more values is has count here sized enters =
 
 -- The words
 
--- the place behind the words of the frame, and that behind the descriptor
+-- The place after the words of the frame, and the place after the descriptor.
 after_frame : (config : EndConfig) (pending : PendingOffer) (at more : ℕ) (values : List ℕ) → length values ≡ more + 1 → place_after config (laws.WritingFrameWord pending at more) values ≡ laws.WritingDescAddressLow pending
 after_frame config pending at more [] sized = absurd (omega (arith, sized))
 after_frame config pending at zero (value ∷ []) sized = refl
@@ -80,7 +80,7 @@ after_descriptor config pending (a ∷ b ∷ c ∷ []) sized = absurd (omega (ar
 after_descriptor config pending (a ∷ b ∷ c ∷ d ∷ []) sized = refl
 after_descriptor config pending (a ∷ b ∷ c ∷ d ∷ e ∷ values) sized = absurd (omega (arith, sized))
 
--- the entry
+-- The word of the available entry.
 writes_entry : (tx : Sender) (config : EndConfig) (end : End) (slot : slots.Slot) → IsSender tx → IsMadeFor tx config → HasPlaced tx config end slot → entry_word_of tx slot.descriptor < 4294967296 →
     WritesBurst config (laws.WritingAvailEntry (pending_of config end tx.frame)) (tx.own + word_offset tx.sizes (AvailEntry (tx.accepted % size_of tx.sizes))) (word_bytes (entry_word_of tx slot.descriptor))
 writes_entry tx config end slot is made has fits [] few =
@@ -91,7 +91,7 @@ writes_entry tx config end slot is made has fits [] few =
     ∙ ap (access.Write word) (sym (word_again value fits)) ∙ ap (λ w. access.Write w (word_of (word_bytes value))) here
 writes_entry tx config end slot is made has fits (value ∷ values) few = absurd (omega (arith, few))
 
--- the descriptor
+-- The words of the descriptor.
 writes_descriptor : (tx : Sender) (config : EndConfig) (end : End) (slot : slots.Slot) → IsMadeFor tx config → HasPlaced tx config end slot → slot.address < 4294967296 → length tx.frame < 4294967296 →
     WritesBurst config (laws.WritingDescAddressLow (pending_of config end tx.frame)) (tx.own + word_offset tx.sizes (DescAddress slot.descriptor)) (take 16 (descriptor_bytes slot.address (length tx.frame)))
 writes_descriptor tx config end slot made has fits fits_too values few =
@@ -103,7 +103,7 @@ writes_descriptor tx config end slot made has fits fits_too values few =
     ∙ ap (λ q. tx.own + word_offset q (DescAddress (descriptor_of config pending.number))) made.sizes ∙ ap (λ d. tx.own + word_offset tx.sizes (DescAddress d)) (sym descriptor) in
     described_word config pending (tx.own + word_offset tx.sizes (DescAddress slot.descriptor)) slot.address 16 values fits fits_too (omega arith) refl (omega (arith, few, length-take 16 (descriptor_bytes slot.address (length tx.frame)))) word_is address
 
--- the frame, with the two behind it
+-- The words of the frame, and then those of the descriptor and of the entry.
 pub writes_all : (tx : Sender) (config : EndConfig) (end : End) (place : laws.Place) (slot : slots.Slot) (at more : ℕ) (s : Bursts) (frame descriptor entry bytes : List ℕ) → IsSender tx → tx.place ≡ WritingFrameWord slot at more →
     slot.address < 4294967296 → length tx.frame < 4294967296 → entry_word_of tx slot.descriptor < 4294967296 →
     length frame ≡ 4 * (more + 1) → ((j : ℕ) → 4 * j + 4 ≤ length frame → word_of (take 4 (drop (4 * j) frame)) ≡ frame_word tx.frame (at + j)) →

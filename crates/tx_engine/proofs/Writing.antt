@@ -1,4 +1,4 @@
--- What a sender does after the write of a word of the frame in hand, of its descriptor or of the index.
+-- The sender after the write of a word of the offered frame, of its descriptor or of the index.
 use Rattle.std.proofs.Common.{◌≡◌, ◌≢◌, ℕ, suc, ◌+◌, ◌*◌, ◌/◌, ◌%◌, ◌<◌, ◌≤◌, ◌==◌, if◌then◌else◌, Bool, true, false, List, [], ◌∷◌, ◌++◌, length, arith, refl, ap, sym, ◌∙◌, subst, ne_eqb, length-append}
 use Rattle.std.proofs.lemmas.Nat.{mod_below}
 use Rattle.split_ring.specs.declared.steps.Note.{Note}
@@ -23,15 +23,15 @@ use Rattle.tx_engine.specs.Refinement.{CountsMatch, CountsPlaced, HasPlaced, Has
 use Rattle.tx_engine.proofs.Counting.{one_more}
 use Rattle.tx_engine.proofs.Reading.{takes}
 
--- the peer has the queue of its sender
+-- The configuration's queue is the sender's.
 queue_of : (tx : Sender) (config : EndConfig) → IsSender tx → IsMadeFor tx config → IsQueue config.sizes
 queue_of tx config is made = subst IsQueue (sym made.sizes) is.queue
 
--- the end after the write of a word
+-- The end after the write of a word.
 abbrev wrote : End → (word value : ℕ) → End
 wrote end word value = record end { written = λ w. if w == word then value else end.written w }
 
--- a word that holds no entry
+-- The word holds no available entry.
 abbrev IsBeside : EndConfig → ℕ → Type 0
 IsBeside config word = (k : ℕ) → k < size_of config.sizes → config.own + word_offset config.sizes (AvailEntry k) ≢ word
 
@@ -58,7 +58,7 @@ placed_after tx next config end slot word value queue beside (counts, is) = (
 entry_word : (q : Sizes) (k : ℕ) → word_offset q (AvailEntry k) ≡ 4 * size_of q + 1 + k / 2
 entry_word q k = omega arith
 
--- the words of a frame hold no entry
+-- The words of a frame hold no available entry.
 frame_beside : (config : EndConfig) (pending : PendingOffer) (at : ℕ) → IsQueue config.sizes → IsBeside config (config.own + start_at config pending / 4 + at)
 frame_beside config pending at queue k below same =
     let after = (frames_lem.placed config.sizes pending.lengths pending.number queue).after in
@@ -69,7 +69,7 @@ frame_beside config pending at queue k below same =
     past : (q : Sizes) → 18 * size_of q + 6 ≤ data_area_start q
     past q = omega arith
 
--- nor do those of a descriptor
+-- The words of a descriptor hold no available entry.
 descriptor_beside : (config : EndConfig) (number by : ℕ) → IsQueue config.sizes → by ≤ 3 → IsBeside config (config.own + word_offset config.sizes (DescAddress (descriptor_of config number)) + by)
 descriptor_beside config number by queue few k below same =
     let b = bounds config.sizes queue in
@@ -88,12 +88,12 @@ index_beside config k below same = let entry = entry_word config.sizes k in let 
     index : (q : Sizes) → word_offset q AvailIndex ≡ 4 * size_of q
     index q = omega arith
 
--- what is shown of a step
+-- The claim about each step.
 abbrev Steps : (tx : Sender) (next : Place) (config : EndConfig) (end : End) (value : ℕ) → laws.Place → Type 0
 Steps tx next config end value p =
     (marks_of tx.frame [] ≡ laws.marks_at config p value) × IsAt next (record tx { place = next }) config (end_after end (laws.step_at config p value)) (laws.next_place config p value)
 
--- a word of the frame that isn't the last one
+-- The write of a word of the frame that isn't the last one.
 pub fills_on : (tx : Sender) (slot : slots.Slot) (at more value : ℕ) → IsSender tx → tx.place ≡ WritingFrameWord slot at (suc more) → TakesStep tx value [] (record tx { place = WritingFrameWord slot (at + 1) more })
 fills_on tx slot at more value is here = takes tx (record tx { place = WritingFrameWord slot (at + 1) more }) (WritingFrameWord slot at (suc more)) value [] here refl (λ config end place made h.
     let queue = queue_of tx config is made in
@@ -103,7 +103,7 @@ fills_on tx slot at more value is here = takes tx (record tx { place = WritingFr
     subst (Steps tx (WritingFrameWord slot (at + 1) more) config end value) (sym h.0)
     (refl, (ap (λ j. laws.WritingFrameWord j (at + 1) more) (same_job config end tx.frame word _ queue beside), placed_after tx (WritingFrameWord slot (at + 1) more) config end slot word _ queue beside h.1)))
 
--- the last word
+-- The write of the last word of the frame.
 pub fills_last : (tx : Sender) (slot : slots.Slot) (at value : ℕ) → IsSender tx → tx.place ≡ WritingFrameWord slot at 0 → TakesStep tx value [] (record tx { place = WritingDescAddressLow slot })
 fills_last tx slot at value is here = takes tx (record tx { place = WritingDescAddressLow slot }) (WritingFrameWord slot at 0) value [] here refl (λ config end place made h.
     let queue = queue_of tx config is made in
@@ -114,7 +114,7 @@ fills_last tx slot at value is here = takes tx (record tx { place = WritingDescA
     subst (Steps tx (WritingDescAddressLow slot) config end value) (sym h.0)
     (refl, (next ∙ ap laws.WritingDescAddressLow (same_job config end tx.frame word _ queue beside), placed_after tx (WritingDescAddressLow slot) config end slot word _ queue beside h.1)))
 
--- the four words of the descriptor
+-- The writes of the four words of the descriptor.
 pub writes_low : (tx : Sender) (slot : slots.Slot) (value : ℕ) → IsSender tx → tx.place ≡ WritingDescAddressLow slot → TakesStep tx value [] (record tx { place = WritingDescAddressHigh slot })
 writes_low tx slot value is here = takes tx (record tx { place = WritingDescAddressHigh slot }) (WritingDescAddressLow slot) value [] here refl (λ config end place made h.
     let queue = queue_of tx config is made in
@@ -154,7 +154,7 @@ writes_flags tx slot value is here = takes tx (record tx { place = WritingAvailE
     subst (Steps tx (WritingAvailEntry slot) config end value) (sym h.0)
     (refl, (ap laws.WritingAvailEntry (same_job config end tx.frame word _ queue beside), placed_after tx (WritingAvailEntry slot) config end slot word _ queue beside h.1)))
 
--- the index, with which the frame is accepted
+-- The write of the index, which accepts the frame.
 abbrev Accepts : (tx new : Sender) (config : EndConfig) (end : End) (value : ℕ) → laws.Place → Type 0
 Accepts tx new config end value p =
     (marks_of tx.frame (note.Accept ∷ []) ≡ laws.marks_at config p value) × IsAt new.place new config (end_after end (laws.step_at config p value)) (laws.next_place config p value)

@@ -1,4 +1,4 @@
--- What a sender does after the write of a word of the frame.
+-- The sender after the write of a word of the frame.
 use Rattle.std.proofs.Common.{◌≡◌, ℕ, zero, suc, ◌+◌, ◌-◌, ◌<◌, List, [], refl, sym, ap, ◌∙◌, subst, arith}
 use Rattle.split_ring.specs.declared.steps.Note.{Note}
 use Rattle.frame_slots.specs.declared.slots.Slot as slots
@@ -8,7 +8,7 @@ use Rattle.tx_engine.specs.Sender.{Sender, IsSender}
 use Rattle.tx_engine.specs.Refinement.{TakesStep}
 use Rattle.tx_engine.proofs.Writing.{fills_on, fills_last}
 
--- a step with nothing to note
+-- A step without a note.
 pub quiet : (tx new next : Sender) (value : ℕ) (notes : List Note) → TakesStep tx value [] next → new ≡ next → notes ≡ [] → TakesStep tx value notes new
 quiet tx new next value notes takes new_is notes_are = subst (λ n. TakesStep tx value n new) (sym notes_are) (subst (TakesStep tx value []) (sym new_is) takes)
 

@@ -1,4 +1,5 @@
--- All that an offer writes before its index, from a word of its frame on: what is left of the frame, its descriptor and its entry.
+-- The bursts that an offer writes before its index, from a word of its frame on: the words left of
+-- the frame, the descriptor and the available entry.
 use Rattle.std.specs.Prelude.{ℕ, ◌≡◌, ◌+◌, ◌-◌, ◌*◌, ◌/◌, ◌%◌, Option, Some, None, List, [], ◌∷◌, ◌++◌, length, drop, replicate}
 use Rattle.split_ring.specs.Layout.{size_of, word_offset, DescAddress, AvailEntry}
 use Rattle.call_grammar.specs.Ticks.{EndConfig}
@@ -11,7 +12,8 @@ use Rattle.tx_engine.specs.declared.place.Place.{Place}
 use Rattle.tx_engine.specs.declared.place.Place.TheVariants.{WritingFrameWord}
 use Rattle.tx_engine.specs.Sender.{Sender}
 
--- the words that are written before the index, where a word of the frame is next: those that are left of it, four and one
+-- The bursts that are written before the index, if a word of the frame is next: the words left of
+-- the frame, the four words of the descriptor and the word of the available entry.
 abbrev pub bursts_at : Place → Sender → Option Bursts
 bursts_at (WritingFrameWord slot at more) tx = Some record {
   frame = record { word = tx.own + (slot.address / 4 + at); count = more + 1 };
@@ -23,23 +25,24 @@ bursts_at _ tx = None
 abbrev pub bursts_of : Sender → Option Bursts
 bursts_of tx = bursts_at tx.place tx
 
--- how many these are
+-- The number of words in all bursts.
 abbrev pub words_of : Option Bursts → ℕ
 words_of None = 0
 words_of (Some s) = s.frame.count + s.descriptor.count + s.entry.count
 
--- in their order
+-- The bursts in order.
 abbrev pub listed : Bursts → List Burst
 listed s = s.frame ∷ s.descriptor ∷ s.entry ∷ []
 
--- the coming accesses write these bursts, one behind the other: the first bytes spell the words of the first, whatever its steps are handed the
--- rest those of the others, and there are no more bytes than that
+-- The next accesses write these bursts, in order, for all values that their steps get. The first
+-- bytes are the words of the first burst, the rest are the words of the others, and no byte is left
+-- over.
 abbrev pub WritesAll : EndConfig → laws.Place → List Burst → List ℕ → Type 0
 WritesAll config place [] bytes = bytes ≡ []
 WritesAll config place (burst ∷ more) bytes =
     (first : List ℕ) × (rest : List ℕ) × (bytes ≡ first ++ rest) × (length first ≡ 4 * burst.count) × WritesBurst config place burst.word first ×
     ((values : List ℕ) → length values ≡ burst.count → WritesAll config (place_after config place values) more rest)
 
--- the last words of a frame, so many, as four bytes each: 0 after its last byte
+-- The last `count` words of a frame, four bytes each, with 0 after the frame's last byte.
 abbrev pub last_words : (frame : List ℕ) → (count : ℕ) → List ℕ
 last_words frame count = drop (4 * (words_for (length frame) - count)) (frame ++ replicate (4 * words_for (length frame) - length frame) 0)

@@ -1,4 +1,4 @@
--- For which ends of the call grammar a sender stands.
+-- The ends of the call grammar that a sender refines.
 use Rattle.std.specs.Prelude.{◌≡◌, ℕ, ◌+◌, ◌/◌, ◌%◌, ◌<◌, Bool, true, false, List, [], ◌∷◌, ◌++◌, length, slice_index}
 use Rattle.split_ring.specs.Layout.{size_of, word_offset, AvailEntry}
 use Rattle.link_handshake.specs.declared.Phase.{Phase}
@@ -16,7 +16,7 @@ use Rattle.tx_engine.specs.declared.place.Place.{Place}
 use Rattle.tx_engine.specs.declared.place.Place.TheVariants.{Closed, Refusing, ReadingUsedIndex, ReadingUsedId, WritingFrameWord, WritingDescAddressLow, WritingDescAddressHigh, WritingDescLength, WritingDescFlags, WritingAvailEntry, WritingAvailIndex, ReadingAvailEvent, Ringing}
 use Rattle.tx_engine.specs.Sender.{Sender, IsSender, allocator_of, FlightRefinesSession, is_open}
 
--- the sender was made for this peer: its numbers that never change are the peer's
+-- The sender was made for this configuration: its fixed parameters are the configuration's.
 pub record IsMadeFor (tx : Sender) (config : EndConfig) : Type 0 where
   pub sizes : config.sizes ≡ tx.sizes
   pub own : config.own ≡ tx.own
@@ -24,38 +24,39 @@ pub record IsMadeFor (tx : Sender) (config : EndConfig) : Type 0 where
   pub target : config.other ≡ tx.target
   pub vector : config.vector ≡ tx.vector
 
--- a session is open in these phases
+-- A session is open in these phases.
 abbrev pub has_session : Phase → Bool
 has_session Ready = true
 has_session Run = true
 has_session _ = false
 
--- the own copy is what the end wrote last to the words of its entries
+-- The own copy holds the last value that the end wrote to each word of its entries.
 abbrev pub HasCopy : Sender → EndConfig → End → Type 0
 HasCopy tx config end = (k : ℕ) → k < size_of config.sizes → end.written (config.own + word_offset config.sizes (AvailEntry k)) ≡ slice_index tx.entries (k / 2)
 
--- the numbers are those of an end that accepted as many frames as this one, of which so many are freed, and the kept lengths those of its frames
+-- The numbers are those of an end that accepted the frames of `end.accepted`, of which `freed` are
+-- freed. The stored lengths are the lengths of its frames.
 pub record CountsMatch (tx : Sender) (config : EndConfig) (end : End) (freed : ℕ) : Type 0 where
   pub accepted : tx.accepted ≡ length end.accepted % 65536
   pub flight : FlightRefinesSession (allocator_of tx) tx.lengths (lengths_of end.accepted) freed (length end.accepted)
   pub copy : HasCopy tx config end
 
--- the same where the frame in hand has its slot already: it is in flight, and not accepted yet
+-- The same, if the offered frame has a slot: it is in flight, and not accepted yet.
 pub record CountsPlaced (tx : Sender) (config : EndConfig) (end : End) : Type 0 where
   pub accepted : tx.accepted ≡ length end.accepted % 65536
   pub flight : FlightRefinesSession (allocator_of tx) tx.lengths (lengths_of (end.accepted ++ tx.frame ∷ [])) end.freed (length end.accepted + 1)
   pub copy : HasCopy tx config end
 
--- the slot of the frame of a job
+-- The slot of the frame of a pending offer.
 abbrev pub slot_of_pending : EndConfig → PendingOffer → slots.Slot
 slot_of_pending config pending = record { descriptor = descriptor_of config pending.number; address = start_at config pending }
 
--- the frame in hand has it
+-- The offered frame has this slot.
 abbrev pub HasPlaced : Sender → EndConfig → End → slots.Slot → Type 0
 HasPlaced tx config end slot = CountsPlaced tx config end × (slot ≡ slot_of_pending config (pending_of config end tx.frame))
 
--- its place in the open offer is this one of the end. While it reads ids, the end has freed all that were found, and the sender those
--- that it read
+-- The sender's place represents this place of the end. While the sender reads ids, the end has
+-- freed all frames that the used index reported, and the sender those whose ids it has read.
 abbrev pub IsAt : Place → Sender → EndConfig → End → laws.Place → Type 0
 IsAt Closed tx config end place = (place ≡ laws.Closed) × (has_session end.handshake.phase ≡ true → CountsMatch tx config end end.freed)
 IsAt Refusing tx config end place = place ≡ laws.Refusing
@@ -75,17 +76,18 @@ IsAt ReadingAvailEvent tx config end place =
     (number : ℕ) × (place ≡ laws.ReadingAvailEvent number) × (number + 1 ≡ length end.accepted) × CountsMatch tx config end end.freed
 IsAt Ringing tx config end place = (place ≡ laws.RingingOffer) × CountsMatch tx config end end.freed
 
--- the sender stands for this end of this peer, at this place of its open call
+-- The sender refines the end `end` at `place`, under the configuration `config`.
 pub record RefinesAt (tx : Sender) (config : EndConfig) (end : End) (place : laws.Place) : Type 0 where
   pub made : IsMadeFor tx config
   pub at : IsAt tx.place tx config end place
 
--- the doorbell of an offer comes next
+-- The doorbell of an offer is next.
 abbrev pub rings : laws.Place → Bool
 rings laws.RingingOffer = true
 rings _ = false
 
--- whatever end it stands for, the sender takes the step of its place that meets this value, with these notes, and is the new one then
+-- For every end that it refines, the sender makes the step of its place that meets `value`, with
+-- these notes, and then is `new`.
 pub record TakesStep (old : Sender) (value : ℕ) (notes : List Note) (new : Sender) : Type 0 where
   pub marks : (config : EndConfig) (end : End) (place : laws.Place) → RefinesAt old config end place →
       marks_of old.frame notes ≡ laws.marks_at config place value
@@ -103,19 +105,21 @@ pub record TakesStep (old : Sender) (value : ℕ) (notes : List Note) (new : Sen
     place = new.place;
   }
 
--- and the offer is open still
+-- The sender makes this step, and the offer is still open.
 pub record StaysOpen (old : Sender) (value : ℕ) (notes : List Note) (new : Sender) : Type 0 where
   pub takes : TakesStep old value notes new
   pub opened : is_open new.place ≡ true
   pub sender : IsSender new
 
--- a fresh session: nothing is accepted or freed, and the words of the entries were written as 0 last
+-- A new session: no frame is accepted or freed, and the last write to each word of the entries was
+-- 0.
 pub record IsFreshSession (config : EndConfig) (end : End) : Type 0 where
   pub accepted : end.accepted ≡ []
   pub freed : end.freed ≡ 0
   pub blank : (k : ℕ) → k < size_of config.sizes → end.written (config.own + word_offset config.sizes (AvailEntry k)) ≡ 0
 
--- a session was open in the end before, and what a closed sender stands for is the same in the later one
+-- A session is open at `end`, and `later` is the same in all that a sender without an open offer
+-- depends on.
 pub record SameSession (config : EndConfig) (end later : End) : Type 0 where
   pub open_in : has_session end.handshake.phase ≡ true
   pub accepted : later.accepted ≡ end.accepted
@@ -123,7 +127,8 @@ pub record SameSession (config : EndConfig) (end later : End) : Type 0 where
   pub copy : (k : ℕ) → k < size_of config.sizes →
       later.written (config.own + word_offset config.sizes (AvailEntry k)) ≡ end.written (config.own + word_offset config.sizes (AvailEntry k))
 
--- a closed sender that stands for an end stands for a later one too, if that has no session or is in the same one
+-- A sender without an open offer that refines an end also refines a later end that has no session
+-- or is in the same session.
 abbrev pub IdleEngineOutlivesSteps : Type 0
 IdleEngineOutlivesSteps = (tx : Sender) (config : EndConfig) (end later : End) → RefinesAt tx config end laws.Closed →
     (has_session later.handshake.phase ≡ true → SameSession config end later) → RefinesAt tx config later laws.Closed

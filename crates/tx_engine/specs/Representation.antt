@@ -1,9 +1,9 @@
--- What the fields of a sender are.
+-- The meaning of the fields of a sender.
 use Rattle.std.specs.Prelude.{◌≡◌, ◌+◌, ◌≤◌, take, vec_len}
 use Rattle.tx_engine.specs.declared.tx.Tx.TheInside.{Inside}
 use Rattle.tx_engine.specs.Sender.{Sender, IsSender}
 
--- the frame in hand is the first bytes of the buffer, as many as it has
+-- The offered frame is the first `length` bytes of the buffer.
 abbrev pub sender_of : Inside → Sender
 sender_of t = record {
   sizes = t.queue;
@@ -23,7 +23,7 @@ sender_of t = record {
   place = t.place;
 }
 
--- the slots are those of the queue, and the buffer holds the longest frame
+-- The slots are the queue's, and the buffer holds the longest frame.
 pub record IsWellFormed (t : Inside) : Type 0 where
   pub sender : IsSender (sender_of t)
   pub slots : t.slots.sizes ≡ t.queue

@@ -1,4 +1,4 @@
--- The sender as contracts see it, and what it keeps whatever values it is handed.
+-- The view of a sender in contracts, and its invariant, which holds for all values read.
 use Rattle.std.specs.Prelude.{◌≡◌, ℕ, ◌+◌, ◌*◌, ◌/◌, ◌%◌, ◌^◌, ◌<◌, ◌≤◌, Bool, true, false, List, [], length, replicate, slice_index}
 use Rattle.split_ring.specs.declared.steps.Access.{Access}
 use Rattle.split_ring.specs.declared.steps.Access.TheVariants as access
@@ -10,9 +10,14 @@ use Rattle.call_grammar.specs.Words.{words_for, with_entry}
 use Rattle.tx_engine.specs.declared.place.Place.{Place}
 use Rattle.tx_engine.specs.declared.place.Place.TheVariants.{Closed, ReadingUsedIndex, ReadingUsedId, WritingFrameWord, WritingDescAddressLow, WritingDescAddressHigh, WritingDescLength, WritingDescFlags, WritingAvailEntry, WritingAvailIndex}
 
--- the sizes of the queue, the first words of the two sections, and whom it rings by which vector; the frames accepted modulo 65,536, the next
--- descriptor and the frames in flight, with their bytes of the ring and, by descriptor, their lengths; the own copy of the entry words; the
--- frame in hand, which is the one offered last, and its place in the open offer
+-- The view of a sender:
+-- - the sizes of the queue, the first words of the two sections, and the target and the vector of
+--   its doorbells;
+-- - the number of frames accepted, modulo 65,536;
+-- - the next descriptor, the frames in flight, their bytes of the byte ring and, by descriptor,
+--   their lengths;
+-- - the own copy of the entry words;
+-- - the frame offered last, and the place in the open offer.
 pub record Sender : Type 0 where
   pub sizes : Sizes
   pub own : ℕ
@@ -30,41 +35,43 @@ pub record Sender : Type 0 where
   pub frame : List ℕ
   pub place : Place
 
--- its slots
+-- The allocator of the sender's slots.
 abbrev pub allocator_of : Sender → Allocator
 allocator_of tx = record { sizes = tx.sizes; next = tx.next; in_flight = tx.in_flight; head = tx.head; tail = tx.tail; left = tx.left }
 
--- the slots stand for the frames from `freed` on and below `sent` of a session with these lengths, and the length of each is kept by its descriptor
+-- The slots refine the frames from number `freed` on and below `sent` of a session with these
+-- lengths. The length of each frame is stored by its descriptor.
 pub record FlightRefinesSession (t : Allocator) (lengths : List ℕ) (length_of : ℕ → ℕ) (freed sent : ℕ) : Type 0 where
   pub refines : RefinesSession t length_of freed sent
   pub kept : (k : ℕ) → freed ≤ k → k < sent → slice_index lengths (k % limit_of t.sizes) ≡ length_of k
 
--- so it is for some session
+-- The slots and the stored lengths refine a session.
 abbrev pub HasFlight : Allocator → List ℕ → Type 0
 HasFlight t lengths = (length_of : ℕ → ℕ) × (freed : ℕ) × (sent : ℕ) × FlightRefinesSession t lengths length_of freed sent
 
--- an offer is open
+-- An offer is open.
 abbrev pub is_open : Place → Bool
 is_open Closed = false
 is_open _ = true
 
--- how many of the coming accesses write the words that are left of the frame, or the four words of its descriptor
+-- How many of the next accesses write the words left of the frame, or the four words of its
+-- descriptor. 0 at every other place.
 abbrev pub writes_ahead : Place → ℕ
 writes_ahead (WritingFrameWord slot at more) = more + 1
 writes_ahead (WritingDescAddressLow slot) = 4
 writes_ahead _ = 0
 
--- a frame that may be offered
+-- A frame that may be offered.
 abbrev pub IsFrame : Sizes → List ℕ → Type 0
 IsFrame sizes frame = (14 ≤ length frame) × (length frame ≤ sizes.mtu + 18)
 
--- the frame in hand has this slot: its words end inside the section
+-- The offered frame has this slot: its words end inside the section.
 abbrev pub HasSlot : Sender → slots.Slot → Type 0
 HasSlot tx slot =
     (0 < tx.in_flight) × (slot.descriptor < limit_of tx.sizes) × (slot.address % 4 ≡ 0) × (slot.address + 4 * words_for (length tx.frame) ≤ tx.sizes.out) ×
     IsFrame tx.sizes tx.frame
 
--- what holds at a place of the offer
+-- The invariant of each place of the offer.
 abbrev pub IsPlace : Sender → Place → Type 0
 IsPlace tx ReadingUsedIndex = IsFrame tx.sizes tx.frame
 IsPlace tx (ReadingUsedId more) = (more < tx.in_flight) × IsFrame tx.sizes tx.frame
@@ -77,8 +84,9 @@ IsPlace tx (WritingAvailEntry slot) = HasSlot tx slot
 IsPlace tx WritingAvailIndex = 0 < tx.in_flight
 IsPlace tx _ = Unit {0}
 
--- both sections end at or before word number 4,194,304, the entry words are half as many as the entries, and a length is kept for each descriptor
--- that may be in flight
+-- The invariant of a sender. Both sections end at or before word 4,194,304 of the region. The copy
+-- has half as many words as the queue has entries. A length is stored for each descriptor that can
+-- be in flight.
 pub record IsSender (tx : Sender) : Type 0 where
   pub queue : IsQueue tx.sizes
   pub bounds : HasBounds tx.sizes
@@ -91,11 +99,12 @@ pub record IsSender (tx : Sender) : Type 0 where
   pub flight : HasFlight (allocator_of tx) tx.lengths
   pub place : IsPlace tx tx.place
 
--- the word of the next entry where that names this descriptor, with the own copy of the other half
+-- The word of the next entry if that entry names `descriptor`, with the own copy of the other half.
 abbrev pub entry_word_of : Sender → ℕ → ℕ
 entry_word_of tx descriptor = with_entry (tx.accepted % size_of tx.sizes) (slice_index tx.entries (tx.accepted % size_of tx.sizes / 2)) descriptor
 
--- the access reads a word of the other's section, writes one of the own section or State 0, or rings the target
+-- The access reads a word of the other's section, writes a word of the own section or State 0, or
+-- rings the target.
 abbrev pub IsInReach : Sender → Access → Type 0
 IsInReach tx (access.Read word) = (tx.theirs ≤ word) × (4 * word + 4 ≤ 4 * tx.theirs + tx.sizes.out)
 IsInReach tx (access.Write word value) = (tx.own ≤ word) × (4 * word + 4 ≤ 4 * tx.own + tx.sizes.out)
@@ -103,7 +112,7 @@ IsInReach tx (access.State state) = state ≡ 0
 IsInReach tx (access.Ring target vector) = (target ≡ tx.target) × (vector ≡ tx.vector)
 IsInReach tx access.Nothing = ⊥
 
--- a sender of these numbers where nothing is accepted, written or in hand
+-- A sender with these parameters that accepted, wrote and was offered nothing.
 abbrev pub fresh_sender : Sizes → (own theirs target vector : ℕ) → Sender
 fresh_sender sizes own theirs target vector = record {
   sizes = sizes;
@@ -123,6 +132,6 @@ fresh_sender sizes own theirs target vector = record {
   place = Closed;
 }
 
--- the same sender at the start of a session: only the frame offered last stays
+-- The sender at the start of a session: only the frame offered last stays.
 abbrev pub renewed : Sender → Sender
 renewed tx = record (fresh_sender tx.sizes tx.own tx.theirs tx.target tx.vector) { frame = tx.frame }

@@ -1,21 +1,21 @@
-//! All that an offer writes before its index.
+//! The bursts that an offer writes before its index.
 
-/// Some words that come one after the other in the region.
+/// A burst: consecutive words of the region.
 #[derive(Clone, Copy, Debug, PartialEq, Eq)]
 pub struct Burst {
     /// The number of the first word, from the base of the region.
     pub word: u32,
-    /// How many words these are.
+    /// The number of words.
     pub count: u32,
 }
 
-/// The words that an offer writes before its index, from a word of the frame on, in their order.
+/// The bursts that an offer writes before its index, in order, from a word of the frame on.
 #[derive(Clone, Copy, Debug, PartialEq, Eq)]
 pub struct Bursts {
-    /// Those that are left of the frame.
+    /// The words left of the frame.
     pub frame: Burst,
-    /// The four of its descriptor.
+    /// The four words of the descriptor.
     pub descriptor: Burst,
-    /// The one with its entry.
+    /// The word that holds the available entry.
     pub entry: Burst,
 }

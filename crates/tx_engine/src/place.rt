@@ -1,4 +1,4 @@
-//! Where an offer is.
+//! The place in an open offer.
 ghost use Rattle.std.specs.Prelude.{◌≡◌, ◌+◌, ◌-◌, ◌<◌, ◌≤◌, ◌++◌, length};
 ghost use Rattle.split_ring.specs.Layout.{limit_of};
 ghost use Rattle.tx_engine.specs.Continuations.{GoesOn, descriptor_place_of, full_notes, place_after_index};
@@ -6,11 +6,13 @@ ghost use Rattle.tx_engine.specs.Continuations.{GoesOn, descriptor_place_of, ful
 use frame_slots::{Slot, Slots};
 use split_ring::steps::{Note, Notes};
 
-/// The place in the open offer: what its next step is. A slot is that of the frame in hand.
+/// The place in the open offer, which determines its next step. A slot is the slot of the offered
+/// frame.
 ///
-/// The index comes after the words, the descriptor and the entry, since the other end reads these once it has seen the index; the
-/// doorbell comes last, since it calls for a look at the index, and the other's event is read after the index was written, since the
-/// other writes its event before it looks at the index again.
+/// The index is written after the words, the descriptor and the available entry, because the other
+/// end reads them after the index. The other's avail_event is read after the write of the index,
+/// because the other writes avail_event before it reads the index again. The doorbell is last,
+/// because it makes the other read the index.
 #[derive(Clone, Copy, Debug)]
 pub enum Place {
     /// No offer is open.
@@ -19,39 +21,39 @@ pub enum Place {
     Refusing,
     /// Before the read of the used index.
     ReadingUsedIndex,
-    /// Before the read of the oldest frame's id, with so many more ids to come.
+    /// Before the read of the id of the oldest frame in flight.
     ReadingUsedId {
-        /// How many ids come after this one.
+        /// The number of ids to read after this one.
         more: u32,
     },
     /// Before the write of a word of the frame.
     WritingFrameWord {
         /// The slot of the frame.
         slot: Slot,
-        /// The number of the word in the frame.
+        /// The index of the word in the frame.
         at: u32,
-        /// How many words come after this one.
+        /// The number of words of the frame after this one.
         more: u32,
     },
     /// Before the write of the low word of the descriptor's address.
     WritingDescAddressLow(Slot),
-    /// Before the write of its high word.
+    /// Before the write of the high word of the descriptor's address.
     WritingDescAddressHigh(Slot),
     /// Before the write of the descriptor's length.
     WritingDescLength(Slot),
     /// Before the write of the descriptor's flags.
     WritingDescFlags(Slot),
-    /// Before the write of the entry.
+    /// Before the write of the available entry.
     WritingAvailEntry(Slot),
-    /// Before the write of the index.
+    /// Before the write of the available index.
     WritingAvailIndex,
-    /// Before the read of the other's event, in a link with events.
+    /// Before the read of the other's avail_event, in a link with events.
     ReadingAvailEvent,
     /// Before the doorbell.
     Ringing,
 }
 
-/// Notes that the link is full where no place is left for the frame, so that the offer is over.
+/// Adds a Full note if the offer is over after its reads, because the frame doesn't fit.
 pub fn note_full(place: Place, notes: &mut Notes)
     requires { length notes.old.items < 2 }
     ensures { notes.new.items ≡ notes.old.items ++ full_notes place }
@@ -61,7 +63,8 @@ pub fn note_full(place: Place, notes: &mut Notes)
     }
 }
 
-/// The place before word `at` of the frame in its slot, where so many words are to come, or after its last word.
+/// Returns the place before word `at` of the frame in `slot` if `count` words are left. Returns the
+/// place after the last word if `count` is 0.
 pub fn frame_place(slot: Slot, at: u32, count: u32) -> Place
     ensures word { 0 < count → result ≡ Place.WritingFrameWord slot at (count - 1) }
     ensures after { count ≡ 0 → result ≡ Place.WritingDescAddressLow slot }
@@ -76,7 +79,7 @@ pub fn frame_place(slot: Slot, at: u32, count: u32) -> Place
     }
 }
 
-/// The place after so many writes of a descriptor's words.
+/// Returns the place after `count` writes of the descriptor's words.
 pub fn descriptor_place(slot: Slot, count: u32) -> Place
     ensures { result ≡ descriptor_place_of slot count }
 {
@@ -89,7 +92,8 @@ pub fn descriptor_place(slot: Slot, count: u32) -> Place
     }
 }
 
-/// The place after the write of the index, in a link with events or without them.
+/// Returns the place after the write of the available index. `events` says whether the link has
+/// events.
 pub fn place_after_index(events: bool) -> Place
     ensures { result ≡ place_after_index events }
 {
@@ -100,8 +104,9 @@ pub fn place_after_index(events: bool) -> Place
     }
 }
 
-/// The place after a read with so many ids to come: the next id, else the first word of the frame of so many bytes, which gets a slot,
-/// and whose length is kept by its descriptor, else the end.
+/// Returns the place after a read, with `ids` more ids to read: the next id if there is one.
+/// Otherwise the frame of `bytes` bytes gets a slot, its length is stored by its descriptor, and
+/// its first word is next. If the frame doesn't fit, the offer is over.
 pub fn offer_after_ids(slots: &mut Slots, lengths: &mut [u32], bytes: u32, ids: u32) -> Place
     requires kept { length lengths.old ≡ limit_of slots.old.sizes }
     requires least { 14 ≤ bytes }

@@ -25,11 +25,12 @@ use split_ring::{Queue, Refused, need_event};
 use std::alloc::Global;
 use std::marker::Model;
 
-/// The sender of an end: it publishes frames in the end's own section, one access a step.
+/// The sender of an end. It publishes frames in the end's own section, one access a step.
 ///
-/// It makes no access itself: `next` says which one comes, and `took` is handed what it gave. It keeps the number of accepted frames
-/// modulo 65,536, the descriptors in flight with the lengths of their frames, and a copy of the entry words that it wrote, since two entries
-/// share a word. After `new` no call answers NoMemory.
+/// It performs no access: `next` returns the next one, and the caller performs it and passes the
+/// value read to `took`. The sender stores the number of accepted frames modulo 65,536, and the
+/// descriptors in flight with the lengths of their frames. It also stores a copy of the entry words
+/// that it wrote, because two entries share a word. After `new` no call returns NoMemory.
 #[derive(Debug, Drop)]
 pub struct Tx {
     queue: Queue,
@@ -58,9 +59,14 @@ impl Model for Tx {
 }
 
 impl Tx {
-    /// The sender of a link's end whose section begins at the word `own`, and its partner's at `theirs`. It rings `target` by `vector`.
+    /// Returns the sender of an end whose section begins at the word `own`, and the other end's
+    /// section at the word `theirs`. Its doorbells have the target `target` and the vector
+    /// `vector`.
     ///
-    /// Words are numbered from the base of the region. NoMemory says that memory ran out.
+    /// Words are numbered from the base of the region. Returns `Err(NoMemory)` if an allocation
+    /// fails.
+    // claim value, refines with Tx::reset.value, Tx::reset.refines: A new sender, and one that was
+    //    reset, represents each end with a fresh session. A reset keeps the frame offered last.
     pub fn new(
         alloc: Global,
         queue: &Queue,
@@ -93,7 +99,8 @@ impl Tx {
         })
     }
 
-    /// Is an offer open?
+    /// Whether an offer is open.
+    // claim open, place, bounds: The sender is open exactly as long as the offer is.
     pub fn busy(&self) -> bool
         ensures open { result ≡ is_open self.now.place }
         ensures bounds { IsSender self.now }
@@ -102,14 +109,15 @@ impl Tx {
         !matches!(self.place, Place::Closed)
     }
 
-    /// The bytes of the longest frame that an offer takes: 18 more than the MTU.
+    /// Returns the length in bytes of the longest frame that may be offered: the MTU plus 18.
     pub fn longest(&self) -> u32
         ensures { result ≡ self.now.sizes.mtu + 18 }
     {
         self.queue.mtu() + 18
     }
 
-    /// The frame offered last: by `begin`, or by `keep` for a later offer. It is empty before the first.
+    /// Returns the frame offered last: the frame of `begin`, or the frame that `keep` stored for a
+    /// later offer. It is empty before the first.
     pub fn frame(&self) -> &[u8]
         ensures value { result.now ≡ self.now.frame }
         ensures most { length result.now ≤ self.now.sizes.mtu + 18 }
@@ -117,7 +125,11 @@ impl Tx {
         &self.buffer[..self.length as usize]
     }
 
-    /// Opens an offer of this frame, which is copied. The end is in RUN.
+    /// Opens an offer of `frame`, and copies the frame. The end is in RUN.
+    // claim refines, value with Tx::begin_again.refines, Tx::begin_again.value, Tx::keep.refines,
+    //    Tx::keep.value, Tx::frame.value, Tx::frame.most, Tx::longest: An offer begins at the first
+    //    place of the grammar's offer, for an end in RUN. A frame that is kept for a later offer
+    //    changes nothing else.
     pub fn begin(&mut self, frame: &[u8])
         requires closed { is_open self.old.place ≡ false }
         requires frame { IsFrame self.old.sizes frame.now }
@@ -129,7 +141,7 @@ impl Tx {
         self.place = Place::ReadingUsedIndex;
     }
 
-    /// Takes this frame, which is copied, as the one offered last, and opens no offer.
+    /// Stores a copy of `frame` as the frame offered last, and opens no offer.
     pub fn keep(&mut self, frame: &[u8])
         requires closed { is_open self.old.place ≡ false }
         requires frame { IsFrame self.old.sizes frame.now }
@@ -140,7 +152,7 @@ impl Tx {
         self.length = frame.len() as u32;
     }
 
-    /// Opens an offer of the frame offered last again, which isn't copied. The end is in RUN.
+    /// Opens another offer of the frame offered last, without a copy. The end is in RUN.
     pub fn begin_again(&mut self)
         requires closed { is_open self.old.place ≡ false }
         requires some { 14 ≤ length self.old.frame }
@@ -151,7 +163,11 @@ impl Tx {
         self.place = Place::ReadingUsedIndex;
     }
 
-    /// The next access of the open offer.
+    /// Returns the next access of the open offer.
+    // claim access: The next access is that of the sender's place in the grammar. In a link with
+    //    events the sender reads the other's event after the index.
+    // claim reach, lawful: The next access writes the own section, reads the other's, sets State 0
+    //    or rings the target, whatever was read before.
     pub fn next(&self) -> Access
         requires { is_open self.now.place ≡ true }
         ensures access { (config : EndConfig) (end : End) (place : laws.Place) → RefinesAt self.now config end place → result ≡ laws.access_at config place }
@@ -197,7 +213,11 @@ impl Tx {
         }
     }
 
-    /// Takes the step of the access that `next` gave, with the value that a read gave.
+    /// Completes the step of the access that `next` returned. `value` is the value that a read met.
+    // claim with Tx::took_into: Each step has the marks of its place for the value read, and leads
+    //    to the next place. A used index or an id out of range is refused, and nothing else is. The
+    //    length of each frame in flight is kept by its descriptor, and its frame is freed with it.
+    //    The doorbell is rung exactly if the event asks for this frame.
     pub fn took(&mut self, value: u32) -> Notes
         requires { is_open self.old.place ≡ true }
         ensures { TakesStep self.old value result.items self.new }
@@ -207,7 +227,7 @@ impl Tx {
         notes
     }
 
-    /// The same as `took`, with the notes put into a list that the caller has.
+    /// Equivalent to `took`, but puts the notes into the caller's list `notes`.
     pub fn took_into(&mut self, value: u32, notes: &mut Notes)
         requires open { is_open self.old.place ≡ true }
         requires empty { notes.old.items ≡ [] }
@@ -234,7 +254,9 @@ impl Tx {
         }
     }
 
-    /// What the word of the next access is to the order of memory.
+    /// Returns the kind of the next access's word, which determines its memory order.
+    // claim with Tx::rings: The kind of the next access is known: an index word, an event, another
+    //    word, or the doorbell.
     pub fn word_kind(&self) -> WordKind
         ensures { (config : EndConfig) (end : End) (place : laws.Place) → RefinesAt self.now config end place → result ≡ word_kind place }
     {
@@ -246,15 +268,15 @@ impl Tx {
         }
     }
 
-    /// Is the next access the doorbell?
+    /// Whether the next access is the doorbell.
     pub fn rings(&self) -> bool
         ensures { (config : EndConfig) (end : End) (place : laws.Place) → RefinesAt self.now config end place → result ≡ rings place }
     {
         matches!(self.place, Place::Ringing)
     }
 
-    /// How many of the coming accesses write the words of the frame, or those of its descriptor, each the next word and with no note;
-    /// else 0.
+    /// Returns how many of the next accesses write consecutive words of the frame or of its
+    /// descriptor, without a note. Returns 0 if no burst is next.
     pub fn writes_ahead(&self) -> u32
         ensures { result ≡ writes_ahead self.now.place }
     {
@@ -265,7 +287,10 @@ impl Tx {
         }
     }
 
-    /// Puts some of the words that `writes_ahead` tells into `into`, each as its four bytes, the lowest first.
+    /// Writes the values of the next writes into `into`, at most `writes_ahead` words, four bytes
+    /// each, the lowest byte first.
+    // claim writes, sized: The words of a burst are those that the next writes write: the frame's,
+    //    with 0 after its last byte, or the descriptor's.
     pub fn words(&self, into: &mut [u8])
         requires whole { length into.old % 4 ≡ 0 }
         requires within { length into.old ≤ 4 * writes_ahead self.now.place }
@@ -284,7 +309,10 @@ impl Tx {
         }
     }
 
-    /// Takes the steps of so many of the writes that `writes_ahead` tells at once. It is the same as `took` so many times.
+    /// Completes the next `count` writes, with `count` at most `writes_ahead`. Equivalent to
+    /// `count` calls of `took`.
+    // claim with Tx::writes_ahead: Completing a burst equals as many single steps, none with a
+    //    note, and at most the writes ahead.
     pub fn took_writes(&mut self, count: u32)
         requires some { 0 < count }
         requires within { count ≤ writes_ahead self.old.place }
@@ -301,8 +329,12 @@ impl Tx {
         }
     }
 
-    /// Which words are written before the index: those that are left of the frame, those of its descriptor and that of its entry, one behind
-    /// the other and with no note. None where no word of the frame is next.
+    /// Returns the bursts that are written before the index: the words left of the frame, the
+    /// descriptor and the available entry, in this order and without notes. Returns `None` if the
+    /// next access isn't the write of a word of the frame.
+    // claim with Tx::burst_words.writes, Tx::burst_words.sized, Tx::took_bursts: The bursts are all
+    //    that an offer writes before its index: the rest of the frame, its descriptor and its
+    //    entry, as the next accesses write them. Completing them equals as many single steps.
     pub fn bursts(&self) -> Option<Bursts>
         ensures { result ≡ bursts_of self.now }
     {
@@ -317,7 +349,7 @@ impl Tx {
         })
     }
 
-    /// Puts all the words that `bursts` tells into `into`, each as its four bytes, the lowest first.
+    /// Writes all words of `bursts` into `into`, four bytes each, the lowest byte first.
     pub fn burst_words(&self, into: &mut [u8])
         requires sized { length into.old ≡ 4 * words_of (bursts_of self.now) }
         ensures writes { (config : EndConfig) (end : End) (place : laws.Place) → RefinesAt self.now config end place →
@@ -336,10 +368,13 @@ impl Tx {
         );
     }
 
-    /// Puts the words of the descriptor and of the entry that `bursts` tells into `into`, each as its four bytes, the lowest first.
+    /// Writes the words of the descriptor and of the available entry of `bursts` into `into`, four
+    /// bytes each, the lowest byte first. Leaves `into` unchanged if `bursts` is `None`.
     ///
-    /// The words of the frame are the last ones of the frame that was offered, with 0 after its last byte: who has that frame writes them from
-    /// there. Where no word of the frame is next nothing is put.
+    /// The words of the frame are the last ones of the offered frame, with 0 after its last byte. A
+    /// caller that still holds the frame can write them from its own copy.
+    // claim writes, untouched, sized: The tail is the five words after the frame, if the words left
+    //    of the frame are the last ones of the frame offered.
     pub fn tail_words(&self, into: &mut [u8])
         requires sized { length into.old ≡ 20 }
         ensures writes { (config : EndConfig) (end : End) (place : laws.Place) → RefinesAt self.now config end place →
@@ -354,7 +389,7 @@ impl Tx {
         put_tail(into, slot.address, self.length, entry);
     }
 
-    /// Takes the steps of all the writes that `bursts` tells at once. It is the same as `took` so many times.
+    /// Completes all writes of `bursts`. Equivalent to one call of `took` for each of these writes.
     pub fn took_bursts(&mut self)
         requires { 0 < words_of (bursts_of self.old) }
         ensures { (values : List ℕ) → length values ≡ words_of (bursts_of self.old) → StepsThrough StaysOpen self.old values [] self.new }
@@ -368,7 +403,8 @@ impl Tx {
         }
     }
 
-    /// Forgets the offer, the frames in flight and the entries: a session begins. The frame offered last stays.
+    /// Resets the sender for a new session: no offer is open, no frame is in flight, and the
+    /// entries are 0. The frame offered last stays.
     pub fn reset(&mut self)
         ensures value { self.new ≡ renewed self.old }
         ensures refines { (config : EndConfig) (end : End) → IsMadeFor self.old config → IsFreshSession config end → RefinesAt self.new config end laws.Closed }
@@ -380,7 +416,7 @@ impl Tx {
         self.place = Place::Closed;
     }
 
-    /// The read of a word of the other's section.
+    /// Returns the read of word `word` of the other's section.
     fn read(&self, word: u32) -> Access
         requires { 4 * word + 4 ≤ self.now.sizes.out }
         ensures { result ≡ Access.Read (self.now.theirs + word) }
@@ -388,7 +424,7 @@ impl Tx {
         Access::Read(self.theirs + word)
     }
 
-    /// The write of a word of the own section.
+    /// Returns the write of `value` to word `word` of the own section.
     fn write(&self, word: u32, value: u32) -> Access
         requires { 4 * word + 4 ≤ self.now.sizes.out }
         ensures { result ≡ Access.Write (self.now.own + word) value }
@@ -396,7 +432,7 @@ impl Tx {
         Access::Write(self.own + word, value)
     }
 
-    /// So many words of the own section from this one on.
+    /// Returns the burst of `count` words of the own section from `word` on.
     fn burst(&self, word: u32, count: u32) -> Burst
         requires { 4 * word + 4 ≤ self.now.sizes.out }
         ensures { result ≡ record { word = self.now.own + word; count = count } }
@@ -407,14 +443,14 @@ impl Tx {
         }
     }
 
-    /// How many frames were freed, modulo 65,536.
+    /// Returns the number of frames freed, modulo 65,536.
     fn freed(&self) -> u16
         ensures { result ≡ (self.now.accepted + 65536 - self.now.in_flight) % 65536 }
     {
         self.accepted.wrapping_sub(self.slots.in_flight() as u16)
     }
 
-    /// Word `at` of the frame in hand: bytes after its last are 0.
+    /// Returns word `at` of the offered frame, with 0 after the frame's last byte.
     fn frame_word(&self, at: u32) -> u32
         requires { at < words_for (length self.now.frame) }
         ensures { result ≡ frame_word self.now.frame at }
@@ -424,14 +460,15 @@ impl Tx {
         word_of(&self.buffer[start..length.min(start + 4)])
     }
 
-    /// The place in the ring of the next entry.
+    /// Returns the position of the next entry in the available ring.
     fn entry(&self) -> u32
         ensures { result ≡ self.now.accepted % size_of self.now.sizes }
     {
         u32::from(self.accepted) % self.queue.size()
     }
 
-    /// The word of the next entry, where that entry names this descriptor: its other half is the neighbour's.
+    /// Returns the word of the next entry, if that entry names `descriptor`. The other half of the
+    /// word is the neighbouring entry's.
     fn entry_word(&self, descriptor: u32) -> u32
         requires { descriptor < limit_of self.now.sizes }
         ensures { result ≡ entry_word_of self.now descriptor }
@@ -445,7 +482,7 @@ impl Tx {
         }
     }
 
-    /// Goes on at this place, with nothing to note.
+    /// Moves to `place` without a note.
     fn go_on(&mut self, place: Place)
         requires { IsPlace self.old place }
         ensures { self.new ≡ record self.old { place = place } }
@@ -453,7 +490,7 @@ impl Tx {
         self.place = place;
     }
 
-    /// Goes past the write of the entry: its word goes into the own copy.
+    /// Completes the write of the available entry, and stores its word in the own copy.
     fn write_avail_entry(&mut self, slot: Slot)
         requires { self.old.place ≡ Place.WritingAvailEntry slot }
         ensures { (value : ℕ) → StaysOpen self.old value [] self.new }
@@ -463,7 +500,7 @@ impl Tx {
         self.place = Place::WritingAvailIndex;
     }
 
-    /// Takes the write of the index, with which the frame is accepted.
+    /// Completes the write of the available index, which accepts the frame.
     fn wrote_index(&mut self, notes: &mut Notes)
         requires place { self.old.place ≡ Place.WritingAvailIndex }
         requires empty { notes.old.items ≡ [] }
@@ -474,7 +511,8 @@ impl Tx {
         notes.push(Note::Accept);
     }
 
-    /// Takes the other's event: the doorbell comes next where it asks for the frame that was accepted just now.
+    /// Completes the read of the other's avail_event. The doorbell is next if avail_event wants one
+    /// for the frame that was accepted last.
     fn took_event(&mut self, value: u32, notes: &mut Notes)
         requires place { self.old.place ≡ Place.ReadingAvailEvent }
         requires empty { notes.old.items ≡ [] }
@@ -499,7 +537,7 @@ impl Tx {
         notes.push(Note::Over);
     }
 
-    /// Takes the used index.
+    /// Completes the read of the used index.
     fn took_index(&mut self, value: u32, notes: &mut Notes)
         requires place { self.old.place ≡ Place.ReadingUsedIndex }
         requires empty { notes.old.items ≡ [] }
@@ -519,7 +557,7 @@ impl Tx {
         }
     }
 
-    /// Takes the id of the oldest frame in flight.
+    /// Completes the read of the id of the oldest frame in flight.
     fn took_id(&mut self, more: u32, id: u32, notes: &mut Notes)
         requires place { self.old.place ≡ Place.ReadingUsedId more }
         requires empty { notes.old.items ≡ [] }
@@ -534,7 +572,7 @@ impl Tx {
         note_full(self.place, notes);
     }
 
-    /// Goes on to the State step of a refusal.
+    /// Moves to the State step of a refusal.
     fn refuses(&mut self, refused: Refused, notes: &mut Notes)
         requires { notes.old.items ≡ [] }
         ensures note { notes.new.items ≡ Note.Refuse refused ∷ [] }
@@ -545,7 +583,7 @@ impl Tx {
     }
 }
 
-/// Copies a frame to the front of the buffer.
+/// Copies `frame` to the start of `buffer`.
 fn put_first(buffer: &mut [u8], frame: &[u8])
     requires { length frame.now ≤ length buffer.old }
     ensures { take (length frame.now) buffer.new ≡ frame.now }
@@ -553,7 +591,7 @@ fn put_first(buffer: &mut [u8], frame: &[u8])
     buffer[..frame.len()].copy_from_slice(frame);
 }
 
-/// Copies the first bytes of these, as many as fit, and 0 after them.
+/// Copies the first bytes of `bytes` into `into`, and writes 0 after them if `into` is longer.
 fn copy_padded(into: &mut [u8], bytes: &[u8])
     ensures { into.new ≡ take (length into.old) bytes.now ++ replicate (length into.old - length bytes.now) 0 }
 {
@@ -563,7 +601,7 @@ fn copy_padded(into: &mut [u8], bytes: &[u8])
     rest.fill(0);
 }
 
-/// Puts the first words of a descriptor, as many as fit.
+/// Writes the first words of a descriptor, as many bytes as `into` has.
 fn put_descriptor(into: &mut [u8], address: u32, bytes: u32)
     requires { length into.old ≤ 16 }
     ensures { into.new ≡ take (length into.old) (word_bytes address ++ (word_bytes 0 ++ (word_bytes bytes ++ word_bytes 0))) }
@@ -577,7 +615,7 @@ fn put_descriptor(into: &mut [u8], address: u32, bytes: u32)
     into.copy_from_slice(&words[..into.len()]);
 }
 
-/// Puts a word as its four bytes.
+/// Writes `word` as four bytes, the lowest first.
 fn put_word(into: &mut [u8], word: u32)
     requires { length into.old ≡ 4 }
     ensures { into.new ≡ word_bytes word }
@@ -585,7 +623,7 @@ fn put_word(into: &mut [u8], word: u32)
     into.copy_from_slice(&word.to_le_bytes());
 }
 
-/// Puts the words of a descriptor and that of an entry, one behind the other.
+/// Writes the words of a descriptor and then the word of an entry.
 fn put_tail(into: &mut [u8], address: u32, bytes: u32, entry: u32)
     requires { length into.old ≡ 20 }
     ensures { into.new ≡ (word_bytes address ++ (word_bytes 0 ++ (word_bytes bytes ++ word_bytes 0))) ++ word_bytes entry }
@@ -595,7 +633,8 @@ fn put_tail(into: &mut [u8], address: u32, bytes: u32, entry: u32)
     put_word(last, entry);
 }
 
-/// Puts the words of a frame, with 0 after its last byte, those of its descriptor and that of its entry, one behind the other.
+/// Writes the words of a frame (with 0 after its last byte), then the words of its descriptor, then
+/// the word of its entry.
 fn put_all(into: &mut [u8], frame: &[u8], address: u32, bytes: u32, entry: u32)
     requires { 20 ≤ length into.old }
     ensures { into.new ≡ (take (length into.old - 20) frame.now ++ replicate (length into.old - 20 - length frame.now) 0) ++
@@ -606,7 +645,9 @@ fn put_all(into: &mut [u8], frame: &[u8], address: u32, bytes: u32, entry: u32)
     put_tail(tail, address, bytes, entry);
 }
 
-/// Law: a closed sender stands for an end as long as its session goes on: Ticks, Stops and Polls change nothing of it.
+/// Law: a sender without an open offer refines the end as long as its session lasts. Ticks, Stops
+/// and Polls don't change it.
+// claim: A closed sender represents an end as long as its session lasts.
 pub fn idle_engine_outlives_steps()
     ensures { IdleEngineOutlivesSteps }
 {}

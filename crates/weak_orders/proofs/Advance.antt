@@ -1,4 +1,4 @@
--- What all moments of two ends keep; and beside a look of the one the other goes on.
+-- The invariant of all moments of two ends. A load of one end keeps it while the other end acts.
 use Rattle.std.proofs.Common.{◌≡◌, ℕ, zero, suc, ◌+◌, ◌-◌, ◌<◌, ◌≤◌, ◌⊎◌, inl, inr, ⊎_elim, false, refl, sym, subst, arith, Bool}
 use Rattle.split_ring.specs.declared.steps.Access.{Access}
 use Rattle.split_ring.specs.declared.steps.Access.TheVariants as access
@@ -15,29 +15,29 @@ use Rattle.weak_orders.proofs.Cuts.{Cut, flip}
 use Rattle.weak_orders.proofs.Diamond.{Looked, looked, Clash, diamond}
 use Rattle.weak_orders.proofs.Held.{At, like, turn, met, action_cut, Comes, no_clash}
 
--- where the look of an action came from
+-- A moment of the other at which the word has the value that the action loaded.
 abbrev pub Sourced : LinkConfig → ℕ → Moment → (others : ℕ → Moment) → (now : ℕ) → Action → Type 0
 Sourced link_config p m others now (Takes value) = (word : ℕ) → access_at (config_of link_config p) m.place ≡ access.Read word → Comes link_config p m others now value word
 Sourced link_config p m others now _ = Unit {0}
 
--- and of a look at the state, which acquires: the view comes to it
+-- The same for a load of the other's State. The load acquires, so the view includes that moment.
 abbrev pub Took : LinkConfig → ℕ → (m m' : Moment) → (others : ℕ → Moment) → Action → Type 0
 Took link_config p m m' others (Takes value) = (h : HandshakeState) → m.place ≡ ReadingOtherState h → (s : ℕ) × (m.view ≤ s) × (s ≤ m'.view) × (value ≡ (others s).words (1 - p))
 Took link_config p m m' others _ = Unit {0}
 
--- and of a look at the available index
+-- The same for a load of the available index.
 abbrev pub Found : LinkConfig → ℕ → (m m' : Moment) → (others : ℕ → Moment) → Action → Type 0
 Found link_config p m m' others (Takes value) = (t : ℕ) (last : Bool) → m.place ≡ ReadingAvailIndex t last →
     (s : ℕ) × (m.view ≤ s) × (s ≤ m'.view) × (value ≡ seen link_config p m.words (others s).words (section_of link_config (1 - p) + word_offset link_config.sizes AvailIndex))
 Found link_config p m m' others _ = Unit {0}
 
--- and of a look at the used index
+-- The same for a load of the used index.
 abbrev pub Reclaimed : LinkConfig → ℕ → (m m' : Moment) → (others : ℕ → Moment) → Action → Type 0
 Reclaimed link_config p m m' others (Takes value) = (pending : PendingOffer) (freed : ℕ) → m.place ≡ ReadingUsedIndex pending freed →
     (s : ℕ) × (m.view ≤ s) × (s ≤ m'.view) × (value ≡ seen link_config p m.words (others s).words (section_of link_config (1 - p) + word_offset link_config.sizes UsedIndex))
 Reclaimed link_config p m m' others _ = Unit {0}
 
--- and a doorbell that was heard
+-- The same for a doorbell that the end received.
 abbrev pub Rung : LinkConfig → ℕ → Moment → (others : ℕ → Moment) → Action → Type 0
 Rung link_config p m' others (Hears k) = Heard link_config p m' others k
 Rung link_config p m' others _ = Unit {0}
@@ -53,8 +53,9 @@ pub record Trail (link_config : LinkConfig) (p : ℕ) (past : ℕ → Moment) (k
   pub reclaimed : Reclaimed link_config p (past k) (past (suc k)) others (past (suc k)).action
   pub rung : Rung link_config p (past (suc k)) others (past (suc k)).action
 
--- each two moments of which neither knows of more than the other has done hold together; what an end knows the other has done; of two full fences the later one knows
--- the earlier one; the state word of one that owes none stands since its last one; and each action is one of the grammar
+-- The invariant of two ends. The pair holds at each consistent cut. No view passes the other's last
+-- moment. Of two full fences the later one knows the earlier one. The State word of an end that
+-- owes no fence is unchanged since its last fence. Each action is one of the call grammar.
 pub record Held (link_config : LinkConfig) (pasts : ℕ → ℕ → Moment) (now : ℕ → ℕ) : Type 0 where
   pub cuts : (p : ℕ) → p < 2 → (a b : ℕ) → a ≤ now p → b ≤ now (1 - p) → (pasts p a).view ≤ b → (pasts (1 - p) b).view ≤ a → At link_config p (pasts p a) (pasts (1 - p) b)
   pub views : (p : ℕ) → p < 2 → (a : ℕ) → a ≤ now p → (pasts p a).view ≤ now (1 - p)
@@ -77,7 +78,7 @@ looked_so : (link_config : LinkConfig) (p : ℕ) (x y : ℕ → ℕ) (end end' :
 looked_so link_config p x y end end' place place' u w v word e f g c = subst (λ (k : End). Looked end place k place') (sym f) (subst (λ (k : Place). Looked end place (end_after end (step_at (config_of link_config p) place v)) k) (sym g) (looked link_config (seen link_config p x y) p end place v word e c.before.mine))
 
 module _ (link_config : LinkConfig) (is : IsLinkConfig link_config) (pasts : ℕ → ℕ → Moment) (now : ℕ → ℕ) (held : Held link_config pasts now) (p : ℕ) (p2 : p < 2) where
-  -- the last moment of p beside one of the other
+  -- The invariant at the last moment of end p and a consistent moment of the other.
   pub beside : (k : ℕ) → (pasts p (now p)).view ≤ k → k ≤ now (1 - p) → At link_config p (pasts p (now p)) (pasts (1 - p) k)
   beside k from to = let back : 1 - (1 - p) ≡ p = omega arith in let v = subst (λ q. (pasts (1 - p) k).view ≤ now q) back (held.views (1 - p) (omega arith) k to) in held.cuts p p2 (now p) k (omega arith) to from v
 
@@ -131,7 +132,7 @@ module _ (link_config : LinkConfig) (is : IsLinkConfig link_config) (pasts : ℕ
         by_action Resets d s = turn link_config is p p2 new (pasts (1 - p) (suc k)) (action_cut link_config is (1 - p) (omega arith) (pasts (1 - p) k) (pasts (1 - p) (suc k)) new Resets d tt (flip link_config is p p2 c))
         by_action (Takes value) d s = by_met value d s (met (access_at (config_of link_config (1 - p)) (pasts (1 - p) k).place) value)
 
-    -- so a look that holds beside the moment from which it came holds beside all later ones
+    -- A load that is consistent with the moment that it gives is consistent with each later moment.
     pub advance : (j : ℕ) → i + j ≤ now (1 - p) → At link_config p new (pasts (1 - p) i) → At link_config p new (pasts (1 - p) (i + j))
     advance zero to c = subst (λ k. At link_config p new (pasts (1 - p) k)) (let e : i ≡ i + zero = omega arith in e) c
     advance (suc j) to c = subst (λ k. At link_config p new (pasts (1 - p) k)) (let e : suc (i + j) ≡ i + suc j = omega arith in e) (goes_on (i + j) (omega arith) (omega arith) (advance j (omega arith) c))

@@ -1,5 +1,5 @@
--- The words of the states and of the indexes are stored by releasing stores alone, but for those that are cleared.
-use Rattle.std.proofs.Common.{◌≡◌, ◌≢◌, ℕ, ◌+◌, ◌*◌, ◌/◌, ◌%◌, ◌<◌, ◌≤◌, ◌⊎◌, inl, inr, ⊎_elim, Bool, true, false, refl, arith}
+-- Each store to a State word or to an index word is a store-release, except the clears.
+use Rattle.std.proofs.Common.{◌≡◌, ◌≢◌, ℕ, ◌+◌, ◌*◌, ◌/◌, ◌%◌, ◌<◌, ◌≤◌, ◌⊎◌, inl, inr, ⊎_elim, Bool, true, false, arith}
 use Rattle.std.proofs.lemmas.Nat.{mod_below}
 use Rattle.split_ring.specs.Layout.{size_of, limit_of, word_offset, AvailIndex, UsedIndex}
 use Rattle.link_handshake.specs.declared.Phase.TheVariants.{Init}
@@ -12,8 +12,9 @@ use Rattle.link_invariant.proofs.Fields.{numbers}
 use Rattle.link_invariant.proofs.Forms.{job_good}
 use Rattle.weak_orders.specs.Orders.{releases}
 use Rattle.weak_orders.specs.Memory.{StoresTo}
+use Rattle.weak_orders.proofs.Rows.{state_store_releases, refusal_releases, avail_index_store_releases, used_index_store_releases}
 
--- a word that end q stores and the other acquires
+-- A word that end q stores and that the other acquires: its State or one of its indexes.
 abbrev pub IsKey : LinkConfig → ℕ → ℕ → Type 0
 IsKey link_config q word = (word ≡ q) ⊎ ((word ≡ section_of link_config q + word_offset link_config.sizes AvailIndex) ⊎ (word ≡ section_of link_config q + word_offset link_config.sizes UsedIndex))
 
@@ -38,10 +39,10 @@ key_released link_config is q q2 memory end place word h apart s key = by_place 
     none x e na nu b = absurd (no_key q (section_of link_config q) x (word_offset link_config.sizes AvailIndex) (word_offset link_config.sizes UsedIndex) word q2 low e na nu key)
 
     by_place : (place : Place) → PlaceInvariant link_config memory q end place → StoresTo q (access_at (config_of link_config q) place) word → releases place ≡ true
-    by_place (WritingState state) h s = refl
-    by_place Refusing h s = refl
-    by_place (WritingAvailIndex pending) h s = refl
-    by_place (WritingUsedIndex number more) h s = refl
+    by_place (WritingState state) h s = state_store_releases state
+    by_place Refusing h s = refusal_releases
+    by_place (WritingAvailIndex pending) h s = avail_index_store_releases pending
+    by_place (WritingUsedIndex number more) h s = used_index_store_releases number more
     by_place (Clearing at more state) h s = absurd (⊎_elim (λ (f : end.handshake.phase ≢ Init). f h.0) (λ (e : word ≡ q). let clear = h.2 in let here = clear.1 in let l = low in omega arith) apart)
     by_place (WritingFrameWord pending at more) h s = let good = job_good is h.1.next in let after = good.after in none (start_for link_config pending / 4 + at) (omega arith) (λ e. omega arith) (λ e. omega arith) false
     by_place (WritingDescAddressLow pending) h s = let d = descriptor pending in none _ s (λ e. omega arith) (λ e. omega arith) false

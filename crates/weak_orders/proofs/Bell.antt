@@ -1,6 +1,7 @@
--- A look after a doorbell that was heard finds the frame.
-use Rattle.std.proofs.Common.{◌≡◌, ◌≢◌, ℕ, zero, suc, ◌+◌, ◌-◌, ◌<◌, ◌≤◌, inl, Bool, true, List, [], ◌∷◌, length, refl, sym, ap, ◌∙◌, subst, arith, ne_eqb}
-use Rattle.std.specs.Prelude.{◌==◌, if◌then◌else◌}
+-- A poll after the doorbell of an offer finds its frame. An offer after that of a poll finds its
+-- slot.
+use Rattle.std.proofs.Common.{◌≡◌, ◌≢◌, ℕ, zero, suc, ◌+◌, ◌-◌, ◌<◌, ◌≤◌, inl, Bool, true, List, [], ◌∷◌, length, refl, ap, ◌∙◌, subst, arith, ne_eqb}
+use Rattle.std.specs.Prelude.{◌==◌}
 use Rattle.split_ring.specs.declared.steps.Access.{Access}
 use Rattle.split_ring.specs.declared.steps.Access.TheVariants as access
 use Rattle.call_grammar.specs.Polls.{published_by}
@@ -17,12 +18,13 @@ use Rattle.weak_orders.specs.Orders.{releases}
 use Rattle.weak_orders.specs.Memory.{Moment, Action, Starts, Begins, Takes, Fences, Hears, Resets, Does, access_of, is_release, Heard, seen}
 use Rattle.weak_orders.specs.Sessions.{opens_at, opened}
 use Rattle.weak_orders.specs.Bell.{DoorbellsFollowIndexes}
+use Rattle.weak_orders.proofs.Rows.{offer_doorbell_releases, poll_doorbell_releases}
 use Rattle.weak_orders.proofs.Advance.{Held, Found, Reclaimed, Rung}
 use Rattle.weak_orders.proofs.Main.{held_lem}
 use Rattle.weak_orders.proofs.Sessions.{view_up, opened_up, one_lem}
 use Rattle.weak_orders.proofs.Wake.{not_two, longer}
 
--- a doorbell that is released
+-- A doorbell whose place releases is a release.
 released : (link_config : LinkConfig) (q : ℕ) (place : Place) (action : Action) (target vector : ℕ) → releases place ≡ true → access_of link_config q place action ≡ access.Ring target vector → is_release place action ≡ true
 released link_config q place Starts target vector e f = absurd (cc)
 released link_config q place (Begins call) target vector e f = absurd (cc)
@@ -31,7 +33,7 @@ released link_config q place Fences target vector e f = absurd (cc)
 released link_config q place (Hears k) target vector e f = absurd (cc)
 released link_config q place Resets target vector e f = absurd (cc)
 
--- frames returned stay where no session is opened
+-- The number of returned frames doesn't fall at an action that opens no session.
 noted_more : (end : End) (marks : List Mark) → end.returned ≤ (with_marks end marks).returned
 noted_more end [] = omega arith
 noted_more end (Return ∷ marks) = let h = noted_more (with_mark end Return) marks in omega arith
@@ -61,7 +63,7 @@ module _ (link_config : LinkConfig) (is : IsLinkConfig link_config) (pasts : ℕ
       let s = returns_on link_config q (pasts q k) (pasts q (suc k)) (pasts q (suc k)).action t.does (omega arith) in omega arith
 
   module _ (p : ℕ) (p2 : p < 2) where
-    -- a doorbell that was heard is in the view from then on
+    -- After an end receives a doorbell, its view includes the doorbell.
     known : (b h a : ℕ) → h < a → suc a ≤ now p → releases (pasts (1 - p) b).place ≡ true → (pasts p (suc h)).action ≡ Hears b → b < (pasts p a).view
     known b h a ha an rings hears =
         let r : Heard link_config p (pasts p (suc h)) (pasts (1 - p)) b = subst (λ d. Rung link_config p (pasts p (suc h)) (pasts (1 - p)) d) hears (held.trail p p2 h (omega arith)).rung in
@@ -70,7 +72,7 @@ module _ (link_config : LinkConfig) (is : IsLinkConfig link_config) (pasts : ℕ
 
     finds_lem : (b h a t v : ℕ) (last : Bool) → h < a → suc a ≤ now p → (pasts (1 - p) b).place ≡ RingingOffer → (pasts p (suc h)).action ≡ Hears b → (pasts p a).place ≡ ReadingAvailIndex t last → (pasts p (suc a)).action ≡ Takes v →
         opened (pasts (1 - p)) b ≡ opened (pasts (1 - p)) (pasts p a).view → length (pasts (1 - p) b).end.accepted ≤ t + published_by t v
-    finds_lem b h a t v last ha an rings hears look took session = let o2 : 1 - p < 2 = omega arith in let after = known b h a ha an (ap releases rings) hears in
+    finds_lem b h a t v last ha an rings hears look took session = let o2 : 1 - p < 2 = omega arith in let after = known b h a ha an (ap releases rings ∙ offer_doorbell_releases) hears in
         let g : Found link_config p (pasts p a) (pasts p (suc a)) (pasts (1 - p)) (Takes v) = subst (λ d. Found link_config p (pasts p a) (pasts p (suc a)) (pasts (1 - p)) d) took (held.trail p p2 a an).found in
         let s = g t last look in let s1 = s.1 in let s2 = s.2 in let views = held.views p p2 (suc a) an in let back = held.causal p p2 a an s.0 s2 in
         let c = held.cuts p p2 a s.0 (omega arith) (omega arith) s1 back in let m = pasts (1 - p) s.0 in let x = seen link_config p (pasts p a).words m.words in
@@ -82,7 +84,7 @@ module _ (link_config : LinkConfig) (is : IsLinkConfig link_config) (pasts : ℕ
 
     frees_lem : (b h a freed v : ℕ) (pending : PendingOffer) → h < a → suc a ≤ now p → (pasts (1 - p) b).place ≡ RingingPoll → (pasts p (suc h)).action ≡ Hears b → (pasts p a).place ≡ ReadingUsedIndex pending freed → (pasts p (suc a)).action ≡ Takes v →
         opened (pasts (1 - p)) b ≡ opened (pasts (1 - p)) (pasts p a).view → (pasts (1 - p) b).end.returned ≤ freed + returned_by freed v
-    frees_lem b h a freed v pending ha an rings hears look took session = let o2 : 1 - p < 2 = omega arith in let after = known b h a ha an (ap releases rings) hears in
+    frees_lem b h a freed v pending ha an rings hears look took session = let o2 : 1 - p < 2 = omega arith in let after = known b h a ha an (ap releases rings ∙ poll_doorbell_releases) hears in
         let g : Reclaimed link_config p (pasts p a) (pasts p (suc a)) (pasts (1 - p)) (Takes v) = subst (λ d. Reclaimed link_config p (pasts p a) (pasts p (suc a)) (pasts (1 - p)) d) took (held.trail p p2 a an).reclaimed in
         let s = g pending freed look in let s1 = s.1 in let s2 = s.2 in let views = held.views p p2 (suc a) an in let back = held.causal p p2 a an s.0 s2 in
         let c = held.cuts p p2 a s.0 (omega arith) (omega arith) s1 back in let m = pasts (1 - p) s.0 in let x = seen link_config p (pasts p a).words m.words in

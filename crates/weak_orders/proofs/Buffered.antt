@@ -1,4 +1,4 @@
--- Runs over x86-TSO are weak runs: the view is what has left the other's buffer.
+-- Each run over x86-TSO is a weak run: the view is what has left the other's store buffer.
 use Rattle.std.proofs.Common.{◌≡◌, ℕ, suc, ◌-◌, ◌<◌, ◌≤◌, inl, refl, sym, ap, ◌∙◌, subst, arith}
 use Rattle.split_ring.specs.declared.steps.Access.{Access}
 use Rattle.split_ring.specs.declared.steps.Access.TheVariants as access
@@ -11,7 +11,8 @@ use Rattle.weak_orders.specs.Runs as runs
 use Rattle.weak_orders.specs.Stronger.{IsFenced, BufferedRuns, starts, goes, StoreBufferRunsAreWeak}
 use Rattle.weak_orders.proofs.Main.{pick}
 
--- what has left a buffer is past, the view of an end has left the other's, and its last fence has left its own
+-- What has left a buffer is past. An end's view has left the other's buffer, and its last fence has
+-- left its own buffer.
 record Sound (pasts : ℕ → ℕ → Moment) (now out : ℕ → ℕ) : Type 0 where
   left : (p : ℕ) → p < 2 → out p ≤ now p
   view : (p : ℕ) → p < 2 → (pasts p (now p)).view ≤ out (1 - p)

@@ -1,4 +1,4 @@
--- Two moments that may be looked at together.
+-- The invariant at a consistent cut: one moment of each end.
 use Rattle.std.proofs.Common.{◌≡◌, ◌≢◌, ℕ, zero, suc, ◌+◌, ◌-◌, ◌<◌, ◌≤◌, ◌⊎◌, inl, inr, ⊎_elim, Bool, true, false, List, length, refl, sym, ap, ◌∙◌, subst, arith, eq-eqb, ne_eqb}
 use mathlib.Core.Logic.{dite}
 use native.Mathlib.Decide.{ℕ_discrete}
@@ -24,7 +24,7 @@ use Rattle.link_invariant.proofs.PairKept.{leads, untouched, by_state}
 use Rattle.link_invariant.proofs.Handshakes.{leads_reset, set_apart}
 use Rattle.weak_orders.specs.Memory.{is_own, seen}
 
--- Words seen
+-- The words that an end finds
 
 module _ (link_config : LinkConfig) (is : IsLinkConfig link_config) (p : ℕ) (p2 : p < 2) (x y : ℕ → ℕ) where
   pub own_test : (w : ℕ) → w ≡ p → is_own link_config p w ≡ true
@@ -74,24 +74,24 @@ low_test q s k w ne h = grind (arith, nat_tests)
 high_test : (q s k w : ℕ) → w ≢ q → ((w == q) || (nat_le s w && nat_lt w (s + k))) ≡ true → w < s + k
 high_test q s k w ne h = grind (arith, nat_tests)
 
--- an end's own word is its state or a word of its section
+-- An own word of an end is its State word or a word of its section.
 pub owned : (link_config : LinkConfig) (q w : ℕ) → is_own link_config q w ≡ true → (w ≡ q) ⊎ ((j : ℕ) × (j < link_config.words) × (w ≡ section_of link_config q + j))
 owned link_config q w h = dite (ℕ_discrete w q) (λ e. inl e) (λ ne. let s = section_of link_config q in let low = low_test q s link_config.words w ne h in let high = high_test q s link_config.words w ne h in inr (w - s, omega arith, omega arith))
 
--- and stays where the end is left alone
+-- The own words stay if memory leaves the end untouched.
 pub own_stays : (link_config : LinkConfig) (memory after : ℕ → ℕ) (q w : ℕ) → IsUntouched link_config memory after q → is_own link_config q w ≡ true → after w ≡ memory w
 own_stays link_config memory after q w keep h = ⊎_elim (λ (e : w ≡ q). ap after e ∙ (keep.state ∙ ap memory (sym e)))
     (λ (j : (j : ℕ) × (j < link_config.words) × (w ≡ section_of link_config q + j)). ap after j.2 ∙ (keep.section j.0 j.1 ∙ ap memory (sym j.2))) (owned link_config q w h)
 
 -- Two ends at two moments
 
--- the words, the end and the place of p, and those of the other: all that holds of the pair
+-- The words, end and place of end p and of the other, with the invariant of the pair.
 pub record Cut (link_config : LinkConfig) (p : ℕ) (x : ℕ → ℕ) (end : End) (place : Place) (y : ℕ → ℕ) (u : End) (w : Place) : Type 0 where
   pub before : Before link_config (seen link_config p x y) p end place u w
   pub calm : place ≢ Refusing
   pub theirs : (u.handshake.mark ≡ false) × (w ≢ Refusing)
 
--- the words of neither change
+-- No word of either end changes.
 pub moved : (link_config : LinkConfig) (memory after : ℕ → ℕ) (p : ℕ) (end : End) (place : Place) (u : End) (w : Place) → IsLinkConfig link_config → IsUntouched link_config memory after p → IsUntouched link_config memory after (1 - p) → Before link_config memory p end place u w → Before link_config after p end place u w
 moved link_config memory after p end place u w is mine theirs b = let same = fields_same link_config memory after p is mine.section in let same' = fields_same link_config memory after (1 - p) is theirs.section in record {
   mine = alone_kept.others link_config p memory after end place is mine b.mine;
@@ -102,7 +102,7 @@ moved link_config memory after p end place u w is mine theirs b = let same = fie
   faces = λ a. let f = b.faces a in record { mine = sent_same (λ g. same g) f.mine; theirs = sent_same (λ g. same' g) f.theirs; sends = link_same (λ g. same' g) f.sends; takes = link_same (λ g. same g) f.takes };
 }
 
--- the same from the other
+-- The cut as the other end has it.
 module _ (link_config : LinkConfig) (memory : ℕ → ℕ) (end : End) (place : Place) (u : End) (w : Place) where
   back_0 : u.handshake.mark ≡ false → Before link_config memory 0 end place u w → Before link_config memory 1 u w end place
   back_0 mark b = record {
@@ -125,7 +125,7 @@ module _ (link_config : LinkConfig) (memory : ℕ → ℕ) (end : End) (place : 
   }
 
 module _ (link_config : LinkConfig) (is : IsLinkConfig link_config) where
-  -- p's words and the other's, whoever looks
+  -- Both ends find the same words of each end.
   swaps : (p : ℕ) → p < 2 → (x y : ℕ → ℕ) → IsUntouched link_config (seen link_config p x y) (seen link_config (1 - p) y x) p
   swaps zero p2 x y = record { state = their_state link_config is 1 (omega arith) y x ∙ sym (own_state link_config is 0 p2 x y); section = λ j lt. their_word link_config is 1 (omega arith) y x j lt ∙ sym (own_word link_config is 0 p2 x y j lt) }
   swaps (suc zero) p2 x y = record { state = their_state link_config is 0 (omega arith) y x ∙ sym (own_state link_config is 1 p2 x y); section = λ j lt. their_word link_config is 0 (omega arith) y x j lt ∙ sym (own_word link_config is 1 p2 x y j lt) }
@@ -147,10 +147,10 @@ module _ (link_config : LinkConfig) (is : IsLinkConfig link_config) where
   }
   flip (suc (suc p)) p2 c = absurd (omega arith)
 
--- What p does
+-- An action of end p
 
--- an access of p, on the words of all
-pub after_of : ℕ → (ℕ → ℕ) → Access → (ℕ → ℕ)
+-- The words after an access of end p.
+unfoldable pub after_of : ℕ → (ℕ → ℕ) → Access → (ℕ → ℕ)
 after_of p memory (access.Write at n) = λ w. if w == at then n else memory w
 after_of p memory (access.State state) = λ w. if w == p then state else memory w
 after_of p memory a = memory
@@ -166,7 +166,7 @@ left_so p memory (access.Read word) = refl
 left_so p memory (access.Ring target vector) = refl
 left_so p memory access.Nothing = refl
 
--- and on its own
+-- The own words after an access of end p.
 pub one_put : (x x' m : ℕ → ℕ) (at n w : ℕ) → Stored x x' at n → m w ≡ x w → x' w ≡ (if w == at then n else m w)
 one_put x x' m at n w stored same = dite (ℕ_discrete w at)
     (λ e. ap x' e ∙ (stored.here ∙ sym (yes (w == at) n (m w) (eq-eqb w at e))))
@@ -181,7 +181,7 @@ own_after p x x' m (access.Ring target vector) w left same = ap (λ (k : ℕ →
 own_after p x x' m access.Nothing w left same = ap (λ (k : ℕ → ℕ). k w) left ∙ sym same
 
 module _ (link_config : LinkConfig) (is : IsLinkConfig link_config) (p : ℕ) (p2 : p < 2) (x x' y : ℕ → ℕ) (end : End) (place : Place) (u : End) (w : Place) where
-  -- what is left so on the words of all is so on the words as they are seen
+  -- An access changes the words that an end finds as it changes its own words.
   settled : (end' : End) (place' : Place) (after : ℕ → ℕ) → ((v : ℕ) → seen link_config p x y v ≡ x v → x' v ≡ after v) → IsUntouched link_config (seen link_config p x y) after (1 - p) → EndInvariant link_config after p end' place' → Leads link_config after p u w end' place' → Cut link_config p x end place y u w → Cut link_config p x' end' place' y u w
   settled end' place' after same keep mine leads c = record {
     before = moved link_config after (seen link_config p x' y) p end' place' u w is
@@ -192,7 +192,7 @@ module _ (link_config : LinkConfig) (is : IsLinkConfig link_config) (p : ℕ) (p
     theirs = c.theirs;
   }
 
-  -- a step whose read meets what is seen
+  -- A step whose load gives the word at the other's moment.
   pub step_cut : (value : ℕ) → is_open place ≡ true → MemoryAfter p x (access_at (config_of link_config p) place) x' → ReadsMemory (seen link_config p x y) (access_at (config_of link_config p) place) value → Cut link_config p x end place y u w →
       Cut link_config p x' (end_after end (step_at (config_of link_config p) place value)) (next_place (config_of link_config p) place value) y u w
   step_cut value opened left met c = let m = seen link_config p x y in let a = access_at (config_of link_config p) place in let after = after_of p m a in let l = left_so p m a in
@@ -200,13 +200,13 @@ module _ (link_config : LinkConfig) (is : IsLinkConfig link_config) (p : ℕ) (p
       settled _ _ after (λ v same. own_after p x x' m a v left same) (untouched link_config is p p2 m after end place c.before.mine l) mine
       (leads link_config is p p2 m end u w after place value opened c.calm met l mine c.before) c
 
-  -- a reset
+  -- A reset.
   pub reset_cut : Stored x x' p 0 → Cut link_config p x end place y u w → Cut link_config p x' (after_reset end) Closed y u w
   reset_cut stored c = let m = seen link_config p x y in let after : ℕ → ℕ = λ v. if v == p then 0 else m v in let l = put m p 0 in
       settled _ _ after (λ v same. one_put x x' m p 0 v stored same) (by_state link_config is p p2 m after end 0 l) (alone_kept.resets link_config p m after end place is p2 l c.before.mine)
       (leads_reset link_config m after p end u w place is p2 l c.before) c
 
--- A call begins (as PairKept has it)
+-- A call begins
 
 enters : (link_config : LinkConfig) (memory : ℕ → ℕ) (p : ℕ) (end u : End) (w : Place) (next : Place) → next ≢ Refusing → next ≢ WritingState 3 → next ≢ WritingState 1 → freed_at end.freed next ≡ end.freed → ((field : Field → ℕ) (frames : List (List ℕ)) → Polls link_config field frames next) → Before link_config memory p end Closed u w → Leads link_config memory p u w end next
 enters link_config memory p end u w next calm three one read polls b = record {

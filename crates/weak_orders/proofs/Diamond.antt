@@ -1,4 +1,4 @@
--- Two ends that each make a look: what holds after either look alone holds after both.
+-- Each of two ends takes a load: what holds after either load alone holds after both.
 use Rattle.std.proofs.Common.{◌≡◌, ℕ, zero, suc, ◌+◌, ◌-◌, ◌⊎◌, inl, inr, Bool, true, false, List, [], ◌∷◌, ◌++◌, refl, sym, ap, ◌∙◌, subst, arith}
 use Rattle.std.specs.Prelude.{◌==◌, if◌then◌else◌}
 use Rattle.split_ring.specs.declared.steps.Access.TheVariants as access
@@ -27,9 +27,9 @@ use Rattle.link_invariant.proofs.PairForms.{Facing, Before, takes_on}
 use Rattle.weak_orders.specs.Memory.{seen}
 use Rattle.weak_orders.proofs.Cuts.{Cut}
 
--- Looks
+-- Loads
 
--- places of a tick
+-- The places of a Tick.
 abbrev pub IsTick : Place → Type 0
 IsTick Closed = Unit {0}
 IsTick (ReadingOtherState handshake) = Unit {0}
@@ -48,7 +48,7 @@ tick_freed : (freed : ℕ) (place : Place) → IsTick place → freed_at freed p
 tick_freed freed (ReadingUsedId pending number more) h = absurd h
 tick_freed freed place h = refl
 
--- a tick saw the other's state; or an offer or a poll in RUN read a word, and neither accepted nor returned
+-- A Tick loads the other's State, or a call in RUN loads a word without an accept or a return.
 pub record Ticked (end : End) (place : Place) (end' : End) (place' : Place) : Type 0 where
   pub same : end' ≡ end
   pub was : IsTick place
@@ -63,7 +63,7 @@ pub record Worked (end end' : End) : Type 0 where
 abbrev pub Looked : End → Place → End → Place → Type 0
 Looked end place end' place' = Ticked end place end' place' ⊎ Worked end end'
 
--- marks that neither accept nor return
+-- Marks that neither accept nor return.
 abbrev IsQuiet : List Mark → Type 0
 IsQuiet [] = Unit {0}
 IsQuiet (Accept frame ∷ marks) = ⊥
@@ -105,7 +105,7 @@ saw_same end value Stay = refl
 saw_same end value (Set state) = refl
 saw_same end value (ClearThenSet state) = refl
 
--- each read is one of the two
+-- Each load is one of the two.
 quiet_test : (b : Bool) (f : FieldName) (value : ℕ) → IsQuiet (if b then [] else refusal f value)
 quiet_test b f value = one_or b [] (refusal f value) tt tt
 
@@ -144,7 +144,7 @@ look_at link_config memory p end place value word e h = absurd (cc)
 pub looked : (link_config : LinkConfig) (memory : ℕ → ℕ) (p : ℕ) (end : End) (place : Place) (value word : ℕ) → access_at (config_of link_config p) place ≡ access.Read word → EndInvariant link_config memory p end place → Looked end place (end_after end (step_at (config_of link_config p) place value)) (next_place (config_of link_config p) place value)
 looked link_config memory p end place value word e a = look_at link_config memory p end place value word e a.holds
 
--- Two looks
+-- Two loads
 
 join : {link_config : LinkConfig} {field : Field → ℕ} {accepted accepted' delivered delivered' : List (List ℕ)} {freed read freed' read' returned returned' : ℕ} {place place' : Place} → accepted ≡ accepted' → returned' ≡ returned →
     InFlight link_config field accepted freed read delivered returned place → InFlight link_config field accepted' freed' read' delivered' returned' place' → InFlight link_config field accepted freed read delivered' returned' place'
@@ -160,7 +160,7 @@ module _ (link_config : LinkConfig) (memory : ℕ → ℕ) (p : ℕ) (end end' :
   joined : end'.accepted ≡ end.accepted → end'.returned ≡ end.returned → u'.accepted ≡ u.accepted → u'.returned ≡ u.returned → Facing link_config memory p end' place' u w → Facing link_config memory p end place u' w' → Facing link_config memory p end' place' u' w'
   joined ea er ua ur f g = record { mine = f.mine; theirs = g.theirs; sends = join ea ur f.sends g.sends; takes = join ua er g.takes f.takes }
 
--- the place of a tick goes on
+-- The place after a Tick's load is a place of a Tick.
 ticks_mine : (link_config : LinkConfig) (memory : ℕ → ℕ) (p : ℕ) (end : End) (place place' : Place) (u : End) (w : Place) → IsTick place → IsTick place' → Facing link_config memory p end place u w → Facing link_config memory p end place' u w
 ticks_mine link_config memory p end place place' u w was goes f = record {
   mine = f.mine;
@@ -177,14 +177,14 @@ ticks_theirs link_config memory p end place u w w' was goes f = record {
   takes = subst (λ k. InFlight link_config (fields link_config memory p) u.accepted u.freed k end.delivered end.returned place) (tick_freed u.freed w was ∙ sym (tick_freed u.freed w' goes)) f.takes;
 }
 
--- the one is about to set RUN, and the other to open a session
+-- One end is about to set RUN, and the other is about to open a session.
 abbrev pub Clash : End → Place → End → Place → Type 0
 Clash end place u w = (end.handshake.phase ≡ Ready) × (place ≡ WritingState 3) × (u.handshake.phase ≡ Reset) × (w ≡ WritingState 1)
 
 pub sets_one : (link_config : LinkConfig) (memory : ℕ → ℕ) (p : ℕ) (end : End) (place : Place) → PlaceInvariant link_config memory p end place → place ≡ WritingState 1 → end.handshake.phase ≡ Reset
 sets_one link_config memory p end place h e = let g : PlaceInvariant link_config memory p end (WritingState 1) = subst (PlaceInvariant link_config memory p end) e h in g
 
--- the one attends, and the other opens none
+-- One end is attached, and the other opens no session.
 opens : (link_config : LinkConfig) (memory : ℕ → ℕ) (q : ℕ) (end end' : End) (place place' : Place) (u u' : End) (w w' : Place) → Looked end place end' place' → Looked u w u' w' → PlaceInvariant link_config memory q u' w' → (IsAttached end' place' → OpensNone u w) → (IsAttached end place → OpensNone u' w') → (Clash end' place' u' w' → ⊥) → IsAttached end' place' → OpensNone u' w'
 opens link_config memory q end end' place place' u u' w w' l (inr k) holds from from' clash a =
     (not_phase {a = Run} {b = Init} (λ f. omega arith) k.run', λ e. not_phase {a = Run} {b = Reset} (λ f. omega arith) k.run' (sets_one link_config memory q u' w' holds e))
@@ -201,7 +201,7 @@ module _ (link_config : LinkConfig) (p : ℕ) (x y : ℕ → ℕ) (end end' : En
   faces (inl l) (inl k) b c (inl a) = subst (λ (e : End). Facing link_config (seen link_config p x y) p end' place' e w') (sym k.same) (ticks_theirs link_config (seen link_config p x y) p end' place' u w w' k.was k.goes (b.faces (inl a)))
   faces (inl l) (inl k) b c (inr a) = subst (λ (e : End). Facing link_config (seen link_config p x y) p e place' u' w') (sym l.same) (ticks_mine link_config (seen link_config p x y) p end place place' u' w' l.was l.goes (c.faces (inr a)))
 
-  -- what holds after either look holds after both
+  -- What holds after either load holds after both.
   pub diamond : Looked end place end' place' → Looked u w u' w' → (Clash end' place' u' w' → ⊥) → (Clash u' w' end' place' → ⊥) → Cut link_config p x end' place' y u w → Cut link_config p x end place y u' w' → Cut link_config p x end' place' y u' w'
   diamond l k one two b c = record {
     before = record {

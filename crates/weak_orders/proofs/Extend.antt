@@ -1,4 +1,4 @@
--- A weak run goes on by one more action.
+-- A weak run may be extended by one action.
 use Rattle.std.proofs.Common.{◌≡◌, ◌≢◌, ℕ, suc, ◌-◌, ◌<◌, ◌≤◌, inl, inr, Bool, true, false, refl, sym, ap, ◌∙◌, subst, arith, eq-eqb, ne_eqb}
 use mathlib.Core.Logic.{dite}
 use native.Mathlib.Decide.{ℕ_discrete, dec_lt}
@@ -16,7 +16,7 @@ use Rattle.weak_orders.specs.Runs.{WeakRuns, starts, goes, IsFirst}
 use Rattle.weak_orders.specs.Stronger.{ComesTo, LoadsMayBeStale}
 use Rattle.weak_orders.proofs.Main.{pick}
 
--- Moments up to the last one are all that is asked
+-- A run depends on its moments up to the last ones alone.
 
 module _ (link_config : LinkConfig) (p : ℕ) (old new : Moment) (base : ℕ) (theirs theirs' : ℕ → Moment) (now : ℕ) (same : (k : ℕ) → k ≤ now → theirs' k ≡ theirs k) where
   gives_same : (word value : ℕ) → base ≤ now → Gives link_config p old new base theirs now word value → Gives link_config p old new base theirs' now word value
@@ -69,7 +69,7 @@ knows_same link_config p old new at theirs theirs' now same k = let keeps = k.ke
   loads = loads_same link_config p old new k.base theirs theirs' now same new.action (omega arith) k.loads;
 }
 
--- the same moments up to now, and all moments of what is no end
+-- The same moments up to the last ones of both ends, and the same functions at numbers from 2 on.
 record Same (pasts pasts' : ℕ → ℕ → Moment) (now : ℕ → ℕ) : Type 0 where
   ends : (q : ℕ) → q < 2 → (k : ℕ) → k ≤ now q → pasts' q k ≡ pasts q k
   none : (q : ℕ) → 2 ≤ q → (k : ℕ) → pasts' q k ≡ pasts q k
@@ -128,27 +128,50 @@ more_there : (now : ℕ → ℕ) (p q : ℕ) → q ≢ p → one_more now p q �
 unfolding one_more
 more_there now p q ne = no (q == p) (suc (now p)) (now q) (ne_eqb q p ne)
 
-pub go_on : (link_config : LinkConfig) (pasts : ℕ → ℕ → Moment) (now : ℕ → ℕ) (p : ℕ) (new : Moment) → WeakRuns link_config pasts now → p < 2 → Does link_config p (pasts p (now p)) new new.action →
-    Knows link_config p (pasts p (now p)) new (suc (now p)) (pasts (1 - p)) (now (1 - p)) → ComesTo link_config p new (pasts (1 - p) (now (1 - p)))
-go_on link_config pasts now p new run p2 does knows =
+-- The run after one more action of end p: all earlier moments stay.
+pub record Further (link_config : LinkConfig) (pasts : ℕ → ℕ → Moment) (now : ℕ → ℕ) (p : ℕ) (new : Moment) : Type 0 where
+  pub after : ℕ → ℕ → Moment
+  pub last : ℕ → ℕ
+  pub run : WeakRuns link_config after last
+  pub keeps : (q : ℕ) → q < 2 → (k : ℕ) → k ≤ now q → after q k ≡ pasts q k
+  pub grows : (q : ℕ) → q < 2 → (k : ℕ) → k ≤ now q → k ≤ last q
+  pub adds : after p (suc (now p)) ≡ new
+  pub mine : last p ≡ suc (now p)
+  pub theirs : last (1 - p) ≡ now (1 - p)
+
+pub further : (link_config : LinkConfig) (pasts : ℕ → ℕ → Moment) (now : ℕ → ℕ) (p : ℕ) (old new : Moment) → WeakRuns link_config pasts now → p < 2 → pasts p (now p) ≡ old → Does link_config p old new new.action →
+    Knows link_config p old new (suc (now p)) (pasts (1 - p)) (now (1 - p)) → Further link_config pasts now p new
+further link_config pasts now p old new run p2 at does knows =
     let n = now p in let pasts' = appended pasts p (suc n) new in let ne : 1 - p ≢ p = λ e. omega arith in
     let there = λ (k : ℕ). other_end pasts p (suc n) new (1 - p) k ne in
-    let e : pasts' p n ≡ pasts p n = other_time pasts p (suc n) new p n (λ e. omega arith) in
+    let e : pasts' p n ≡ old = other_time pasts p (suc n) new p n (λ e. omega arith) ∙ at in
     let f : pasts' p (suc n) ≡ new = at_new pasts p (suc n) new in
-    let past = runs_same link_config pasts pasts' now run record {
-      ends = λ q q2 k le. dite (ℕ_discrete q p) (λ e. let g = ap now e in other_time pasts p (suc n) new q k (λ e. omega arith)) (λ ne. other_end pasts p (suc n) new q k ne);
-      none = λ q q2 k. other_end pasts p (suc n) new q k (λ e. omega arith);
-    } in record {
-      pasts = pasts';
-      now = one_more now p;
+    let keeps : (q : ℕ) → q < 2 → (k : ℕ) → k ≤ now q → pasts' q k ≡ pasts q k =
+    λ q q2 k le. dite (ℕ_discrete q p) (λ e. let g = ap now e in other_time pasts p (suc n) new q k (λ e. omega arith)) (λ ne. other_end pasts p (suc n) new q k ne) in
+    let past = runs_same link_config pasts pasts' now run record { ends = keeps; none = λ q q2 k. other_end pasts p (suc n) new q k (λ e. omega arith) } in record {
+      after = pasts';
+      last = one_more now p;
       run = goes now (one_more now p) p past p2
-          (subst (λ (m : Moment). Does link_config p m (pasts' p (suc n)) (pasts' p (suc n)).action) (sym e) (subst (λ (m : Moment). Does link_config p (pasts p n) m m.action) (sym f) does))
+          (subst (λ (m : Moment). Does link_config p m (pasts' p (suc n)) (pasts' p (suc n)).action) (sym e) (subst (λ (m : Moment). Does link_config p old m m.action) (sym f) does))
           (knows_same link_config p (pasts' p n) (pasts' p (suc n)) (suc n) (pasts (1 - p)) (pasts' (1 - p)) (now (1 - p)) (λ k le. there k)
-          (subst (λ (m : Moment). Knows link_config p m (pasts' p (suc n)) (suc n) (pasts (1 - p)) (now (1 - p))) (sym e) (subst (λ (m : Moment). Knows link_config p (pasts p n) m (suc n) (pasts (1 - p)) (now (1 - p))) (sym f) knows)))
+          (subst (λ (m : Moment). Knows link_config p m (pasts' p (suc n)) (suc n) (pasts (1 - p)) (now (1 - p))) (sym e) (subst (λ (m : Moment). Knows link_config p old m (suc n) (pasts (1 - p)) (now (1 - p))) (sym f) knows)))
           (more_here now p) (more_there now p (1 - p) ne);
-      here = ap (pasts' p) (more_here now p) ∙ f;
-      there = ap (pasts' (1 - p)) (more_there now p (1 - p) ne) ∙ there (now (1 - p));
+      keeps = keeps;
+      grows = pick p p2 (λ q. (k : ℕ) → k ≤ now q → k ≤ one_more now p q) (λ k le. let m = more_here now p in omega arith) (λ k le. let m = more_there now p (1 - p) ne in omega arith);
+      adds = f;
+      mine = more_here now p;
+      theirs = more_there now p (1 - p) ne;
     }
+
+pub go_on : (link_config : LinkConfig) (pasts : ℕ → ℕ → Moment) (now : ℕ → ℕ) (p : ℕ) (new : Moment) → WeakRuns link_config pasts now → p < 2 → Does link_config p (pasts p (now p)) new new.action →
+    Knows link_config p (pasts p (now p)) new (suc (now p)) (pasts (1 - p)) (now (1 - p)) → ComesTo link_config p new (pasts (1 - p) (now (1 - p)))
+go_on link_config pasts now p new run p2 does knows = let f = further link_config pasts now p (pasts p (now p)) new run p2 refl does knows in record {
+  pasts = f.after;
+  now = f.last;
+  run = f.run;
+  here = ap (f.after p) f.mine ∙ f.adds;
+  there = ap (f.after (1 - p)) f.theirs ∙ f.keeps (1 - p) (omega arith) (now (1 - p)) (omega arith);
+}
 
 -- A load from an earlier moment
 

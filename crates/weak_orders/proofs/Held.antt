@@ -1,4 +1,4 @@
--- What all moments of two ends keep, and how the other goes on beside a look.
+-- The invariant at two moments, and the handshakes that the full fences exclude.
 use Rattle.std.proofs.Common.{◌≡◌, ℕ, zero, suc, ◌-◌, ◌<◌, ◌≤◌, ◌⊎◌, inl, inr, ⊎_elim, Bool, true, false, refl, sym, ap, ◌∙◌, subst, arith}
 use Rattle.std.specs.Prelude.{if◌then◌else◌}
 use Rattle.split_ring.specs.declared.steps.Access.{Access}
@@ -37,7 +37,7 @@ met (access.State state) value = inl (λ m. tt)
 met (access.Ring target vector) value = inl (λ m. tt)
 met access.Nothing value = inl (λ m. tt)
 
--- an action of p beside the other: what it reads is what is seen
+-- An action of end p keeps the invariant if its load gives the word at the other's moment.
 abbrev pub MeetsBy : LinkConfig → ℕ → Moment → (ℕ → ℕ) → Action → Type 0
 MeetsBy link_config p old y (Takes value) = ReadsMemory (seen link_config p old.words y) (access_at (config_of link_config p) old.place) value
 MeetsBy link_config p old y _ = Unit {0}
@@ -82,7 +82,7 @@ ones config false Ready (suc (suc more)) e = absurd (omega arith)
 ones config false Run zero e = omega arith
 ones config false Run (suc more) e = absurd (omega arith)
 
--- a tick's look is at the other's state
+-- The load of a Tick is of the other's State.
 saw_three : (config : EndConfig) (place : Place) (value word : ℕ) → IsTick place → access_at config place ≡ access.Read word → next_place config place value ≡ WritingState 3 → (word ≡ config.other) × (2 ≤ value)
 saw_three config (ReadingOtherState h) value word t e f = (sym (ap (λ (a : Access). word_of a) e), threes config h.mark h.phase value (ap state_at f))
   where
@@ -105,11 +105,11 @@ saw_one config (Clearing at more state) value word t e f = absurd (cc)
 saw_one config (WritingState state) value word t e f = absurd (cc)
 saw_one config place value word t e f = absurd t
 
--- where a look of p came from: a moment of the other from the view on
+-- A moment of the other, from the view of end p on, at which the word has the loaded value.
 abbrev pub Comes : LinkConfig → ℕ → Moment → (others : ℕ → Moment) → (now value word : ℕ) → Type 0
 Comes link_config p m others now value word = (s : ℕ) × (m.view ≤ s) × (s ≤ now) × (value ≡ seen link_config p m.words (others s).words word)
 
--- one that is about to set RUN by its look, and one that is about to open a session by its own: the fences forbid it
+-- The full fences exclude that one end is about to set RUN and the other to open a session.
 pub no_clash : (link_config : LinkConfig) → IsLinkConfig link_config → (p : ℕ) → p < 2 → (A B : ℕ → Moment) (a b : ℕ) (v v' word word' : ℕ) (end' u' : End) (place' w' : Place) →
     EndInvariant link_config (seen link_config p (A a).words (B b).words) p (A a).end (A a).place → EndInvariant link_config (seen link_config p (A a).words (B b).words) (1 - p) (B b).end (B b).place →
     ((B b).fenced ≤ (A a).view) ⊎ ((A a).fenced ≤ (B b).view) →

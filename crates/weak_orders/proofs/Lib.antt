@@ -1,3 +1,4 @@
+pub mod Rows
 pub mod Cuts
 pub mod Diamond
 pub mod Held
@@ -14,3 +15,6 @@ pub mod Bell
 pub mod Extend
 pub mod Sequential
 pub mod Buffered
+pub mod Reached
+pub mod Plays
+pub mod Worked

@@ -1,4 +1,4 @@
--- The last action of an end beside each moment of the other that it may be looked at with.
+-- The last action of an end keeps the invariant at each consistent moment of the other.
 use Rattle.std.proofs.Common.{◌≡◌, ◌≢◌, ℕ, zero, suc, ◌+◌, ◌-◌, ◌<◌, ◌≤◌, ◌⊎◌, inl, inr, ⊎_elim, true, List, [], ◌∷◌, ◌++◌, refl, sym, ap, ◌∙◌, subst, arith, append_assoc}
 use mathlib.Core.Logic.{dite}
 use native.Mathlib.Decide.{dec_lt}
@@ -18,6 +18,7 @@ use Rattle.link_invariant.proofs.AloneKept.{alone_kept}
 use Rattle.link_invariant.proofs.PairForms.{takes_on}
 use Rattle.weak_orders.specs.Orders.{acquires}
 use Rattle.weak_orders.specs.Memory.{Moment, Takes, Does, seen}
+use Rattle.weak_orders.proofs.Rows.{state_load_acquires, used_index_load_acquires, avail_index_load_acquires}
 use Rattle.weak_orders.proofs.Cuts.{Cut, step_cut}
 use Rattle.weak_orders.proofs.Diamond.{looked}
 use Rattle.weak_orders.proofs.Held.{At, like}
@@ -35,7 +36,7 @@ read_word : {a : Access} {word : ℕ} → a ≡ access.Read word → word ≡ wo
 unfolding word_in
 read_word e = sym (ap word_in e)
 
--- it acquires, and its word is a state or an index; or is relaxed; or is of the event
+-- A load is an acquire of a State or an index, a relaxed load of a field, or a load of the event.
 abbrev pub Kind : LinkConfig → ℕ → Place → ℕ → Type 0
 Kind link_config p place word =
     ((acquires place ≡ true) × IsKey link_config (1 - p) word × ((memory : ℕ → ℕ) (end : End) → PlaceInvariant link_config memory p end place → (end.handshake.phase ≡ Run) ⊎ (word ≡ 1 - p))) ⊎
@@ -43,9 +44,9 @@ Kind link_config p place word =
 
 pub kinds : (link_config : LinkConfig) (p : ℕ) (place : Place) (word : ℕ) → access_at (config_of link_config p) place ≡ access.Read word → Kind link_config p place word
 unfolding word_in
-kinds link_config p (ReadingOtherState handshake) word e = inl (refl, inl (read_word e), λ m end h. inr (read_word e))
-kinds link_config p (ReadingUsedIndex pending freed) word e = inl (refl, inr (inr (read_word e)), λ m end h. inl h.0)
-kinds link_config p (ReadingAvailIndex taken last) word e = inl (refl, inr (inl (read_word e)), λ m end h. inl h.0)
+kinds link_config p (ReadingOtherState handshake) word e = inl (state_load_acquires handshake, inl (read_word e), λ m end h. inr (read_word e))
+kinds link_config p (ReadingUsedIndex pending freed) word e = inl (used_index_load_acquires pending freed, inr (inr (read_word e)), λ m end h. inl h.0)
+kinds link_config p (ReadingAvailIndex taken last) word e = inl (avail_index_load_acquires taken last, inr (inl (read_word e)), λ m end h. inl h.0)
 kinds link_config p (ReadingAvailEvent number) word e = inr (inr (number, refl))
 kinds link_config p (ReadingUsedId pending freed more) word e = inr (inl tt)
 kinds link_config p (ReadingAvailEntry number more) word e = inr (inl tt)
@@ -69,7 +70,7 @@ relaxed_runs link_config memory p end place r h = absurd r
 meets_read : (m : ℕ → ℕ) (a : Access) (word v : ℕ) → a ≡ access.Read word → v ≡ m word → ReadsMemory m a v
 meets_read m a word v e g = subst (λ (k : Access). ReadsMemory m k v) (sym e) g
 
--- what the look of a relaxed load leaves
+-- The invariant after a relaxed load.
 sound_of : (link_config : LinkConfig) (p : ℕ) (x y : ℕ → ℕ) (end : End) (place : Place) (v word : ℕ) (u : End) (w : Place) → IsRelaxed place → access_at (config_of link_config p) place ≡ access.Read word → EndInvariant link_config (seen link_config p x y) p end place →
     Cut link_config p x (end_after end (step_at (config_of link_config p) place v)) (next_place (config_of link_config p) place v) y u w → Sound link_config p end place v u.accepted
 sound_of link_config p x y end place v word u w r e a c =
@@ -78,7 +79,7 @@ sound_of link_config p x y end place v word u w r e a c =
     let f = (c.before.faces (inl (inl run'))).takes in
     record { calm = c.calm; field = fields link_config (seen link_config p x y) p; polls = f.polls; rest = f.prefix.0; prefix = f.prefix.1 }
 
--- the look at the event leaves nothing to be kept
+-- The load of the event keeps the invariant, whatever it gives.
 pub event_cut : (link_config : LinkConfig) (is : IsLinkConfig link_config) (p : ℕ) (p2 : p < 2) (x y : ℕ → ℕ) (end : End) (number v : ℕ) (u : End) (w : Place) → Cut link_config p x end (ReadingAvailEvent number) y u w →
     Cut link_config p x (end_after end (step_at (config_of link_config p) (ReadingAvailEvent number) v)) (next_place (config_of link_config p) (ReadingAvailEvent number) v) y u w
 event_cut link_config is p p2 x y end number v u w c = let m = seen link_config p x y in
@@ -121,7 +122,7 @@ module _ (link_config : LinkConfig) (is : IsLinkConfig link_config) (pasts : ℕ
   abbrev Old : Moment
   Old = pasts p (now p)
 
-  -- the frames that the other accepted, from one moment to a later one
+  -- The frames that the other accepted at a later moment extend those at an earlier one.
   grown : (run : Old.end.handshake.phase ≡ Run) (i j : ℕ) → Old.view ≤ i → i + j ≤ now (1 - p) → (t : List (List ℕ)) × ((pasts (1 - p) (i + j)).end.accepted ≡ (pasts (1 - p) i).end.accepted ++ t)
   grown run i zero from to = let h = grows' in h
     where
@@ -137,7 +138,7 @@ module _ (link_config : LinkConfig) (is : IsLinkConfig link_config) (pasts : ℕ
       (g.0 ++ h.0, ap (λ l. (pasts (1 - p) l).end.accepted) (let e : i + suc j ≡ suc k = omega arith in e) ∙ (h.1 ∙ (ap (λ (x : List (List ℕ)). x ++ h.0) g.1 ∙ append_assoc (pasts (1 - p) i).end.accepted g.0 h.0)))
 
   module _ (new : Moment) (v word : ℕ) (reads : access_at (config_of link_config p) Old.place ≡ access.Read word) (d : Does link_config p Old new (Takes v)) where
-    -- the look as it would be at a moment of the other
+    -- The invariant after a load of the word at moment k of the other.
     look_at : (k w : ℕ) → Old.view ≤ k → k ≤ now (1 - p) → w ≡ seen link_config p Old.words (pasts (1 - p) k).words word →
         Cut link_config p new.words (end_after Old.end (step_at (config_of link_config p) Old.place w)) (next_place (config_of link_config p) Old.place w) (pasts (1 - p) k).words (pasts (1 - p) k).end (pasts (1 - p) k).place
     look_at k w from to gave = let m = pasts (1 - p) k in step_cut link_config is p p2 Old.words new.words m.words Old.end Old.place m.end m.place w d.0 d.1
@@ -146,12 +147,12 @@ module _ (link_config : LinkConfig) (is : IsLinkConfig link_config) (pasts : ℕ
     pub fresh : (i : ℕ) → Old.view ≤ i → i ≤ now (1 - p) → v ≡ seen link_config p Old.words (pasts (1 - p) i).words word → At link_config p new (pasts (1 - p) i)
     fresh i from to gave = like refl d.2 d.3 (look_at i v from to gave)
 
-    -- a load that acquires
+    -- A load-acquire.
     pub acquired : (i j : ℕ) → Old.view ≤ i → i ≤ j → j ≤ now (1 - p) → v ≡ seen link_config p Old.words (pasts (1 - p) i).words word → At link_config p new (pasts (1 - p) j)
     acquired i j from ij to gave = let words = left_read p Old.words new.words (access_at (config_of link_config p) Old.place) word reads d.1 in let e : i + (j - i) ≡ j = omega arith in
         subst (λ k. At link_config p new (pasts (1 - p) k)) e (advance link_config is pasts now held p p2 new v word reads words d.2 d.3 d.4 i from gave (j - i) (omega arith) (fresh i from (omega arith) gave))
 
-    -- a relaxed load
+    -- A relaxed load.
     pub relaxed : (i j : ℕ) → IsRelaxed Old.place → Old.view ≤ i → i ≤ now (1 - p) → Old.view ≤ j → j ≤ now (1 - p) → v ≡ seen link_config p Old.words (pasts (1 - p) i).words word → At link_config p new (pasts (1 - p) j)
     relaxed i j r from to from' to' gave = let w = seen link_config p Old.words (pasts (1 - p) j).words word in let words = left_read p Old.words new.words (access_at (config_of link_config p) Old.place) word reads d.1 in
         let ci = look_at i v from to gave in let cj = look_at j w from' to' refl in

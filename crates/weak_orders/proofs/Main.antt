@@ -1,8 +1,8 @@
--- All moments hold together, however far two ends have come.
+-- Each weak run keeps what `Held` states of its moments.
 use Rattle.std.proofs.Common.{◌≡◌, ◌≢◌, ℕ, suc, ◌-◌, ◌<◌, ◌≤◌, ◌⊎◌, inl, inr, ⊎_elim, Bool, true, false, refl, sym, ap, ◌∙◌, subst, arith, length, ◌+◌}
 use mathlib.Core.Logic.{dite}
 use native.Mathlib.Decide.{ℕ_discrete}
-use Rattle.std.specs.Prelude.{if◌then◌else◌, ◌||◌}
+use Rattle.std.specs.Prelude.{if◌then◌else◌}
 use Rattle.split_ring.specs.declared.steps.Access.{Access}
 use Rattle.split_ring.specs.declared.steps.Access.TheVariants as access
 use Rattle.link_handshake.specs.declared.Phase.TheVariants.{Run}
@@ -21,9 +21,10 @@ use Rattle.link_invariant.specs.EndInvariant.{PlaceInvariant, EndInvariant}
 use Rattle.link_invariant.specs.Pair.{IsAttached}
 use Rattle.link_invariant.proofs.Handshakes.{attends_high}
 use Rattle.link_invariant.proofs.PairKept.{starts_alone}
-use Rattle.weak_orders.specs.Orders.{acquires, fences_before, fences_after, owes}
+use Rattle.weak_orders.specs.Orders.{acquires, owes}
 use Rattle.weak_orders.specs.Memory.{Moment, Action, Starts, Begins, Takes, Fences, Hears, Resets, Does, Knows, Loads, LoadsBy, Gives, Stores, StoresTo, access_of, is_release, FencedBy, is_own, seen}
 use Rattle.weak_orders.specs.Runs.{WeakRuns, starts, goes, WeakRunsAgree, IsFirst}
+use Rattle.weak_orders.proofs.Rows.{reset_releases, reset_fences, state_store_fences, refusal_fences, event_load_fences}
 use Rattle.weak_orders.proofs.Cuts.{own_state, Cut, flip, their_state}
 use Rattle.weak_orders.proofs.Held.{At, like, met, action_cut, Comes}
 use Rattle.weak_orders.proofs.Advance.{Held, Trail, Sourced, Took, Found, Reclaimed, Rung, left_read, beside}
@@ -40,7 +41,7 @@ module _ (link_config : LinkConfig) (is : IsLinkConfig link_config) (pasts : ℕ
   abbrev Old : Moment
   Old = pasts p (now p)
 
-  -- a store of a state or an index that is looked at is a releasing one
+  -- Each store of a State or an index that the load may give is a store-release.
   is_released : (k word : ℕ) → Old.view ≤ k → k < now (1 - p) → IsKey link_config (1 - p) word → (Old.end.handshake.phase ≡ Run) ⊎ (word ≡ 1 - p) → Stores link_config (1 - p) (pasts (1 - p)) k word → is_release (pasts (1 - p) k).place (pasts (1 - p) (suc k)).action ≡ true
   is_released k word from below key runs s = by_action (pasts (1 - p) (suc k)).action s
     where
@@ -49,7 +50,7 @@ module _ (link_config : LinkConfig) (is : IsLinkConfig link_config) (pasts : ℕ
       by_action (Begins call) s = absurd s
       by_action Fences s = absurd s
       by_action (Hears h) s = absurd s
-      by_action Resets s = refl
+      by_action Resets s = reset_releases (pasts (1 - p) k).place
       by_action (Takes value) s = let b = beside link_config is pasts now held p p2 k from (omega arith) in let m = pasts (1 - p) k in
           key_released link_config is (1 - p) (omega arith) (seen link_config p Old.words m.words) m.end m.place word b.before.theirs.holds (⊎_elim (λ run. inl (b.before.from (inl run)).0) inr runs) s key
 
@@ -67,7 +68,7 @@ module _ (link_config : LinkConfig) (is : IsLinkConfig link_config) (pasts : ℕ
         let words = left_read p Old.words New.words (access_at (config_of link_config p) Old.place) word e d.1 in
         like words (d.2 ∙ ap (λ (k : Place). end_after Old.end (step_at (config_of link_config p) k v)) event.1) (d.3 ∙ ap (λ (k : Place). next_place (config_of link_config p) k v) event.1) (event_cut link_config is p p2 Old.words m.words Old.end event.0 v m.end m.place at)
 
-    -- the last moment beside each one that it may be looked at with
+    -- The invariant at the last moment of end p and each consistent moment of the other.
     new_cut : (action : Action) → Does link_config p Old New action → Loads link_config p Old New knows.base (pasts (1 - p)) (now (1 - p)) action → (j : ℕ) → New.view ≤ j → j ≤ now (1 - p) → At link_config p New (pasts (1 - p) j)
     new_cut Starts d l j from to = absurd d
     new_cut (Begins call) d l j from to = let rises = knows.rises in let keeps = knows.keeps in action_cut link_config is p p2 Old New (pasts (1 - p) j) (Begins call) d tt (beside link_config is pasts now held p p2 j (omega arith) to)
@@ -80,7 +81,7 @@ module _ (link_config : LinkConfig) (is : IsLinkConfig link_config) (pasts : ℕ
         by_met (inl m) = let rises = knows.rises in let keeps = knows.keeps in action_cut link_config is p p2 Old New (pasts (1 - p) j) (Takes v) d (m (seen link_config p Old.words (pasts (1 - p) j).words)) (beside link_config is pasts now held p p2 j (omega arith) to)
         by_met (inr e) = reads_cut v e.0 e.1 d (gives_of link_config p Old New knows.base (pasts (1 - p)) (now (1 - p)) v e.0 _ e.1 l) j from to (kinds link_config p Old.place e.0 e.1)
 
-    -- where its look came from
+    -- A moment of the other at which the word has the value that the action loaded.
     new_source : (action : Action) → Loads link_config p Old New knows.base (pasts (1 - p)) (now (1 - p)) action → Sourced link_config p Old (pasts (1 - p)) (now (1 - p)) action
     new_source Starts l = tt
     new_source (Begins call) l = tt
@@ -93,7 +94,7 @@ module _ (link_config : LinkConfig) (is : IsLinkConfig link_config) (pasts : ℕ
         from_gives word (inl gave) = let keeps = knows.keeps in let known = knows.known in (knows.base, knows.rises, omega arith, gave)
         from_gives word (inr store) = let rises = knows.rises in let low = store.1 in let lt = store.2 in (suc store.0, omega arith, omega arith, store.4)
 
-    -- and of a look at the state
+    -- The same for a load of the other's State, after which the view includes that moment.
     new_took : (action : Action) → Loads link_config p Old New knows.base (pasts (1 - p)) (now (1 - p)) action → Took link_config p Old New (pasts (1 - p)) action
     new_took Starts l = tt
     new_took (Begins call) l = tt
@@ -107,7 +108,7 @@ module _ (link_config : LinkConfig) (is : IsLinkConfig link_config) (pasts : ℕ
         from_gives h at (inr store) = let rises = knows.rises in let low = store.1 in let lt = store.2 in
             (suc store.0, omega arith, store.5 (ap acquires at) (is_released store.0 (1 - p) (omega arith) store.2 (inl refl) (inr refl) store.3), store.4 ∙ their_state link_config is p p2 Old.words (pasts (1 - p) (suc store.0)).words)
 
-    -- and a doorbell that was heard
+    -- The same for a doorbell that the end received.
     new_rung : (action : Action) → Loads link_config p Old New knows.base (pasts (1 - p)) (now (1 - p)) action → Rung link_config p New (pasts (1 - p)) action
     new_rung Starts l = tt
     new_rung (Begins call) l = tt
@@ -116,7 +117,7 @@ module _ (link_config : LinkConfig) (is : IsLinkConfig link_config) (pasts : ℕ
     new_rung Resets l = tt
     new_rung (Takes v) l = tt
 
-    -- and of a look at the available index
+    -- The same for a load of the available index.
     new_found : (action : Action) → Loads link_config p Old New knows.base (pasts (1 - p)) (now (1 - p)) action → Found link_config p Old New (pasts (1 - p)) action
     new_found Starts l = tt
     new_found (Begins call) l = tt
@@ -133,7 +134,7 @@ module _ (link_config : LinkConfig) (is : IsLinkConfig link_config) (pasts : ℕ
             let h : PlaceInvariant link_config (seen link_config p Old.words (pasts (1 - p) (now (1 - p))).words) p Old.end (ReadingAvailIndex t last) = subst (PlaceInvariant link_config (seen link_config p Old.words (pasts (1 - p) (now (1 - p))).words) p Old.end) at (beside link_config is pasts now held p p2 (now (1 - p)) view (omega arith)).before.mine.holds in
             (suc store.0, omega arith, store.5 (ap acquires at) (is_released store.0 _ (omega arith) store.2 (inr (inl refl)) (inl h.0) store.3), store.4)
 
-    -- and of a look at the used index
+    -- The same for a load of the used index.
     new_reclaimed : (action : Action) → Loads link_config p Old New knows.base (pasts (1 - p)) (now (1 - p)) action → Reclaimed link_config p Old New (pasts (1 - p)) action
     new_reclaimed Starts l = tt
     new_reclaimed (Begins call) l = tt
@@ -153,26 +154,22 @@ module _ (link_config : LinkConfig) (is : IsLinkConfig link_config) (pasts : ℕ
 no_false : true ≡ false → ⊥
 no_false e = let g : ⊥ = cc in g
 
--- no fence is owed after a step: so it stored no state
+-- A step after which no fence is owed stores no State.
 unfenced : (link_config : LinkConfig) (p : ℕ) (place next : Place) (s : ℕ) → owes place next ≡ false → access_at (config_of link_config p) place ≢ access.State s
-unfenced link_config p (WritingState state) next s f e = no_false f
-unfenced link_config p Refusing next s f e = no_false f
+unfenced link_config p (WritingState state) next s f e = no_false (sym (state_store_fences state next) ∙ f)
+unfenced link_config p Refusing next s f e = no_false (sym (refusal_fences next) ∙ f)
 unfenced link_config p place next s f e = cc
 
--- an action after which no fence is owed is a fence, or owed none before it and left the phase as it was
+-- If no fence is owed after an action, it is a fence, or none was owed before and the phase stays.
 frees : (link_config : LinkConfig) (p : ℕ) (old new : Moment) (action : Action) → Does link_config p old new action → new.owed ≡ false → (action ≡ Fences) ⊎ ((old.owed ≡ false) × (new.end.handshake.phase ≡ old.end.handshake.phase))
 frees link_config p old new Starts d f = absurd d
 frees link_config p old new (Begins call) d f = inr (sym d.5 ∙ f, ap (λ (e : End). e.handshake.phase) d.3)
 frees link_config p old new (Takes v) d f = inr (d.4, ap (λ (e : End). e.handshake.phase) d.2 ∙ phases.kept old.end (step_at (config_of link_config p) old.place v) (λ s. unfenced link_config p old.place new.place s (sym d.5 ∙ f)))
 frees link_config p old new Fences d f = inl refl
 frees link_config p old new (Hears h) d f = inr (sym d.3 ∙ f, ap (λ (e : End). e.handshake.phase) d.1)
-frees link_config p old new Resets d f = absurd (no_false (sym d.3 ∙ f))
+frees link_config p old new Resets d f = absurd (no_false (sym (reset_fences link_config p old new d) ∙ f))
 
--- an end that comes to the event owes a fence, until it makes one
-or_true : (a : Bool) → (a || true) ≡ true
-or_true true = refl
-or_true false = refl
-
+-- An end before its load of the other's event owes a fence until it makes one.
 not_event : (b : Bool) (x y : Place) (t : ℕ) → x ≢ ReadingAvailEvent t → y ≢ ReadingAvailEvent t → (if b then x else y) ≢ ReadingAvailEvent t
 not_event true x y t f g = f
 not_event false x y t f g = g
@@ -186,12 +183,12 @@ begins_apart link_config p end Poll t e = not_event (in_run end.handshake.phase)
 event_fenced : (link_config : LinkConfig) (p : ℕ) (old new : Moment) (action : Action) (t : ℕ) → Does link_config p old new action → new.owed ≡ false → new.place ≡ ReadingAvailEvent t → (action ≡ Fences) ⊎ (((k : ℕ) × (action ≡ Hears k)) × (old.owed ≡ false) × (old.place ≡ ReadingAvailEvent t))
 event_fenced link_config p old new Starts t d f e = absurd d
 event_fenced link_config p old new (Begins call) t d f e = absurd (begins_apart link_config p old.end call t (sym d.4 ∙ e))
-event_fenced link_config p old new (Takes v) t d f e = absurd (no_false (sym (or_true (fences_after old.place)) ∙ (ap (λ (k : Place). fences_after old.place || fences_before k) (sym e) ∙ (sym d.5 ∙ f))))
+event_fenced link_config p old new (Takes v) t d f e = absurd (no_false (sym (event_load_fences old.place t) ∙ (ap (λ (k : Place). owes old.place k) (sym e) ∙ (sym d.5 ∙ f))))
 event_fenced link_config p old new Fences t d f e = inl refl
 event_fenced link_config p old new (Hears k) t d f e = inr ((k, refl), sym d.3 ∙ f, sym d.2 ∙ e)
-event_fenced link_config p old new Resets t d f e = absurd (no_false (sym d.3 ∙ f))
+event_fenced link_config p old new Resets t d f e = absurd (no_false (sym (reset_fences link_config p old new d) ∙ f))
 
--- an action is a fence, or the last fence stays
+-- An action is a fence, or the moment of the last fence stays.
 fence_or : (old new : Moment) (at : ℕ) (theirs : ℕ → Moment) (now : ℕ) (action : Action) → FencedBy old new at theirs now action → (((theirs now).fenced ≤ new.view) × (new.fenced ≡ at)) ⊎ (new.fenced ≡ old.fenced)
 fence_or old new at theirs now Starts f = inr f
 fence_or old new at theirs now (Begins call) f = inr f
@@ -217,7 +214,7 @@ at_last P n a le last older = dite (ℕ_discrete a (suc n)) (λ e. subst P (sym 
 pub pick : (p : ℕ) → p < 2 → (P : ℕ → Type 0) → P p → P (1 - p) → (r : ℕ) → r < 2 → P r
 pick p p2 P a b r r2 = dite (ℕ_discrete r p) (λ e. subst P (sym e) a) (λ ne. subst P (let e : 1 - p ≡ r = omega arith in e) b)
 
--- what is held goes on
+-- One more action keeps `Held`.
 module _ (link_config : LinkConfig) (is : IsLinkConfig link_config) (pasts : ℕ → ℕ → Moment) (now : ℕ → ℕ) (held : Held link_config pasts now) (p : ℕ) (p2 : p < 2) (does : Does link_config p (pasts p (now p)) (pasts p (suc (now p))) (pasts p (suc (now p))).action)
     (knows : Knows link_config p (pasts p (now p)) (pasts p (suc (now p))) (suc (now p)) (pasts (1 - p)) (now (1 - p))) where
   o2 : 1 - p < 2
@@ -324,7 +321,7 @@ module _ (link_config : LinkConfig) (is : IsLinkConfig link_config) (pasts : ℕ
         (λ k kl. let t = held.trail (1 - p) o2 k (omega arith) in let nn = ap now back in record { does = t.does; sourced = sourced_on link_config (1 - p) (pasts (1 - p) k) (pasts (1 - (1 - p))) (now (1 - (1 - p))) (next (1 - (1 - p))) (pasts (1 - p) (suc k)).action (omega arith) t.sourced; rises = t.rises; took = t.took; found = t.found; reclaimed = t.reclaimed; rung = t.rung; climbs = t.climbs; fence = t.fence });
   }
 
--- the start
+-- The start.
 blank : (b : Bool) (x y : ℕ) → x ≡ 0 → y ≡ 0 → (if b then x else y) ≡ 0
 blank true x y e f = e
 blank false x y e f = f

@@ -19,7 +19,7 @@ use Rattle.weak_orders.specs.OneEnd.{RunsAlone, EndsAreSafe}
 use Rattle.weak_orders.proofs.Cuts.{own_test, owns_section}
 use Rattle.weak_orders.proofs.Main.{held_lem}
 
--- What the end keeps alone
+-- The invariant of one end
 
 end_like : {link_config : LinkConfig} {p : ℕ} {x x' : ℕ → ℕ} {end end' : End} {place place' : Place} → x' ≡ x → end' ≡ end → place' ≡ place → EndInvariant link_config x p end place → EndInvariant link_config x' p end' place'
 end_like {link_config} {p} {x} {x'} {end} {end'} {place} {place'} e f g a =
@@ -61,7 +61,7 @@ module _ (link_config : LinkConfig) (is : IsLinkConfig link_config) (p : ℕ) (p
   permitted_at place r = let config = config_of link_config p in
       (reaching.step config (remaining config place) (remaining config (next_place config place 0)) (step_at config place 0) r (following.comes config place 0 refl)).0
 
-  -- The words of the other
+  -- The words of the other stay
 
   others_by : (old new : Moment) (action : Action) → Does link_config p old new action → EndInvariant link_config old.words p old.end old.place → (w : ℕ) → is_own link_config p w ≡ false → new.words w ≡ old.words w
   others_by old new Starts d a w apart = absurd d
@@ -86,7 +86,7 @@ module _ (link_config : LinkConfig) (is : IsLinkConfig link_config) (p : ℕ) (p
       λ w apart. others_by (past k) (past (suc k)) action d h.0 w apart ∙ h.2 w apart,
     )
 
--- Each end of a weak run alone
+-- Each end of a weak run is a run of one end
 
 run_first : (link_config : LinkConfig) (pasts : ℕ → ℕ → Moment) (now : ℕ → ℕ) → WeakRuns link_config pasts now → (p : ℕ) → IsFirst (pasts p 0)
 run_first link_config pasts _ (starts now none first) p = first p

@@ -1,4 +1,4 @@
--- In a later session of its own an end attends to a later one of the other.
+-- In a later session of its own an end is attached to a later session of the other.
 use Rattle.std.proofs.Common.{◌≡◌, ◌≢◌, ℕ, zero, suc, ◌+◌, ◌-◌, ◌<◌, ◌≤◌, ◌⊎◌, inl, inr, ⊎_elim, Bool, true, false, length, refl, sym, ap, ◌∙◌, subst, arith}
 use Rattle.std.specs.Prelude.{if◌then◌else◌}
 use Rattle.split_ring.specs.declared.steps.Access.TheVariants as access
@@ -24,7 +24,7 @@ use Rattle.weak_orders.proofs.Advance.{Held, Took}
 use Rattle.weak_orders.proofs.Main.{held_lem}
 use Rattle.weak_orders.proofs.Sessions.{view_up, opened_up, climbs, one_lem}
 
--- no call begins at a State step but a Stop, with 0
+-- The only call that begins at a State step is a Stop, which stores 0.
 by_either : (b : Bool) (x y : Place) → state_at x ≡ 9 → state_at y ≡ 9 → state_at (if b then x else y) ≡ 9
 by_either true x y e f = e
 by_either false x y e f = f
@@ -35,7 +35,7 @@ begins_low config end Stop n e lt = let f = ap state_at e in omega arith
 begins_low config end (Offer frame) n e lt = let f = by_either (in_run end.handshake.phase) (ReadingUsedIndex (pending_of config end frame) end.freed) NotInRun refl refl in let g = ap state_at e in omega arith
 begins_low config end Poll n e lt = let f = by_either (in_run end.handshake.phase) (ReadingAvailIndex (length end.delivered) (is_last config end.found_none)) NotInRun refl refl in let g = ap state_at e in omega arith
 
--- a step at a place: a look at the state, a State step, a refusal, or neither, and then the phase stays
+-- A step loads the other's State, stores State, refuses, or leaves the phase as it is.
 abbrev Sort : LinkConfig → ℕ → End → Place → Type 0
 Sort link_config p end place = ((h : HandshakeState) × (place ≡ ReadingOtherState h)) ⊎ (((s : ℕ) × (place ≡ WritingState s)) ⊎ ((place ≡ Refusing) ⊎
     (((s : ℕ) → access_at (config_of link_config p) place ≢ access.State s) × ((v : ℕ) → (end.handshake.phase ≡ Run) ⊎ ((end.handshake.phase ≡ Init) ⊎ (next_place (config_of link_config p) place v ≡ Closed))) ×
@@ -73,7 +73,7 @@ sorts link_config memory p end RingingOffer k = inr (inr (inr (λ s e. cc, λ v.
 sorts link_config memory p end RingingPoll k = inr (inr (inr (λ s e. cc, λ v. inl k, λ e. cc, λ d. refl)))
 
 module _ (link_config : LinkConfig) (is : IsLinkConfig link_config) (pasts : ℕ → ℕ → Moment) (now : ℕ → ℕ) (held : Held link_config pasts now) (p : ℕ) (p2 : p < 2) (a : ℕ) (to : a ≤ now p) (attended : IsAttached (pasts p a).end (pasts p a).place) where
-  -- since then the other was in RESET or INIT; and it has opened a later session
+  -- Since then the other was in RESET or INIT, and it opened a later session.
   abbrev Low : ℕ → Type 0
   Low view = (l : ℕ) × ((pasts p a).view ≤ l) × (l ≤ view) × ((pasts (1 - p) l).words (1 - p) ≤ 1)
 
@@ -101,7 +101,7 @@ module _ (link_config : LinkConfig) (is : IsLinkConfig link_config) (pasts : ℕ
     attends = λ t. inl refl;
   }
 
-  -- the phase stays
+  -- The phase stays.
   keeps_way : (m m' : Moment) (n n' : ℕ) → m'.end.handshake.phase ≡ m.end.handshake.phase → n' ≡ n → m.view ≤ m'.view → (m'.place ≡ WritingState 1 → Low m'.view) →
       (m'.place ≡ WritingState 3 → m.end.handshake.phase ≡ Ready → (n' ≡ opened (pasts p) a) ⊎ High m'.view) → (m.place ≡ WritingState 3 → m'.place ≡ WritingState 3) → Way m n → Way m' n'
   keeps_way m m' n n' ph e up one three stay w = record {
@@ -111,7 +111,7 @@ module _ (link_config : LinkConfig) (is : IsLinkConfig link_config) (pasts : ℕ
     attends = λ t. ⊎_elim (λ (run : m'.end.handshake.phase ≡ Run). high_up m.view m'.view n n' up e (w.attends (inl (sym ph ∙ run)))) (λ (h : (m'.end.handshake.phase ≡ Ready) × (m'.place ≡ WritingState 3)). three h.1 (sym ph ∙ h.0)) t;
   }
 
-  -- RESET
+  -- RESET.
   reset_way : (m' : Moment) (n' : ℕ) → m'.end.handshake.phase ≡ Reset → m'.place ≡ Closed → Way m' n'
   reset_way m' n' ph closed = record {
     init = λ i. absurd (not_phase {a = Reset} {b = Init} (λ h. omega arith) ph i);
@@ -120,7 +120,7 @@ module _ (link_config : LinkConfig) (is : IsLinkConfig link_config) (pasts : ℕ
     attends = λ t. absurd (let high = attends_high m'.end m'.place t in let f = ap state_of ph in omega arith);
   }
 
-  -- a State step
+  -- A State step.
   set_way : (memory : ℕ → ℕ) (m m' : Moment) (n n' s v : ℕ) → m.place ≡ WritingState s → PlaceInvariant link_config memory p m.end (WritingState s) → m'.end.handshake.phase ≡ phase_at s → m'.place ≡ Closed → n' ≡ n + opens_at (WritingState s) (Takes v) → m.view ≤ m'.view → Way m n → Way m' n'
   set_way memory m m' n n' zero v at h ph closed e up w = reset_way m' n' ph closed
   set_way memory m m' n n' (suc zero) v at h ph closed e up w = record {

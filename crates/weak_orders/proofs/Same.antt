@@ -1,4 +1,5 @@
--- A relaxed load gives what it would give at any moment from the view on: the field that is read stands there, as the writer can't reuse it.
+-- A relaxed load has one result at each moment of the other from the view on: the writer of the
+-- word can't reuse the word yet.
 use Rattle.std.proofs.Common.{◌≡◌, ◌≢◌, ℕ, zero, suc, ◌+◌, ◌<◌, Bool, true, false, List, [], ◌∷◌, ◌++◌, length, refl, sym, ap, ◌∙◌, subst, arith, append_assoc, length-append, ne_eqb}
 use Rattle.std.specs.Prelude.{◌==◌, if◌then◌else◌}
 use Rattle.std.proofs.lemmas.Bool.Decides.{nat_tests}
@@ -30,18 +31,18 @@ passed false x h = absurd (h refl)
 is_so : (a b : ℕ) → (a == b) ≡ true → a ≡ b
 is_so a b h = grind (arith, nat_tests)
 
--- frames that were there stay where they are
+-- A frame in a list has the same position in a longer list.
 frame_more : (fs gs t : List (List ℕ)) (k : ℕ) → gs ≡ fs ++ t → k < length fs → frame_at gs k ≡ frame_at fs k
 frame_more fs gs t k e lt = ap (λ (x : List (List ℕ)). frame_at x k) e ∙ get_or-append fs t [] k lt
 
 start_more : (link_config : LinkConfig) (fs gs t : List (List ℕ)) (k : ℕ) → gs ≡ fs ++ t → k < length fs → start_in link_config gs k ≡ start_in link_config fs k
 start_more link_config fs gs t k e lt = frames_lem.by_prefix link_config.sizes (lengths_of gs) (lengths_of fs) k (λ j le. ap length (frame_more fs gs t j e (omega arith)))
 
--- a frame that was delivered stands there
+-- A delivered frame is the accepted frame with the same number.
 refines : (done fs rest : List (List ℕ)) (f : List ℕ) → fs ≡ (done ++ f ∷ []) ++ rest → frame_at fs (length done) ≡ f
 refines done fs rest f e = ap (λ (x : List (List ℕ)). frame_at x (length done)) (e ∙ append_assoc done (f ∷ []) rest) ∙ get_or-append_seam done f rest []
 
--- places of relaxed loads
+-- The places whose access is a relaxed load of a field of a poll or an offer.
 abbrev pub IsRelaxed : Place → Type 0
 IsRelaxed (ReadingUsedId pending freed more) = Unit {0}
 IsRelaxed (ReadingAvailEntry number more) = Unit {0}
@@ -52,7 +53,7 @@ IsRelaxed (ReadingDescFlags number more entry address bytes) = Unit {0}
 IsRelaxed (ReadingFrameWord number more entry address bytes read words) = Unit {0}
 IsRelaxed place = ⊥
 
--- what is kept of a look: no refusal, what the poll holds, and what was delivered
+-- The invariant after a load: no refusal, the values of the poll, and the frames delivered.
 pub record Sound (link_config : LinkConfig) (p : ℕ) (end : End) (place : Place) (v : ℕ) (frames : List (List ℕ)) : Type 0 where
   pub calm : next_place (config_of link_config p) place v ≢ Refusing
   pub field : Field → ℕ
@@ -101,7 +102,7 @@ same_look link_config p end (ReadingFrameWord number more entry address bytes re
     (ap (λ (x : List ℕ). with_marks end (if suc words == 0 then Deliver (frame_in bytes x) ∷ [] else [])) same, ap (λ (x : List ℕ). ReadingFrameWord number more entry address bytes x words) same)
 same_look link_config p end place v w fs gs t r e a b = absurd r
 
--- Frames accepted stay, while the other opens no session
+-- The accepted frames stay while the other opens no session
 
 pub none : (fs : List (List ℕ)) → (t : List (List ℕ)) × (fs ≡ fs ++ t)
 none [] = ([], refl)

@@ -1,4 +1,5 @@
--- Runs over sequentially consistent memory are weak runs: each load gives the newest word, and a full fence is made where one is owed.
+-- Each run over sequentially consistent memory is a weak run: a load gives the newest word, and an
+-- end makes each full fence that it owes.
 use Rattle.std.proofs.Common.{◌≡◌, ◌≢◌, ℕ, suc, ◌+◌, ◌-◌, ◌<◌, inl, inr, Bool, true, false, refl, sym, ap, ◌∙◌, subst, arith}
 use Rattle.std.specs.Prelude.{◌==◌, if◌then◌else◌}
 use Rattle.split_ring.specs.declared.steps.Access.{Access}
@@ -23,14 +24,14 @@ use Rattle.weak_orders.proofs.OneEnd.{safe_lem, permitted_at, alone_of}
 use Rattle.weak_orders.proofs.Extend.{go_on}
 
 module _ (link_config : LinkConfig) (is : IsLinkConfig link_config) where
-  -- a load from the newest moment
+  -- A load from the other's last moment.
   pub newest : (pasts : ℕ → ℕ → Moment) (now : ℕ → ℕ) (p : ℕ) (new : Moment) → WeakRuns link_config pasts now → p < 2 → new.view ≡ now (1 - p) →
       FencedBy (pasts p (now p)) new (suc (now p)) (pasts (1 - p)) (now (1 - p)) new.action → Loads link_config p (pasts p (now p)) new (now (1 - p)) (pasts (1 - p)) (now (1 - p)) new.action →
       Knows link_config p (pasts p (now p)) new (suc (now p)) (pasts (1 - p)) (now (1 - p))
   newest pasts now p new run p2 view fence loads = let h = (held_lem link_config pasts now is run).views p p2 (now p) (omega arith) in
       record { base = now (1 - p); rises = h; keeps = omega arith; known = omega arith; fence = fence; loads = loads }
 
-  -- the run goes on, and is one of these two ends
+  -- The extended run comes to these two ends.
   module _ (memory memory' : ℕ → ℕ) (ends ends' : ℕ → End) (places places' : ℕ → Place) (p : ℕ) (p2 : p < 2) (w : HasWeakRun link_config memory ends places) (new : Moment) where
     abbrev Mine : Moment
     Mine = w.pasts p (w.now p)
@@ -52,7 +53,7 @@ module _ (link_config : LinkConfig) (is : IsLinkConfig link_config) where
         Loads link_config p Mine new (w.now (1 - p)) (w.pasts (1 - p)) (w.now (1 - p)) new.action → ComesTo link_config p new Theirs
     goes_so does view fence loads = go_on link_config w.pasts w.now p new w.run p2 does (newest w.pasts w.now p new w.run p2 view fence loads)
 
-  -- an end that owes a fence makes it
+  -- An end that owes a fence makes it.
   record Free (memory : ℕ → ℕ) (ends : ℕ → End) (places : ℕ → Place) (p : ℕ) : Type 0 where
     weak : HasWeakRun link_config memory ends places
     free : (weak.pasts p (weak.now p)).owed ≡ false
@@ -83,7 +84,7 @@ module _ (link_config : LinkConfig) (is : IsLinkConfig link_config) where
           free = ap (λ (m : Moment). m.owed) g.here ∙ is_free;
         }
 
-  -- what is seen of the other's words is what memory has
+  -- The words of the other that an end finds are those of memory.
   module _ (memory : ℕ → ℕ) (p : ℕ) (p2 : p < 2) (old new : Moment) (theirs : ℕ → Moment) (now value : ℕ) (b : (w : ℕ) → is_own link_config (1 - p) w ≡ true → (theirs now).words w ≡ memory w) where
     sees : (word : ℕ) → MayRead (config_of link_config p) word → seen link_config p old.words (theirs now).words word ≡ memory word
     sees word (inl e) = let o2 : 1 - p < 2 = omega arith in let n = (theirs now).words in
@@ -99,12 +100,12 @@ module _ (link_config : LinkConfig) (is : IsLinkConfig link_config) where
     loads_newest (access.Ring target vector) met may = tt
     loads_newest access.Nothing met may = tt
 
-  -- the other is as it was
+  -- The other end stays.
   other_same : (memory memory' : ℕ → ℕ) (ends ends' : ℕ → End) (places places' : ℕ → Place) (q : ℕ) (m : Moment) → ends' q ≡ ends q → places' q ≡ places q → IsUntouched link_config memory memory' q → IsMomentOf link_config memory q (ends q) (places q) m → IsMomentOf link_config memory' q (ends' q) (places' q) m
   other_same memory memory' ends ends' places places' q m e f keep a = record { end_is = a.end_is ∙ sym e; place_is = a.place_is ∙ sym f; words = λ w own. a.words w own ∙ sym (own_stays link_config memory memory' q w keep own) }
 
   module _ (memory memory' : ℕ → ℕ) (ends ends' : ℕ → End) (places places' : ℕ → Place) (p : ℕ) (p2 : p < 2) where
-    -- a call begins
+    -- A call begins.
     call_moment : HasWeakRun link_config memory ends places → Call → Moment
     call_moment w call = let m = w.pasts p (w.now p) in
         record { action = Begins call; words = m.words; end = m.end; place = first_place (config_of link_config p) m.end call; view = w.now (1 - p); fenced = m.fenced; owed = m.owed }
@@ -121,7 +122,7 @@ module _ (link_config : LinkConfig) (is : IsLinkConfig link_config) where
         }
         (let t = w.are (1 - p) (omega arith) in record { end_is = t.end_is ∙ sym (b.comes.ends_stay (1 - p) ne); place_is = t.place_is ∙ sym (b.comes.places_stay (1 - p) ne); words = t.words })
 
-    -- a step
+    -- A step.
     step_moment : HasWeakRun link_config memory ends places → ℕ → Moment
     step_moment w value = let m = w.pasts p (w.now p) in let config = config_of link_config p in record {
       action = Takes value;
@@ -151,7 +152,7 @@ module _ (link_config : LinkConfig) (is : IsLinkConfig link_config) where
         }
         (other_same memory memory' ends ends' places places' (1 - p) (w.pasts (1 - p) (w.now (1 - p))) (s.comes.ends_stay (1 - p) ne) (s.comes.places_stay (1 - p) ne) keep theirs)
 
-    -- a reset
+    -- A reset.
     reset_moment : HasWeakRun link_config memory ends places → Moment
     reset_moment w = let m = w.pasts p (w.now p) in
         record { action = Resets; words = λ v. if v == p then 0 else m.words v; end = after_reset m.end; place = Closed; view = w.now (1 - p); fenced = m.fenced; owed = true }

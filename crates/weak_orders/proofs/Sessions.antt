@@ -17,12 +17,12 @@ use Rattle.weak_orders.specs.Sessions.{opens_at, opened}
 use Rattle.weak_orders.proofs.Cuts.{own_state}
 use Rattle.weak_orders.proofs.Advance.{Held}
 
--- where no session is opened
+-- The number of sessions stays at an action that opens none.
 pub no_opening : (link_config : LinkConfig) (memory : ℕ → ℕ) (q : ℕ) (end : End) (place : Place) (action : Action) → PlaceInvariant link_config memory q end place → end.handshake.phase ≢ Init → opens_at place action ≡ 0
 no_opening link_config memory q end (WritingState (suc (suc zero))) (Takes v) h apart = absurd (apart h.0)
 no_opening link_config memory q end place action h apart = refl
 
--- a rise of the state from 1 to 2 opens one
+-- An action that raises State from 1 to 2 opens a session.
 state_out : Access → ℕ → ℕ
 state_out (access.State s) n = s
 state_out a n = n

@@ -1,4 +1,4 @@
--- The doorbell that an event asked for is rung.
+-- The other's offer of the frame that an event names comes to its doorbell.
 use Rattle.std.proofs.Common.{◌≡◌, ◌≢◌, ℕ, zero, suc, ◌+◌, ◌-◌, ◌%◌, ◌<◌, ◌≤◌, inl, ⊎_elim, Bool, true, false, List, ◌++◌, length, length-append, refl, sym, ap, ◌∙◌, subst, arith, ◌⊎◌, inr}
 use mathlib.Core.Logic.{dite}
 use native.Mathlib.Decide.{ℕ_discrete, dec_lt}
@@ -27,6 +27,7 @@ use Rattle.weak_orders.specs.Orders.{owes}
 use Rattle.weak_orders.specs.Sessions.{opens_at, opened}
 use Rattle.weak_orders.specs.OneEnd.{RunsAlone}
 use Rattle.weak_orders.specs.Wake.{HasMovedOn, WeakDoorbellsRing}
+use Rattle.weak_orders.proofs.Rows.{event_store_fences, reset_fences}
 use Rattle.weak_orders.proofs.Cuts.{their_word}
 use Rattle.weak_orders.proofs.Advance.{Held, Found, Sourced}
 use Rattle.weak_orders.proofs.Same.{none, noted_grows, stated_keeps, state_in}
@@ -34,7 +35,7 @@ use Rattle.weak_orders.proofs.Main.{held_lem}
 use Rattle.weak_orders.proofs.OneEnd.{safe_lem, alone_of}
 use Rattle.weak_orders.proofs.Sessions.{opened_up, one_lem}
 
--- frames accepted stay where no session is opened
+-- The number of accepted frames doesn't fall at an action that opens no session.
 pub not_two : (link_config : LinkConfig) (q : ℕ) (place : Place) (v : ℕ) → opens_at place (Takes v) ≡ 0 → (s : ℕ) → access_at (config_of link_config q) place ≡ access.State s → s ≢ 2
 not_two link_config q place v none s e f = by_place place none (ap state_in e ∙ f)
   where
@@ -65,7 +66,7 @@ module _ (link_config : LinkConfig) (is : IsLinkConfig link_config) (pasts : ℕ
     accepted_at : (k : ℕ) → k ≤ now (1 - p) → (pasts (1 - p) k).place ≡ ReadingAvailEvent t → length (pasts (1 - p) k).end.accepted ≡ t + 1
     accepted_at k kn e = let al = held.alone (1 - p) (omega arith) k kn in let m = pasts (1 - p) k in let h : PlaceInvariant link_config (seen link_config (1 - p) m.words al.0) (1 - p) m.end (ReadingAvailEvent t) = subst (PlaceInvariant link_config (seen link_config (1 - p) m.words al.0) (1 - p) m.end) e al.1.holds in sym h.1
 
-    -- the look came after the index: it would have found the frame
+    -- If the load of the index knows the other's fence, then it finds the frame.
     finds : (pasts (1 - p) b).owed ≡ false → (pasts (1 - p) b).fenced ≤ (pasts p a).view → ⊥
     finds free f = let o2 : 1 - p < 2 = omega arith in let g : Found link_config p (pasts p a) (pasts p (suc a)) (pasts (1 - p)) (Takes v) = subst (λ d. Found link_config p (pasts p a) (pasts p (suc a)) (pasts (1 - p)) d) took (held.trail p p2 a an).found in
         let s = g t last look in let s1 = s.1 in let s2 = s.2 in let views = held.views p p2 (suc a) an in let back = held.causal p p2 a an s.0 s2 in
@@ -77,17 +78,17 @@ module _ (link_config : LinkConfig) (is : IsLinkConfig link_config) (pasts : ℕ
         (λ lt. let e : b + (s.0 - b) ≡ s.0 = omega arith in let z = ap (opened (pasts (1 - p))) e in let l = longer (1 - p) o2 b (s.0 - b) (omega arith) (omega arith) in let y = ap (λ k. length (pasts (1 - p) k).end.accepted) e in let n = accepted_at b (omega arith) hears in omega arith)
         (λ ge. let n = accepted_at s.0 (omega arith) (held.heard (1 - p) o2 b (omega arith) t s.0 free hears (omega arith) (omega arith)) in omega arith)
 
-    -- from the write of the event on a fence is owed, or was made
+    -- After the store of the event a fence is owed, or was made.
     owed_on : (k : ℕ) → (action : Action) → suc k ≤ now p → (pasts p (suc k)).action ≡ action → Does link_config p (pasts p k) (pasts p (suc k)) action → ((pasts p k).owed ≡ true) ⊎ (suc c ≤ (pasts p k).fenced) → c ≤ k → ((pasts p (suc k)).owed ≡ true) ⊎ (suc c ≤ (pasts p (suc k)).fenced)
     owed_on k Starts kn e d h ck = absurd d
     owed_on k (Begins call) kn e d h ck = let up = (held.trail p p2 k kn).climbs in ⊎_elim (λ f. inl (d.5 ∙ f)) (λ f. inr (omega arith)) h
     owed_on k (Takes value) kn e d h ck = let up = (held.trail p p2 k kn).climbs in ⊎_elim (λ f. absurd (let z : true ≡ false = sym f ∙ d.4 in let g : ⊥ = cc in g)) (λ f. inr (omega arith)) h
     owed_on k Fences kn e d h ck = let at = (held.trail p p2 k kn).fence e in inr (omega arith)
     owed_on k (Hears h') kn e d h ck = let up = (held.trail p p2 k kn).climbs in ⊎_elim (λ f. inl (d.3 ∙ f)) (λ f. inr (omega arith)) h
-    owed_on k Resets kn e d h ck = inl d.3
+    owed_on k Resets kn e d h ck = inl (reset_fences link_config p (pasts p k) (pasts p (suc k)) d)
 
     first_owed : (pasts p (suc c)).owed ≡ true
-    first_owed = let d : Does link_config p (pasts p c) (pasts p (suc c)) (Takes x) = subst (λ d. Does link_config p (pasts p c) (pasts p (suc c)) d) armed (held.trail p p2 c (omega arith)).does in d.5 ∙ ap (λ (k : Place). owes k (pasts p (suc c)).place) arms
+    first_owed = let d : Does link_config p (pasts p c) (pasts p (suc c)) (Takes x) = subst (λ d. Does link_config p (pasts p c) (pasts p (suc c)) d) armed (held.trail p p2 c (omega arith)).does in d.5 ∙ (ap (λ (k : Place). owes k (pasts p (suc c)).place) arms ∙ event_store_fences t (pasts p (suc c)).place)
 
     owed_since : (j : ℕ) → suc c + j ≤ now p → ((pasts p (suc c + j)).owed ≡ true) ⊎ (suc c ≤ (pasts p (suc c + j)).fenced)
     owed_since zero to = subst (λ k. ((pasts p k).owed ≡ true) ⊎ (suc c ≤ (pasts p k).fenced)) (let e : suc c ≡ suc c + zero = omega arith in e) (inl first_owed)
@@ -98,7 +99,7 @@ module _ (link_config : LinkConfig) (is : IsLinkConfig link_config) (pasts : ℕ
         let h : ((pasts p a).owed ≡ true) ⊎ (suc c ≤ (pasts p a).fenced) = subst (λ k. ((pasts p k).owed ≡ true) ⊎ (suc c ≤ (pasts p k).fenced)) (let e : suc c + (a - suc c) ≡ a = omega arith in e) (owed_since (a - suc c) (omega arith)) in
         ⊎_elim (λ f. absurd (let z : true ≡ false = sym f ∙ d.4 in let g : ⊥ = cc in g)) (λ f. f) h
 
-    -- the event stands from its write on, until the end moves on
+    -- The event word keeps its value until the end moves on.
     Stands : ℕ → Type 0
     Stands k = EventIndexIs link_config (pasts p k).words p t
 
@@ -134,7 +135,7 @@ module _ (link_config : LinkConfig) (is : IsLinkConfig link_config) (pasts : ℕ
     stands (suc j) to = let k = suc c + j in let d = (held.trail p p2 k (omega arith)).does in
         ⊎_elim (λ (h : Stands k). subst (λ k. Stands k ⊎ HasMovedOn (pasts p) c (now p) t) (let e : suc k ≡ suc c + suc j = omega arith in e) (stands_on k (pasts p (suc k)).action (omega arith) (omega arith) d h)) (λ moved. inr moved) (stands j (omega arith))
 
-    -- the event was read after it was written: it asks
+    -- If the load of the event knows the end's fence, then it gives the event, and the offer rings.
     rings_lem : ((pasts (1 - p) (suc b)).place ≡ RingingOffer) ⊎ HasMovedOn (pasts p) c (now p) t
     unfolding Stands
     rings_lem = let made = fence_made in let o2 : 1 - p < 2 = omega arith in let back : 1 - (1 - p) ≡ p = omega arith in let q = pasts (1 - p) b in let tr = held.trail (1 - p) o2 b bn in

@@ -8,9 +8,9 @@ use Rattle.weak_orders.specs.Memory.{Moment, Takes, Hears}
 use Rattle.weak_orders.specs.Runs.{WeakRuns}
 use Rattle.weak_orders.specs.Sessions.{opened}
 
--- An end hears a doorbell of the other, and then reads an index of the other in the same session of
--- the other. After the doorbell of an offer a look finds all frames that were accepted before it.
--- After that of a poll an offer finds all frames that were returned before it.
+-- An end receives a doorbell of the other, and then loads an index of the other, in the same
+-- session of the other. If the doorbell is an offer's, a poll finds all frames that were accepted
+-- before it. If the doorbell is a poll's, an offer finds all frames that were returned before it.
 pub record DoorbellsFollow (pasts : ℕ → ℕ → Moment) (now : ℕ → ℕ) (p : ℕ) : Type 0 where
   pub finds : (b h a t v : ℕ) (last : Bool) → h < a → suc a ≤ now p →
       (pasts (1 - p) b).place ≡ RingingOffer → (pasts p (suc h)).action ≡ Hears b →

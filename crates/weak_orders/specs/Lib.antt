@@ -6,3 +6,4 @@ pub mod Wake
 pub mod Bell
 pub mod OneEnd
 pub mod Stronger
+pub mod Worked

@@ -1,8 +1,7 @@
--- The weak memory. Each word has one writer, so the stores to a word are ordered as its writer
--- makes them, and a list of moments, one after each action of an end, says all that the end has
--- stored. What an end knows of the other is a number of the other's moments, its view. Each rule is
--- a sentence of C11 (5.1.2.4, 7.17.3), whose atomics the compilers map to what a processor's manual
--- calls store-release, load-acquire and barrier (docs/ORDERS.md says what the model leaves out).
+-- The weak memory. C11: all modifications of an object occur in one total order. Here each word
+-- has one writer: a list of moments, one after each action of an end, says all that the end stored.
+-- What an end knows of the other is a number of the other's moments, its view. C11's sentences are
+-- of 5.1.2.4 and 7.17.3. docs/ORDERS.md has each rule in the words of Arm, and what is left out.
 use Rattle.std.specs.Prelude.{ℕ, suc, ◌≡◌, ◌+◌, ◌-◌, ◌<◌, ◌≤◌, ◌⊎◌, ◌==◌, ◌&&◌, ◌||◌, nat_le, nat_lt, Bool, true, false, if◌then◌else◌}
 use Rattle.split_ring.specs.declared.steps.Access.{Access}
 use Rattle.split_ring.specs.declared.steps.Access.TheVariants as access
@@ -14,7 +13,7 @@ use Rattle.link_invariant.specs.Steps.{Stored, MemoryAfter}
 use Rattle.weak_orders.specs.Orders.{acquires, releases, owes}
 
 -- An end starts, begins a call, takes the step at its place, whose load gives this value, makes a
--- full fence, hears the doorbell that the other rang as its action after moment k, or is reset.
+-- full fence, receives the doorbell that the other rang as its action after moment k, or is reset.
 pub data Action : Type 0 where
   Starts : Action
   Begins : (call : Call) → Action
@@ -63,10 +62,10 @@ StoresTo q _ word = ⊥
 abbrev pub Stores : LinkConfig → ℕ → (ℕ → Moment) → ℕ → ℕ → Type 0
 Stores link_config q past k word = StoresTo q (access_of link_config q (past k).place (past (suc k)).action) word
 
--- C11: a load takes the value of a store that it doesn't happen before, and of none that an other
--- store hides which happens before the load. Here: the word as it was at the view, or as any later
--- store of the other left it, in whatever order earlier loads saw them. And: a release synchronizes
--- with the acquire that takes its value. Here: the view comes to that store.
+-- C11: a load takes the value of a store that it doesn't happen before, and that no other store
+-- hides which happens before the load. Here: the word as it was at the view, or as any later store
+-- of the other left it, in whatever order earlier loads saw them. C11: a release synchronizes with
+-- the acquire that takes its value. Here: the view comes to that store.
 abbrev pub Gives : LinkConfig → ℕ → (old new : Moment) → (base : ℕ) → (theirs : ℕ → Moment) → (now word value : ℕ) → Type 0
 Gives link_config p old new base theirs now word value =
     (value ≡ seen link_config p old.words (theirs base).words word) ⊎
@@ -78,7 +77,7 @@ LoadsBy link_config p old new base theirs now value (access.Read word) = Gives l
 LoadsBy link_config p old new base theirs now value _ = Unit {0}
 
 -- ARM: a store-release is observed after all that comes before it in program order, a store to a
--- device as any other. Here: an end that hears a doorbell has the view come to it.
+-- device as any other. Here: an end that receives a doorbell has the view come to it.
 abbrev pub Heard : LinkConfig → ℕ → (new : Moment) → (theirs : ℕ → Moment) → ℕ → Type 0
 Heard link_config p new theirs k = (access_of link_config (1 - p) (theirs k).place (theirs (suc k)).action ≡ access.Ring p link_config.vector) ×
     (is_release (theirs k).place (theirs (suc k)).action ≡ true → suc k ≤ new.view)
@@ -94,9 +93,9 @@ abbrev pub FencedBy : (old new : Moment) → (at : ℕ) → (theirs : ℕ → Mo
 FencedBy old new at theirs now Fences = ((theirs now).fenced ≤ new.view) × (new.fenced ≡ at)
 FencedBy old new at theirs now _ = new.fenced ≡ old.fenced
 
--- What end p knows after its action, its moment `at`, if the other has come to `now`. Its view
--- never falls, and may rise by more than the rules ask: so the runs of stronger memory are here
--- too. It is at most `now`: a load gives no store that comes later.
+-- What end p knows after its action, its moment `at`, if the other has come to `now`. C11: happens
+-- before is transitive. Here: the view never falls. It may rise by more than the rules ask, so the
+-- runs of stronger memory are here too. It is at most `now`: no load gives a later store.
 pub record Knows (link_config : LinkConfig) (p : ℕ) (old new : Moment) (at : ℕ) (theirs : ℕ → Moment) (now : ℕ) : Type 0 where
   pub base : ℕ
   pub rises : old.view ≤ base
@@ -105,7 +104,8 @@ pub record Knows (link_config : LinkConfig) (p : ℕ) (old new : Moment) (at : �
   pub fence : FencedBy old new at theirs now new.action
   pub loads : Loads link_config p old new base theirs now new.action
 
--- What end p does itself, by the call grammar. It takes no step while it owes a full fence.
+-- What end p does itself, by the call grammar. C11: a fence is sequenced between two accesses.
+-- Here: the end takes no step while it owes a full fence.
 abbrev pub Does : LinkConfig → ℕ → (old new : Moment) → Action → Type 0
 Does link_config p old new Starts = ⊥
 Does link_config p old new (Begins call) =

@@ -21,7 +21,7 @@ pub record IsSafe (link_config : LinkConfig) (p : ℕ) (m : Moment) : Type 0 whe
   pub permitted : IsPermittedAccess (config_of link_config p) (access_at (config_of link_config p) m.place)
   pub others : (w : ℕ) → is_own link_config p w ≡ false → m.words w ≡ 0
 
--- So it is at each moment, and the mark of a refusal stays until a reset.
+-- One end is safe at each moment, and the mark of a refusal stays until a reset.
 pub record EndsAreSafe : Type 0 where
   pub safe : (link_config : LinkConfig) (p : ℕ) (past : ℕ → Moment) (now k : ℕ) → IsLinkConfig link_config → p < 2 → RunsAlone link_config p past now → k ≤ now →
       IsSafe link_config p (past k)

@@ -1,5 +1,6 @@
--- Memories whose runs are weak runs: the sequentially consistent one of all other theorems, and
--- that of x86 with its store buffers. And what the weak one has more: a load of an earlier moment.
+-- Two memories whose runs are weak runs: the sequentially consistent one of all other theorems, and
+-- that of x86 with its store buffers. The weak memory has more runs: a load may give an earlier
+-- word.
 use Rattle.std.specs.Prelude.{ℕ, suc, ◌≡◌, ◌-◌, ◌<◌, ◌≤◌, true, false}
 use Rattle.split_ring.specs.declared.steps.Access.TheVariants as access
 use Rattle.call_grammar.specs.Ends.{End}
@@ -10,7 +11,7 @@ use Rattle.link_invariant.specs.Runs.{HonestRuns}
 use Rattle.weak_orders.specs.Memory.{Moment, Action, Takes, Fences, Hears, Does, access_of, is_own, seen}
 use Rattle.weak_orders.specs.Runs.{WeakRuns, IsFirst}
 
--- The moment has this end at this place, and its own words are those of memory.
+-- The moment has this end and this place, and its own words are those of memory.
 pub record IsMomentOf (link_config : LinkConfig) (memory : ℕ → ℕ) (p : ℕ) (end : End) (place : Place) (m : Moment) : Type 0 where
   pub end_is : m.end ≡ end
   pub place_is : m.place ≡ place
@@ -41,7 +42,7 @@ abbrev pub IsFenced : (old new : Moment) → (at out : ℕ) → Action → Type 
 IsFenced old new at out Fences = (out ≡ at) × (new.fenced ≡ at)
 IsFenced old new at out _ = new.fenced ≡ old.fenced
 
--- Moments leave the two buffers, and end p takes an action.
+-- A run: in each turn, moments leave the two buffers, and then end p takes an action.
 pub data BufferedRuns (link_config : LinkConfig) (pasts : ℕ → ℕ → Moment) : (now out : ℕ → ℕ) → Type 0 where
   starts : (now out : ℕ → ℕ) → ((p : ℕ) → now p ≡ 0) → ((p : ℕ) → out p ≡ 0) → ((p : ℕ) → IsFirst (pasts p 0)) → BufferedRuns link_config pasts now out
   goes : (now next out left : ℕ → ℕ) (p : ℕ) → BufferedRuns link_config pasts now out → p < 2 → out p ≤ left p → left p ≤ next p →
@@ -63,8 +64,8 @@ pub record ComesTo (link_config : LinkConfig) (p : ℕ) (mine theirs : Moment) :
   pub here : pasts p (now p) ≡ mine
   pub there : pasts (1 - p) (now (1 - p)) ≡ theirs
 
--- A run goes on by a load that gives the word as it was at any moment of the other from the view
--- on.
+-- A run continues by a load that gives the word as it was at moment i of the other, for each i from
+-- the end's view on.
 abbrev pub LoadsMayBeStale : Type 0
 LoadsMayBeStale = (link_config : LinkConfig) (pasts : ℕ → ℕ → Moment) (now : ℕ → ℕ) (p i word : ℕ) → IsLinkConfig link_config → WeakRuns link_config pasts now → p < 2 →
     (pasts p (now p)).owed ≡ false → access_at (config_of link_config p) (pasts p (now p)).place ≡ access.Read word → (pasts p (now p)).view ≤ i → i ≤ now (1 - p) →

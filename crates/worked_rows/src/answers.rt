@@ -1,4 +1,4 @@
-//! A question of a row, and its answer by the top call.
+//! The question of a row, and its answer by the top call.
 use ivs_base::{MemorySink, MemorySource};
 use ivshm_cli::ivshm;
 use peer_runner::OpenGate;
@@ -7,10 +7,11 @@ use std::io;
 use std::io::ErrorKind;
 use std::thread::Threads;
 
-/// The most bytes of an output.
+/// The greatest length of an output, in bytes.
 const ROOM: usize = 1 << 24;
 
-/// The words and the bytes that are read, in pieces of how many bytes, and which calls fail.
+/// A question: the words, the input, the size of the pieces in which the input is read, and the
+/// calls that fail.
 #[derive(Drop)]
 pub(crate) struct Question {
     pub(crate) is_asked: bool,
@@ -22,7 +23,7 @@ pub(crate) struct Question {
     pub(crate) failing_writes: Vec<u64>,
 }
 
-/// A status, all that was written, and whether peers ran.
+/// An answer: a status, the text written, and whether peers ran.
 #[derive(Drop)]
 pub(crate) struct Answer {
     pub(crate) status: u64,
@@ -31,7 +32,7 @@ pub(crate) struct Answer {
 }
 
 impl Question {
-    /// One with no words and no input.
+    /// Returns a question without words and without input.
     pub(crate) fn new(alloc: Global) -> Question {
         Question {
             is_asked: false,
@@ -44,7 +45,7 @@ impl Question {
         }
     }
 
-    /// Sets the words, which are spelled with a blank between them; `""` spells the empty one.
+    /// Sets the words, which are written with a blank between them. `""` is the empty word.
     pub(crate) fn ask(&mut self, alloc: Global, is_call: bool, words: &str) -> io::Result<()> {
         self.is_asked = true;
         self.is_call = is_call;
@@ -57,7 +58,7 @@ impl Question {
         Ok(())
     }
 
-    /// Must peers run where this is answered with status 0?
+    /// Whether peers must run if the status of the answer is 0.
     pub(crate) fn runs(&self) -> bool {
         match self.words.first() {
             Some(word) => word.as_str() == "run",
@@ -65,7 +66,7 @@ impl Question {
         }
     }
 
-    /// The answer of the top call.
+    /// Returns the answer of the top call.
     pub(crate) fn answer<R: Threads + Sync>(&self, rt: &R, alloc: Global) -> io::Result<Answer> {
         let piece = self.piece.clamp(1, 65536) as usize;
         let mut source = MemorySource::new(

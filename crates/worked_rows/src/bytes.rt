@@ -1,21 +1,22 @@
-//! Bytes of an input or an output, as the lines of a page spell them. A line that spells none is
-//! refused with InvalidData, and one that changes what isn't there with NotFound.
+//! Bytes of an input or an output, as the lines of a page spell them. A line that spells no bytes
+//! is refused with InvalidData. A line that changes bytes that aren't there is refused with
+//! NotFound.
 use std::alloc::Global;
 use std::io;
 use std::io::ErrorKind;
 
-/// The number that the text spells.
+/// Returns the number that the text spells.
 pub(crate) fn number(text: &str) -> io::Result<u64> {
     Ok(text.parse::<u64>().map_err(|_| ErrorKind::InvalidData)?)
 }
 
-/// The two parts of a text, before and after the first blank. The second is empty where there is no
-/// blank.
+/// Returns the two parts of a text, before and after the first blank. Without a blank the second
+/// part is empty.
 pub(crate) fn halves<'a>(text: &'a str) -> (&'a str, &'a str) {
     text.split_once(' ').unwrap_or((text, ""))
 }
 
-/// The digit of a number below 16.
+/// Returns the digit of a number below 16.
 fn digit(value: u8) -> u8 {
     match value {
         0..=9 => 48 + value,
@@ -24,8 +25,8 @@ fn digit(value: u8) -> u8 {
     }
 }
 
-/// Adds the digits of so many bytes: `COUNT@FIRST+STEP`, each of which is the one before it with
-/// the step added, modulo 256.
+/// Adds the digits of `COUNT@FIRST+STEP`: COUNT bytes from FIRST on, each with the step added to
+/// the one before, modulo 256.
 fn add_counted(bytes: &mut Vec<u8>, counted: &str) -> io::Result<()> {
     let (count, rest) = counted.split_once('@').ok_or(ErrorKind::InvalidData)?;
     let (first, step) = rest.split_once('+').ok_or(ErrorKind::InvalidData)?;
@@ -39,8 +40,8 @@ fn add_counted(bytes: &mut Vec<u8>, counted: &str) -> io::Result<()> {
     Ok(())
 }
 
-/// Adds what stands in square brackets: `COUNT*PART` is so many times the part, and other text
-/// stands for itself.
+/// Adds the contents of square brackets: `COUNT*PART` is COUNT times the part, and other text is
+/// itself.
 fn add_bracketed(bytes: &mut Vec<u8>, inside: &str) -> io::Result<()> {
     if let Some((count, part)) = inside.split_once('*') {
         for _ in 0..number(count)? {
@@ -56,7 +57,7 @@ fn add_bracketed(bytes: &mut Vec<u8>, inside: &str) -> io::Result<()> {
     Ok(())
 }
 
-/// Adds a text, in which square brackets hold what is repeated.
+/// Adds a text; square brackets in it hold repeated parts.
 pub(crate) fn add_text(bytes: &mut Vec<u8>, text: &str) -> io::Result<()> {
     for (place, piece) in text.split('[').enumerate() {
         if place == 0 {
@@ -70,7 +71,7 @@ pub(crate) fn add_text(bytes: &mut Vec<u8>, text: &str) -> io::Result<()> {
     Ok(())
 }
 
-/// Adds a line once for each number of a range: `#` in it stands for the number, and `%` for its
+/// Adds a line once for each number of a range. In it `#` is replaced by the number, and `%` by its
 /// eight hexadecimal digits.
 pub(crate) fn add_each(alloc: Global, bytes: &mut Vec<u8>, rest: &str) -> io::Result<()> {
     let (first, rest) = halves(rest);
@@ -90,7 +91,7 @@ pub(crate) fn add_each(alloc: Global, bytes: &mut Vec<u8>, rest: &str) -> io::Re
     Ok(())
 }
 
-/// The bytes of some hexadecimal digits, in which square brackets hold what is repeated.
+/// Returns the bytes of hexadecimal digits; square brackets in them hold repeated parts.
 fn decoded(alloc: Global, digits: &str) -> io::Result<Vec<u8>> {
     let mut all = Vec::new(alloc);
     add_text(&mut all, digits)?;
@@ -104,7 +105,7 @@ pub(crate) fn add_hex(alloc: Global, bytes: &mut Vec<u8>, digits: &str) -> io::R
     Ok(())
 }
 
-/// Puts some bytes at a place, in place of those there.
+/// Replaces the bytes at an offset by new ones.
 fn put(bytes: &mut [u8], place: u64, new: &[u8]) -> io::Result<()> {
     let len = bytes.len() as u64;
     let count = new.len() as u64;
@@ -116,14 +117,14 @@ fn put(bytes: &mut [u8], place: u64, new: &[u8]) -> io::Result<()> {
     Ok(())
 }
 
-/// Puts the bytes of some digits at a place: `PLACE DIGITS`.
+/// Replaces the bytes at an offset by those of digits: `PLACE DIGITS`.
 pub(crate) fn set(alloc: Global, bytes: &mut Vec<u8>, rest: &str) -> io::Result<()> {
     let (place, digits) = halves(rest);
     let new = decoded(alloc, digits)?;
     put(bytes.as_mut_slice(), number(place)?, new.as_slice())
 }
 
-/// Puts a number into a word of four bytes, the least first: `WORD VALUE`.
+/// Sets a word of four bytes, the least significant first, to a number: `WORD VALUE`.
 pub(crate) fn set_word(bytes: &mut Vec<u8>, rest: &str) -> io::Result<()> {
     let (word, value) = halves(rest);
     let value = value.parse::<u32>().map_err(|_| ErrorKind::InvalidData)?;
@@ -131,7 +132,7 @@ pub(crate) fn set_word(bytes: &mut Vec<u8>, rest: &str) -> io::Result<()> {
     put(bytes.as_mut_slice(), place, &value.to_le_bytes())
 }
 
-/// Takes so many bytes from the end, one where no number stands.
+/// Removes a number of bytes from the end, one if there is no number.
 pub(crate) fn cut(bytes: &mut Vec<u8>, rest: &str) -> io::Result<()> {
     let count = if rest.is_empty() { 1 } else { number(rest)? };
     let len = bytes.len() as u64;
@@ -139,8 +140,7 @@ pub(crate) fn cut(bytes: &mut Vec<u8>, rest: &str) -> io::Result<()> {
     Ok(())
 }
 
-/// The lines that are spelled one after the other, with ` / ` between them. An empty text spells
-/// none.
+/// Returns the lines of a text in which ` / ` separates them. An empty text has none.
 fn lines_of(alloc: Global, spelled: &str) -> io::Result<String> {
     let mut lines = String::new(alloc);
     if !spelled.is_empty() {
@@ -152,7 +152,7 @@ fn lines_of(alloc: Global, spelled: &str) -> io::Result<String> {
     Ok(lines)
 }
 
-/// Puts lines in the place of others, where those stand first: `OLD => NEW`.
+/// Replaces the first occurrence of lines by other lines: `OLD => NEW`.
 pub(crate) fn change(alloc: Global, bytes: &mut Vec<u8>, rest: &str) -> io::Result<()> {
     let (old, new) = rest.split_once(" =>").ok_or(ErrorKind::InvalidData)?;
     let old = lines_of(alloc, old)?;

@@ -8,7 +8,7 @@ use std::fmt::Debug;
 use std::io;
 use std::io::ErrorKind;
 
-/// What was asked for, as bytes: status 0.
+/// Returns the bytes asked for: status 0.
 fn answered(bytes: Result<Vec<u8>, NoMemory>) -> io::Result<Answer> {
     let output = bytes.map_err(|_| ErrorKind::OutOfMemory)?;
     Ok(Answer {
@@ -18,7 +18,7 @@ fn answered(bytes: Result<Vec<u8>, NoMemory>) -> io::Result<Answer> {
     })
 }
 
-/// The name of a fault: status 1.
+/// Returns the name of a fault: status 1.
 fn refused<E: Debug>(alloc: Global, fault: &E) -> io::Result<Answer> {
     let text = format!(in alloc; "{fault:?}\n")?;
     Ok(Answer {
@@ -36,7 +36,7 @@ fn scenario(alloc: Global, input: &[u8]) -> io::Result<Answer> {
     }
 }
 
-/// Says at which line of a scenario the form of running peers ends.
+/// Returns the first line of a scenario that the running form doesn't allow.
 fn running(alloc: Global, input: &[u8]) -> io::Result<Answer> {
     let scenario = match scenario_text::parse(alloc, input) {
         Ok(scenario) => scenario,
@@ -49,7 +49,7 @@ fn running(alloc: Global, input: &[u8]) -> io::Result<Answer> {
     answered(Ok(text.into_bytes()))
 }
 
-/// Makes the scenario of a load of so many frames, and prints it.
+/// Makes the scenario of a load of `count` frames and prints it.
 fn load(alloc: Global, count: u32) -> io::Result<Answer> {
     let scenario = scenario_text::load(alloc, count.clamp(1, 80_000)).map_err(
         |_| ErrorKind::OutOfMemory,
@@ -57,7 +57,7 @@ fn load(alloc: Global, count: u32) -> io::Result<Answer> {
     answered(scenario_text::print(alloc, &scenario))
 }
 
-/// How many acts a scenario has, where a turn of so many steps counts so many times.
+/// Returns the number of acts of a scenario; a turn counts for its steps.
 fn cost(alloc: Global, input: &[u8]) -> io::Result<Answer> {
     let scenario = match scenario_text::parse(alloc, input) {
         Ok(scenario) => scenario,
@@ -70,7 +70,7 @@ fn cost(alloc: Global, input: &[u8]) -> io::Result<Answer> {
     answered(Ok(format!(in alloc; "{all}\n")?.into_bytes()))
 }
 
-/// Reads a scenario, and says which peers are honest and which acts it has.
+/// Reads a scenario, and prints its honest peers and its acts.
 fn acts(alloc: Global, input: &[u8]) -> io::Result<Answer> {
     let scenario = match scenario_text::parse(alloc, input) {
         Ok(scenario) => scenario,
@@ -92,7 +92,7 @@ fn record(alloc: Global, input: &[u8]) -> io::Result<Answer> {
     }
 }
 
-/// How many lines of the history of a record a reader reads, one by one.
+/// Returns the number of history lines that a reader reads of a record, one by one.
 fn lines_read(alloc: Global, input: &[u8]) -> Result<u64, RecordFault> {
     let (_, _, mut reader) = Reader::begin(alloc, input)?;
     let mut count = 0u64;
@@ -105,7 +105,7 @@ fn lines_read(alloc: Global, input: &[u8]) -> Result<u64, RecordFault> {
     Ok(count)
 }
 
-/// Reads a record line by line, and says how many lines its history has.
+/// Reads a record line by line, and prints the number of its history lines.
 fn reader(alloc: Global, input: &[u8]) -> io::Result<Answer> {
     match lines_read(alloc, input) {
         Ok(count) => answered(Ok(format!(in alloc; "{count} lines\n")?.into_bytes())),
@@ -113,7 +113,7 @@ fn reader(alloc: Global, input: &[u8]) -> io::Result<Answer> {
     }
 }
 
-/// Reads a record, and says which version and which lines it has.
+/// Reads a record, and prints its version and its lines.
 fn lines(alloc: Global, input: &[u8]) -> io::Result<Answer> {
     let trace = match record_text::parse(alloc, input) {
         Ok(trace) => trace,
@@ -127,7 +127,7 @@ fn lines(alloc: Global, input: &[u8]) -> io::Result<Answer> {
     answered(Ok(text.into_bytes()))
 }
 
-/// Reads a schedule of ports, and says which sizes and which acts it has.
+/// Reads a schedule of ports, and prints its sizes and its acts.
 fn port_acts(alloc: Global, input: &[u8]) -> io::Result<Answer> {
     let scenario = match port_text::parse(alloc, input) {
         Ok(scenario) => scenario,
@@ -152,7 +152,7 @@ fn port_schedule(alloc: Global, input: &[u8]) -> io::Result<Answer> {
     answered(Ok(text))
 }
 
-/// Reads a run of a bridge, and says what it has.
+/// Reads a run of a bridge, and prints its contents.
 fn bridge_run(alloc: Global, input: &[u8]) -> io::Result<Answer> {
     let script = match bridge_text::parse(alloc, input) {
         Ok(script) => script,
@@ -169,7 +169,7 @@ fn bridge_run(alloc: Global, input: &[u8]) -> io::Result<Answer> {
     answered(Ok(text.into_bytes()))
 }
 
-/// Says whether the history of a record is lawful, by the reference program.
+/// Prints whether the history of a record is lawful, by the reference program.
 fn lawful(alloc: Global, input: &[u8]) -> io::Result<Answer> {
     let Trace {
         version,
@@ -185,7 +185,8 @@ fn lawful(alloc: Global, input: &[u8]) -> io::Result<Answer> {
     answered(Ok(format!(in alloc; "{is_lawful}\n")?.into_bytes()))
 }
 
-/// The rows and arrows of a picture of some lines of a record, as far as the most rows go.
+/// Returns the rows and arrows of a picture of lines of a record, at most the greatest number of
+/// rows.
 fn picture(alloc: Global, input: &[u8], first: u32, last: u32) -> io::Result<Answer> {
     let trace = match record_text::parse(alloc, input) {
         Ok(trace) => trace,
@@ -219,7 +220,7 @@ fn capture_file(alloc: Global, input: &[u8]) -> io::Result<Answer> {
     }
 }
 
-/// The word with this number, as a number; 0 where there is none.
+/// Returns the number in word `place`, or 0 if there is none.
 fn number(words: &[String], place: usize) -> u32 {
     match words.get(place) {
         Some(word) => word.as_str().parse::<u32>().unwrap_or(0),
@@ -227,7 +228,7 @@ fn number(words: &[String], place: usize) -> u32 {
     }
 }
 
-/// The answer of the call that the first word names.
+/// Returns the answer of the call that the first word names.
 pub(crate) fn answer(alloc: Global, question: &Question) -> io::Result<Answer> {
     let words = question.words.as_slice();
     let input = question.input.as_slice();

@@ -1,28 +1,32 @@
-//! What is wanted of the output of a row, and what is said where it is another.
+//! The expected output of a row, and the report of a difference.
+use crate::runs::{Run, run_difference};
 use std::alloc::{AllocError, Global};
 
-/// What is wanted.
+/// The kind of an expectation.
 #[derive(Clone, Copy, PartialEq, Eq)]
 pub(crate) enum Kind {
     /// The output is the bytes.
     Whole,
-    /// It begins with them.
+    /// The output begins with the bytes.
     Begins,
-    /// It ends with them.
+    /// The output ends with the bytes.
     Ends,
-    /// They stand in it.
+    /// The output contains the bytes.
     Has,
-    /// So many lines begin with them.
+    /// This number of lines begin with the bytes.
     Count(u64),
-    /// So many lines are the bytes.
+    /// This number of lines equal the bytes.
     Lines(u64),
-    /// The line with this number is the bytes.
+    /// The line with this number equals the bytes.
     Line(u64),
-    /// The lines that begin so are the bytes, one after the other.
+    /// The lines with the beginning are the bytes, one after another.
     Only,
+    /// Among the lines that begin like the bytes, a run has exactly these numbers in place of `#`.
+    Run(Run),
 }
 
-/// What is wanted, the beginning of the lines that it speaks of, and the bytes that it compares.
+/// An expectation: its kind, the beginning of the lines that it concerns, and the bytes to compare
+/// with.
 #[derive(Drop)]
 pub(crate) struct Wanted {
     pub(crate) kind: Kind,
@@ -33,8 +37,8 @@ pub(crate) struct Wanted {
 /// The most bytes of a line that are shown.
 const SHOWN: usize = 80;
 
-/// Adds some bytes in quotes: those that have no letter or sign by their two hexadecimal digits.
-fn add_shown(out: &mut String, bytes: &[u8]) -> Result<(), AllocError> {
+/// Adds bytes in quotes. A byte without a letter or sign is shown by its two hexadecimal digits.
+pub(crate) fn add_shown(out: &mut String, bytes: &[u8]) -> Result<(), AllocError> {
     out.push('\'')?;
     for byte in bytes.iter().take(SHOWN) {
         if byte.is_ascii_graphic() || *byte == b' ' {
@@ -46,23 +50,23 @@ fn add_shown(out: &mut String, bytes: &[u8]) -> Result<(), AllocError> {
     out.push('\'')
 }
 
-/// How many line ends the bytes have.
+/// Returns the number of line ends in the bytes.
 fn line_ends(bytes: &[u8]) -> usize {
     bytes.iter().filter(|byte| **byte == b'\n').count()
 }
 
-/// The first bytes, as many as there are up to a count.
+/// Returns the first `count` bytes, or all if there are fewer.
 fn front_of(bytes: &[u8], count: usize) -> &[u8] {
     &bytes[..count.min(bytes.len())]
 }
 
-/// The bytes from a place on, up to the first line end.
+/// Returns the bytes from an offset on, up to the next line end.
 fn line_from(bytes: &[u8], start: usize) -> &[u8] {
     let rest = bytes.get(start..).unwrap_or(&[]);
     rest.split(|byte| *byte == b'\n').next().unwrap_or(&[])
 }
 
-/// How many bytes stand after the last line end.
+/// Returns the number of bytes after the last line end.
 fn last_length(bytes: &[u8]) -> usize {
     let mut count: usize = 0;
     for byte in bytes {
@@ -75,7 +79,7 @@ fn last_length(bytes: &[u8]) -> usize {
     count
 }
 
-/// How many bytes at the front of the two are the same.
+/// Returns the length of the common prefix.
 fn same_bytes(found: &[u8], wanted: &[u8]) -> usize {
     let mut count: usize = 0;
     for (one, other) in found.iter().zip(wanted.iter()) {
@@ -87,8 +91,8 @@ fn same_bytes(found: &[u8], wanted: &[u8]) -> usize {
     count
 }
 
-/// Where the two differ first, in lines of which the first has this number: `None` where they are
-/// the same.
+/// Returns the first difference of the two, or `None` if they are equal. `number` is the number of
+/// the first line.
 fn difference(
     alloc: Global,
     number: usize,
@@ -113,7 +117,7 @@ fn difference(
     Ok(Some(text))
 }
 
-/// Says how many lines were found, where as many weren't wanted.
+/// Returns a report of the number of lines found, if it isn't the expected one.
 fn count_difference(
     alloc: Global,
     found: usize,
@@ -130,7 +134,7 @@ fn count_difference(
     Ok(Some(text))
 }
 
-/// Says that the output has no such bytes, where it has none.
+/// Returns a report if the output doesn't contain the bytes.
 fn missing(alloc: Global, found: &[u8], bytes: &[u8]) -> Result<Option<String>, AllocError> {
     for start in 0..=found.len() {
         if found.get(start..).unwrap_or(&[]).starts_with(bytes) {
@@ -142,7 +146,7 @@ fn missing(alloc: Global, found: &[u8], bytes: &[u8]) -> Result<Option<String>, 
     Ok(Some(text))
 }
 
-/// How the end of the output differs from these bytes.
+/// Returns the difference between the end of the output and these bytes.
 fn end_difference(alloc: Global, found: &[u8], bytes: &[u8]) -> Result<Option<String>, AllocError> {
     let start = found.len().saturating_sub(bytes.len());
     let front = front_of(found, start);
@@ -150,7 +154,7 @@ fn end_difference(alloc: Global, found: &[u8], bytes: &[u8]) -> Result<Option<St
     difference(alloc, line_ends(front).saturating_add(1), end, bytes)
 }
 
-/// How the line with this number differs from these bytes.
+/// Returns the difference between the line with this number and these bytes.
 fn line_difference(
     alloc: Global,
     number: u64,
@@ -162,7 +166,7 @@ fn line_difference(
     difference(alloc, place.saturating_add(1), line, bytes)
 }
 
-/// The lines that begin so, one after the other.
+/// Returns the lines with this beginning, one after another.
 fn lines_beginning(alloc: Global, found: &[u8], beginning: &[u8]) -> Result<Vec<u8>, AllocError> {
     let mut lines = Vec::new(alloc);
     for line in found.split(|byte| *byte == b'\n') {
@@ -175,7 +179,7 @@ fn lines_beginning(alloc: Global, found: &[u8], beginning: &[u8]) -> Result<Vec<
 }
 
 impl Wanted {
-    /// How this output differs from what is wanted.
+    /// Returns the difference between this output and the expectation.
     pub(crate) fn fault(&self, alloc: Global, found: &[u8]) -> Result<Option<String>, AllocError> {
         let bytes = self.bytes.as_slice();
         match self.kind {
@@ -201,6 +205,7 @@ impl Wanted {
                 let lines = lines_beginning(alloc, found, self.beginning.as_slice())?;
                 difference(alloc, 1, lines.as_slice(), bytes)
             }
+            Kind::Run(wanted) => run_difference(alloc, wanted, found, bytes),
         }
     }
 }

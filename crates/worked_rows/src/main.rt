@@ -1,6 +1,6 @@
-//! Worked rows, which are data: reads the pages that standard input names, asks for the answer to
-//! each row in them, and writes a line for each row: its name, or where its answer differs from the
-//! page. docs/ROWS.md has the format of a page.
+//! Worked rows, which are data. The program reads the pages that standard input names, computes the
+//! answer to each row in them, and writes a line for each row. The line is the row's name, or where
+//! its answer differs from the page. docs/ROWS.md has the format of a page.
 #![tactic(auto)]
 
 mod answers;
@@ -9,6 +9,7 @@ mod calls;
 mod checks;
 mod pages;
 mod rows;
+mod runs;
 
 use pages::Pages;
 use std::process::ExitCode;

@@ -1,4 +1,4 @@
-//! Pages: their rows, one after the other, each of which is asked once its last line was read.
+//! Pages: their rows, one after another. Each row is answered once its last line was read.
 use crate::answers::{Answer, Question};
 use crate::calls;
 use crate::rows::{Row, Texts};
@@ -7,7 +7,7 @@ use std::collections::BTreeMap;
 use std::io;
 use std::thread::Threads;
 
-/// The texts that rows may use, and how many rows and lines had a fault.
+/// The texts that rows may use, and the number of rows and lines with a fault.
 #[derive(Drop)]
 pub(crate) struct Pages {
     texts: Texts,
@@ -22,14 +22,14 @@ struct Place<'a> {
     line: &'a str,
 }
 
-/// What is asked of the output of a row.
+/// The question about the output of a row.
 #[derive(Clone, Copy)]
 struct Next<'a> {
     is_call: bool,
     words: &'a str,
 }
 
-/// What the line asks of the output of the row before it, where it asks something of that.
+/// Returns the question that the line asks about the output of the row before it, if it asks one.
 fn next_of(line: &str) -> Option<Next<'_>> {
     let (is_call, words) = match line.strip_prefix("then ") {
         Some(words) => (false, words),
@@ -38,7 +38,7 @@ fn next_of(line: &str) -> Option<Next<'_>> {
     Some(Next { is_call, words })
 }
 
-/// The row that a line begins. Other lines between rows are for the reader.
+/// Returns the row that a line begins. Other lines between rows are for the reader.
 fn row_of(alloc: Global, line: &str) -> io::Result<Option<Row>> {
     Ok(match line.strip_prefix("row ") {
         Some(name) => Some(Row::new(alloc, name)?),
@@ -46,7 +46,7 @@ fn row_of(alloc: Global, line: &str) -> io::Result<Option<Row>> {
     })
 }
 
-/// How an answer differs from what the row wants.
+/// Returns the difference between an answer and what the row expects.
 fn fault_of(alloc: Global, row: &Row, answer: &Answer) -> Result<Option<String>, AllocError> {
     if answer.status != row.status {
         let (found, wanted) = (answer.status, row.status);
@@ -71,12 +71,13 @@ impl Pages {
         }
     }
 
-    /// Every row so far was answered as its page has it.
+    /// Whether every row so far was answered as its page says.
     pub(crate) fn all_hold(&self) -> bool {
         self.faults == 0
     }
 
-    /// Asks for the answer of a row, says whether it is the wanted one, and returns the output.
+    /// Computes the answer of a row, reports whether it is the expected one, and returns the
+    /// output.
     fn try_row<R: Threads + Sync + Print>(
         &mut self,
         rt: &R,
@@ -100,7 +101,7 @@ impl Pages {
         Ok(answer.output)
     }
 
-    /// The row that asks this of the output of the row before.
+    /// Returns the row that asks this about the output of the row before.
     fn row_after<R: Threads + Sync + Print>(
         &mut self,
         rt: &R,
@@ -117,7 +118,7 @@ impl Pages {
         Ok(row)
     }
 
-    /// A row has ended: one that asks nothing is a text for others to use.
+    /// Ends a row. A row that asks nothing is a text for others to use.
     fn end_row<R: Threads + Sync + Print>(
         &mut self,
         rt: &R,
@@ -134,7 +135,7 @@ impl Pages {
         Ok(())
     }
 
-    /// Takes a line of a row, and says so where it can't be taken.
+    /// Takes a line of a row, and reports a line that can't be taken.
     fn next_line<R: Threads + Sync + Print>(
         &mut self,
         rt: &R,

@@ -1,8 +1,9 @@
-//! A row that is being read: what is asked, what the answer must be, and each of its lines.
+//! A row while it is read: its question, the expected answer, and each of its lines.
 use crate::answers::Question;
 use crate::bytes;
 use crate::bytes::{halves, number};
 use crate::checks::{Kind, Wanted};
+use crate::runs::Run;
 use std::alloc::Global;
 use std::collections::BTreeMap;
 use std::io;
@@ -11,7 +12,7 @@ use std::io::ErrorKind;
 /// Texts by their names.
 pub(crate) type Texts = BTreeMap<String, Vec<u8>>;
 
-/// A question, the status that its answer must have, and what is wanted of its output.
+/// A question, the expected status of its answer, and the expectations of its output.
 #[derive(Drop)]
 pub(crate) struct Row {
     pub(crate) name: String,
@@ -30,7 +31,7 @@ impl Row {
         })
     }
 
-    /// The bytes that lines are added to: the input, and then the last of what is wanted.
+    /// Returns the bytes that lines are added to: the input, and then the last expectation.
     fn bytes(&mut self) -> &mut Vec<u8> {
         match self.wanted.last_mut() {
             Some(wanted) => &mut wanted.bytes,
@@ -38,7 +39,7 @@ impl Row {
         }
     }
 
-    /// From here on lines are added to this.
+    /// Begins an expectation of this kind, to which the next lines are added.
     fn want(&mut self, alloc: Global, kind: Kind) -> io::Result<()> {
         self.wanted.push(Wanted {
             kind,
@@ -48,7 +49,7 @@ impl Row {
         Ok(())
     }
 
-    /// From here on lines are those of the output that begin so.
+    /// Begins an expectation of the lines of the output with this beginning.
     fn want_only(&mut self, alloc: Global, beginning: &str) -> io::Result<()> {
         self.wanted.push(Wanted {
             kind: Kind::Only,
@@ -58,7 +59,7 @@ impl Row {
         Ok(())
     }
 
-    /// Some lines of the output are wanted, by a number and a text.
+    /// Begins an expectation of lines of the output, by a number and a text.
     fn want_lines(&mut self, alloc: Global, head: &str, rest: &str) -> io::Result<()> {
         let (count, text) = halves(rest);
         let count = number(count)?;
@@ -71,8 +72,17 @@ impl Row {
         bytes::add_text(self.bytes(), text)
     }
 
-    /// Adds the text with this name, so many times where a number follows. The name `input` is that
-    /// of the row's input.
+    /// Expects a run of lines of the output, by its first number, its last number and a text.
+    fn want_run(&mut self, alloc: Global, rest: &str) -> io::Result<()> {
+        let (first, rest) = halves(rest);
+        let (last, text) = halves(rest);
+        let (first, last) = (number(first)?, number(last)?);
+        self.want(alloc, Kind::Run(Run { first, last }))?;
+        bytes::add_text(self.bytes(), text)
+    }
+
+    /// Adds the text with this name, repeated if a number follows. The name `input` is that of the
+    /// row's input.
     fn add_named(&mut self, texts: &Texts, rest: &str) -> io::Result<()> {
         let (name, count) = halves(rest);
         let count = if count.is_empty() { 1 } else { number(count)? };
@@ -101,7 +111,7 @@ impl Row {
         }
     }
 
-    /// Takes a line that says what is wanted.
+    /// Takes a line that states an expectation.
     fn take_wanted(&mut self, alloc: Global, head: &str, rest: &str) -> io::Result<()> {
         match head {
             "output" => self.want(alloc, Kind::Whole),
@@ -110,6 +120,7 @@ impl Row {
             "has" => self.want(alloc, Kind::Has),
             "only" => self.want_only(alloc, rest),
             "count" | "lines" | "line" => self.want_lines(alloc, head, rest),
+            "run" => self.want_run(alloc, rest),
             _ => self.take_change(alloc, head, rest),
         }
     }

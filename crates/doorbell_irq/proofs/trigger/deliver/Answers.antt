@@ -10,26 +10,26 @@ use Rattle.doorbell_irq.proofs.Rounds.{taken_more, left_more, came_more}
 use Rattle.doorbell_irq.proofs.trigger.deliver.Goals as goal
 use Rattle.doorbell_irq.proofs.trigger.deliver.Goals.{in-Some, in_default}
 
-put : (c : goal.Joined-taken) → c.match-taken.deliveries.items ≡ c.loop-peer.deliveries.items ++ delivery_to c.loop-peer.peer c.take-taken.result
-put c = elim c.match-taken.branch [
+put : (g : _) (c : goal.Joined-taken g) → c.match-taken.deliveries.items ≡ c.loop-peer.deliveries.items ++ delivery_to c.loop-peer.peer c.take-taken.result
+put g c = elim c.match-taken.branch [
   | in-Some w ↦ ap (λ (v : ArrayVec Delivery). v.items) w.deliveries-is ∙ w.push.ensures.items
       ∙ sym (ap (λ r. c.loop-peer.deliveries.items ++ delivery_to c.loop-peer.peer r) w.in-Some.is)
   | in_default w ↦ ap (λ (v : ArrayVec Delivery). v.items) w.deliveries-is ∙ sym (append-nil c.loop-peer.deliveries.items)
       ∙ sym (ap (λ r. c.loop-peer.deliveries.items ++ delivery_to c.loop-peer.peer r) w.in_default.is)
 ]
 
-few : (c : goal.Joined-taken) → array_vec_len c.match-taken.deliveries ≤ c.loop-peer.peer + 1
-few c = elim c.match-taken.branch [
+few : (g : _) (c : goal.Joined-taken g) → array_vec_len c.match-taken.deliveries ≤ c.loop-peer.peer + 1
+few g c = elim c.match-taken.branch [
   | in-Some w ↦ omega (arith, ap array_vec_len w.deliveries-is, w.push.ensures.len, c.loop-peer.invariant.few)
   | in_default w ↦ omega (arith, ap array_vec_len w.deliveries-is, c.loop-peer.invariant.few)
 ]
 
 pub loop-peer-preserved : goal.loop-peer-preserved
-loop-peer-preserved c = record {
-  few = few c;
+loop-peer-preserved g c = record {
+  few = few g c;
   came = came_more c.args.wiring c.args.trigger c.args.registers.now c.loop-peer.registers c.loop-peer.peer c.index-registers-peer.result (omega arith)
       c.loop-peer.invariant.left c.vector_at.result c.take-taken.result c.loop-peer.deliveries.items c.match-taken.deliveries.items
-      c.vector_at.ensures c.take-taken.ensures.gives c.loop-peer.invariant.came (put c);
+      c.vector_at.ensures c.take-taken.ensures.gives c.loop-peer.invariant.came (put g c);
   done = taken_more c.args.wiring c.args.trigger c.args.registers.now c.loop-peer.registers c.loop-peer.peer c.index-registers-peer.result (omega arith)
       c.loop-peer.invariant.left c.vector_at.result c.take-taken.new.self c.vector_at.ensures c.take-taken.ensures.takes c.loop-peer.invariant.done;
   left = left_more c.args.wiring c.args.trigger c.args.registers.now c.loop-peer.registers c.loop-peer.peer c.index-registers-peer.result (omega arith)
@@ -37,7 +37,7 @@ loop-peer-preserved c = record {
 }
 
 pub loop-peer-init : goal.loop-peer-init
-loop-peer-init c = record {
+loop-peer-init g c = record {
   few = omega (arith, ap length c.new-deliveries.ensures);
   came = c.new-deliveries.ensures ∙ no_more (delivery_among c.args.wiring c.args.trigger c.args.registers.now) 0 c.asked-first.result.0 (omega arith)
       (λ p le lt. quiet c.args.wiring c.args.trigger c.args.registers.now p (c.asked-first.ensures.before p lt));
@@ -46,7 +46,7 @@ loop-peer-init c = record {
 }
 
 pub returns-clause-takes : goal.returns-clause-takes
-returns-clause-takes c peer before after less =
+returns-clause-takes g c peer before after less =
     elim (cases_lt peer c.loop-peer.peer) [
       | inl below ↦ c.loop-peer.invariant.done peer before after below
       | inr past ↦ stays c.args.wiring c.args.trigger c.args.registers.now c.loop-peer.registers peer before after
@@ -54,7 +54,7 @@ returns-clause-takes c peer before after less =
     ]
 
 pub returns-clause-came : goal.returns-clause-came
-returns-clause-came c =
+returns-clause-came g c =
     c.loop-peer.invariant.came
     ∙ no_more (delivery_among c.args.wiring c.args.trigger c.args.registers.now) c.loop-peer.peer c.args.peers (omega arith)
     (λ p le lt. quiet c.args.wiring c.args.trigger c.args.registers.now p (c.asked-first.ensures.after p (omega arith) lt))

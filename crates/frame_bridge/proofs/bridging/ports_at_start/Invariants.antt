@@ -4,7 +4,7 @@ use Rattle.frame_bridge.specs.declared.ports.Port.{Port}
 use Rattle.frame_bridge.specs.Refinement.{PortRefines, start_link}
 use Rattle.frame_bridge.proofs.bridging.ports_at_start.Given as goal
 
--- the ports so far
+-- The ports so far.
 abbrev pub invariant-loop-number : goal.invariant-loop-number
 invariant-loop-number l = record {
   long : length l.ports.items ≡ l._number;

@@ -2,7 +2,7 @@ use Rattle.std.proofs.Common.{◌≡◌, ◌++◌}
 use Rattle.std.specs.Vec.Iter.{into_iter_items, into_iter_len}
 use Rattle.ivshm_chart.proofs.arguments.words_of.Given as goal
 
--- the words so far, and the arguments that are left
+-- The words so far, and then the arguments that are left.
 abbrev pub invariant-loop-word : goal.invariant-loop-word
 invariant-loop-word l = l.words.items ++ into_iter_items l.args ≡ into_iter_items l.initial.args
 

@@ -20,6 +20,6 @@ returns c =
       history = lines;
       lawful = subst (λ (w : World). IsLawfulIn w 2 lines) is (c.records_tell_one_history.ensures.told world 2 c.in_ok-scenario.scenario.world);
       printed = c.in_ok-summary.ensures
-          ∙ counted count world c.none-counts.result c.play.new.listener lines c.none-counts.ensures c.in-Ok.ensures
+          ∙ counted count world c.none-counts.result c.play.new.listener lines c.none-counts.ensures c.in-Ok.ensures.received
           ∙ ap (λ (w : World). summary_of count w lines) is;
     }

@@ -2,7 +2,7 @@ use Rattle.std.proofs.Common.{◌≡◌, ◌++◌, length}
 use Rattle.hex.specs.Hex.{encode_lower}
 use Rattle.line_format.proofs.hex_digits.put_hex.Given as goal
 
--- what is still to come gives the digits of all bytes
+-- The rest gives the digits of all bytes.
 abbrev pub invariant-loop-rest : goal.invariant-loop-rest
 invariant-loop-rest l = l.out.items ++ encode_lower l.rest ≡ l.fn.out.items ++ encode_lower l.bytes
 

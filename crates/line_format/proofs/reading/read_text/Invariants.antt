@@ -3,7 +3,7 @@ use Rattle.line_format.specs.Forms.{cuts}
 use Rattle.line_format.specs.Machine.{read, read_pieces}
 use Rattle.line_format.proofs.reading.read_text.Given as goal
 
--- what is still to come gives what the text gives
+-- The rest gives what the text gives.
 abbrev pub invariant-loop-line : goal.invariant-loop-line
 invariant-loop-line g l =
     (read_pieces g.D.TakeLines.machine (g.D.TakeLines.so_far l.draft) l.number (cuts 10 l.rest) ≡ read g.D.TakeLines.machine (g.D.TakeLines.so_far l.fn.draft) l.bytes)

@@ -10,4 +10,4 @@ use Rattle.peer_runner.proofs.accesses.load.Goals as goal
 
 pub load-requires : goal.load-requires
 load-requires g c = let key = c.args.words.now.shared.key in let e = ap (λ h. length h.lists) c.pass.view_is in
-    (search rules, search rules, load_allowed key _ _ _ _ _ _ _ (omega arith) c.requires.of.1 (subst (λ (h : PassView). honest_of key h.from ≡ true → IsNext key h.from (derived_state key h.from (accesses_in (front h.lists))) g.B.Begins.call (access.Read c.args.word)) (sym c.pass.view_is) c.requires.next))
+    (search rules, search rules, load_allowed key _ _ _ _ _ _ _ (omega arith) c.requires.word (subst (λ (h : PassView). honest_of key h.from ≡ true → IsNext key h.from (derived_state key h.from (accesses_in (front h.lists))) g.B.Begins.call (access.Read c.args.word)) (sym c.pass.view_is) c.requires.next))

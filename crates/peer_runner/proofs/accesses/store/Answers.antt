@@ -13,8 +13,8 @@ use Rattle.peer_runner.proofs.accesses.store.Goals as goal
 
 pub store-requires : goal.store-requires
 store-requires g c = let key = c.args.words.now.shared.key in let e = ap (λ h. length h.lists) c.pass.view_is in let of = c.requires.of in
-    let b : c.args.word < word_count key.geometry = within key c.args.pass.now.from c.args.word of.0.3 (omega arith) (inl of.1) in
-    let own : MayWrite key.geometry c.pass.inside.seat.me.0.from c.args.word = subst (λ p. MayWrite key.geometry p c.args.word) (sym (ap (λ h. h.from) c.pass.view_is)) of.1 in (
+    let b : c.args.word < word_count key.geometry = within key c.args.pass.now.from c.args.word of.0.3 (omega arith) (inl c.requires.own) in
+    let own : MayWrite key.geometry c.pass.inside.seat.me.0.from c.args.word = subst (λ p. MayWrite key.geometry p c.args.word) (sym (ap (λ h. h.from) c.pass.view_is)) c.requires.own in (
       search rules,
       omega arith,
       store_allowed key (taken g.B.Begins.call (access.Write c.args.word c.args.value) 0) _ _ _ _ _ _ _ (omega arith) (inl own) own (search rules) (λ m. tt) (λ m a s. s)

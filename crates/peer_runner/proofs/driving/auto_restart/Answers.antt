@@ -10,34 +10,34 @@ use Rattle.peer_runner.proofs.driving.auto_restart.Goals as goal
 
 pub returns-then-is_finished : goal.returns-then-is_finished
 returns-then-is_finished g c = record {
-  course = λ routes plan spans r on last told.
+  course = λ plan spans r on last told. let routes = c.args.context.now.routes.now in
       let matches = c.choose-choice.ensures.chosen _ r.end r.place r.auto on.there.refines.refines on.is.planned in
       let is : has_finished r ≡ true = ends_where _ _ _ matches ∙ (sym c.is_finished.ensures ∙ c.if-is_finished.true) in
       let planned = c.choose-choice.ensures.plan _ r.end r.place r.auto on.there.refines.refines on.is.planned in
-      (r, course_still _ _ c.args.me routes plan spans r c.args.pass.now c.args.peer.now c.choose-choice.new.auto on is planned, (told, (refl, is), is));
+      (r, course_still _ _ c.args.context.now.me routes plan spans r c.args.pass.now c.args.peer.now c.choose-choice.new.auto on is planned, (told, (refl, is), is));
 }
 
 pub returns-in_err-push : goal.returns-in_err-push
 returns-in_err-push g c = record {
-  course = λ routes plan spans r on last told.
+  course = λ plan spans r on last told. let routes = c.args.context.now.routes.now in
       let matches = c.choose-choice.ensures.chosen _ r.end r.place r.auto on.there.refines.refines on.is.planned in
       let goes : has_finished r ≡ false = ends_where _ _ _ matches ∙ (sym c.is_finished.ensures ∙ c.if-is_finished.false) in
       let planned = c.choose-choice.ensures.plan _ r.end r.place r.auto on.there.refines.refines on.is.planned in
       let is : IsAutoPeer _ (restarted_on r) = record { planned = planned_cut c.choose-choice.new.auto c.cut.new.self r planned c.cut.ensures; looks = refl; ringing = refl; opened = on.is.opened; met = refl } in
-      let there = turn_restarted _ c.args.me routes r c.args.pass.now c.reset.new.pass c.args.peer.now.end c.reset-2.new.self c.requires.honest c.reset.ensures c.reset-2.ensures.refines on.there in
-      (restarted_on r, course_on _ _ c.args.me routes plan spans r (restarted_on r) c.args.pass.now c.reset.new.pass c.args.peer.now _ on (by_reset (last goes) goes) there is (ap (λ (h : PassView). h.table_id) c.reset.ensures), err_free _ c.from_residual.result c.from_residual.ensures.0);
+      let there = turn_restarted _ c.args.context.now.me routes r c.args.pass.now c.reset.new.pass c.args.peer.now.end c.reset-2.new.self c.requires.honest c.reset.ensures c.reset-2.ensures.refines on.there in
+      (restarted_on r, course_on _ _ c.args.context.now.me routes plan spans r (restarted_on r) c.args.pass.now c.reset.new.pass c.args.peer.now _ on (by_reset (last goes) goes) there is (ap (λ (h : PassView). h.table_id) c.reset.ensures), err_free _ c.from_residual.result c.from_residual.ensures.0);
 }
 
 pub returns : goal.returns
 returns g c = record {
-  course = λ routes plan spans r on last told.
+  course = λ plan spans r on last told. let routes = c.args.context.now.routes.now in
       let matches = c.choose-choice.ensures.chosen _ r.end r.place r.auto on.there.refines.refines on.is.planned in
       let goes : has_finished r ≡ false = ends_where _ _ _ matches ∙ (sym c.is_finished.ensures ∙ c.if-is_finished.false) in
       let planned = c.choose-choice.ensures.plan _ r.end r.place r.auto on.there.refines.refines on.is.planned in
       let is : IsAutoPeer _ (restarted_on r) = record { planned = planned_cut c.choose-choice.new.auto c.cut.new.self r planned c.cut.ensures; looks = refl; ringing = refl; opened = on.is.opened; met = refl } in
-      let there = turn_restarted _ c.args.me routes r c.args.pass.now c.reset.new.pass c.args.peer.now.end c.reset-2.new.self c.requires.honest c.reset.ensures c.reset-2.ensures.refines on.there in (
+      let there = turn_restarted _ c.args.context.now.me routes r c.args.pass.now c.reset.new.pass c.args.peer.now.end c.reset-2.new.self c.requires.honest c.reset.ensures c.reset-2.ensures.refines on.there in (
         restarted_on r,
-        course_on _ _ c.args.me routes plan spans r (restarted_on r) c.args.pass.now c.reset.new.pass c.args.peer.now _ on (by_reset (last goes) goes) there is (ap (λ (h : PassView). h.table_id) c.reset.ensures),
-        (told_further c.args.me r.turns (restarted_on r).turns Restarts c.args.lines.now c.push.new.self refl told c.in_ok-push.ensures.put, refl, goes),
+        course_on _ _ c.args.context.now.me routes plan spans r (restarted_on r) c.args.pass.now c.reset.new.pass c.args.peer.now _ on (by_reset (last goes) goes) there is (ap (λ (h : PassView). h.table_id) c.reset.ensures),
+        (told_further c.args.context.now.me r.turns (restarted_on r).turns Restarts c.args.lines.now c.push.new.self refl told c.in_ok-push.ensures.put, refl, goes),
       );
 }

@@ -14,7 +14,7 @@ loop-taken-init g c = λ plan spans r rest on is turns told. (r, record { on = o
 pub overflow_add-turn : goal.overflow_add-turn
 overflow_add-turn g c = let need = c.requires.course in let inv = c.loop-taken.invariant need.0 need.1 need.2 need.3 need.5 need.6 need.7 need.8 in let next = inv.0 in let at = inv.1 in
     let all = at.all in let some : 0 < at.left = omega arith in
-    let most = few_turns need.1 next (counted_of _ c.args.me c.args.routes.now need.0 need.1 next at.on.comes) (left_in_span next.spans at.left need.3 at.spans_are some) in let few = need.4 in let is = at.turns_are in omega arith
+    let most = few_turns need.1 next (counted_of _ c.args.context.now.me c.args.context.now.routes.now need.0 need.1 next at.on.comes) (left_in_span next.spans at.left need.3 at.spans_are some) in let few = need.4 in let is = at.turns_are in omega arith
 
 pub auto_turn-requires-clause-course : goal.auto_turn-requires-clause-course
 auto_turn-requires-clause-course g c = let need = c.requires.course in let inv = c.loop-taken.invariant need.0 need.1 need.2 need.3 need.5 need.6 need.7 need.8 in let next = inv.0 in let at = inv.1 in
@@ -48,7 +48,7 @@ loop-taken-preserved g c = λ plan spans r rest on is turns told. let inv = c.lo
         left = at.left - 1;
         spans_are = goes ∙ ap spent at.spans_are;
         all = omega arith;
-        turns_are = ap (λ n. n + 1) at.turns_are ∙ sym (one_more spans next took.0 (counted_of _ c.args.me c.args.routes.now plan spans next at.on.comes) (counted_of _ c.args.me c.args.routes.now plan spans took.0 took.1.comes) left goes);
+        turns_are = ap (λ n. n + 1) at.turns_are ∙ sym (one_more spans next took.0 (counted_of _ c.args.context.now.me c.args.context.now.routes.now plan spans next at.on.comes) (counted_of _ c.args.context.now.me c.args.context.now.routes.now plan spans took.0 took.1.comes) left goes);
         told = took.2.0;
       },
     )

@@ -8,6 +8,6 @@ use Rattle.peer_runner.proofs.driving.auto_span.Given as goal
 
 -- the turns so far
 abbrev pub invariant-loop-taken : goal.invariant-loop-taken
-invariant-loop-taken g l = (plan : Plan) (spans : List ℕ) (r : Runner) (rest : List ℕ) → IsOnTrajectory l.words.shared.table_id l.words.shared.key l.me l.routes plan spans r l.initial.pass l.initial.peer →
-    r.spans ≡ l.span ∷ rest → l.initial.turns ≡ length r.turns → l.initial.lines ≡ lines_of_turns l.me r.turns →
-    (next : Runner) × IsInSpan l.words.shared.table_id l.words.shared.key l.me l.routes plan spans l.span l._taken rest next l.pass l.peer l.turns l.lines
+invariant-loop-taken g l = (plan : Plan) (spans : List ℕ) (r : Runner) (rest : List ℕ) → IsOnTrajectory l.context.words.now.shared.table_id l.context.words.now.shared.key l.context.me l.context.routes.now plan spans r l.initial.pass l.initial.peer →
+    r.spans ≡ l.span ∷ rest → l.initial.turns ≡ length r.turns → l.initial.lines ≡ lines_of_turns l.context.me r.turns →
+    (next : Runner) × IsInSpan l.context.words.now.shared.table_id l.context.words.now.shared.key l.context.me l.context.routes.now plan spans l.span l._taken rest next l.pass l.peer l.turns l.lines

@@ -14,14 +14,11 @@ use Rattle.peer_runner.proofs.Courses.{course_on, course_still, told_further, me
 use Rattle.peer_runner.proofs.driving.auto_turn.Goals as goal
 
 pub look_turn-requires-clause-of : goal.look_turn-requires-clause-of
-look_turn-requires-clause-of g c = let need = c.requires.course in let r = need.2 in let on = need.4 in let s = seated _ _ c.args.me c.args.routes.now need.0 need.1 r c.args.pass.now c.args.peer.now on in (s.0, c.requires.routes.count, s.2)
-
-pub look_turn-requires-clause-own : goal.look_turn-requires-clause-own
-look_turn-requires-clause-own g c = let need = c.requires.course in let r = need.2 in let on = need.4 in on.there.from
+look_turn-requires-clause-of g c = let need = c.requires.course in let r = need.2 in let on = need.4 in let s = seated _ _ c.args.context.now.me c.args.context.now.routes.now need.0 need.1 r c.args.pass.now c.args.peer.now on in s
 
 pub returns-then-is_look_next : goal.returns-then-is_look_next
 returns-then-is_look_next g c = record {
-  course = λ plan spans r on left told. let key = c.args.words.now.shared.key in let me = c.args.me in let routes = c.args.routes.now in let peer = c.args.peer.now in
+  course = λ plan spans r on left told. let key = c.args.context.now.words.now.shared.key in let me = c.args.context.now.me in let routes = c.args.context.now.routes.now in let peer = c.args.peer.now in
       let dues = c.looks_due-due.ensures.due (config_in key me) r.end r.place r.auto on.there.refines.refines on.is.planned in
       let looks : looks_now (route_to routes me) (due_of (config_in key me) r) r.looks ≡ true = looks_at c.route_to.result (route_to routes me) c.looks_due-due.result (due_of (config_in key me) r) peer.looks r.looks c.is_look_next.result c.is_look_next.ensures.value c.route_to.ensures dues (sym on.is.looks) ∙ c.if-is_look_next.true in
       let still = still_shut key me routes r peer.end on.there.refines (looks_shut (config_in key me) (route_to routes me) r looks) in let took = c.in_ok-look_turn.ensures in let next = looked_on r took.0 in
@@ -32,7 +29,7 @@ returns-then-is_look_next g c = record {
 
 pub returns-in_err-look_turn : goal.returns-in_err-look_turn
 returns-in_err-look_turn g c = record {
-  course = λ plan spans r on left told. let key = c.args.words.now.shared.key in let me = c.args.me in let routes = c.args.routes.now in let peer = c.args.peer.now in
+  course = λ plan spans r on left told. let key = c.args.context.now.words.now.shared.key in let me = c.args.context.now.me in let routes = c.args.context.now.routes.now in let peer = c.args.peer.now in
       let dues = c.looks_due-due.ensures.due (config_in key me) r.end r.place r.auto on.there.refines.refines on.is.planned in
       let looks : looks_now (route_to routes me) (due_of (config_in key me) r) r.looks ≡ true = looks_at c.route_to.result (route_to routes me) c.looks_due-due.result (due_of (config_in key me) r) peer.looks r.looks c.is_look_next.result c.is_look_next.ensures.value c.route_to.ensures dues (sym on.is.looks) ∙ c.if-is_look_next.true in
       let still = still_shut key me routes r peer.end on.there.refines (looks_shut (config_in key me) (route_to routes me) r looks) in let took = c.in_err-look_turn.ensures in let next = looked_on r took.0 in
@@ -43,18 +40,18 @@ returns-in_err-look_turn g c = record {
 
 pub exchange_session_number-requires-clause-place : goal.exchange_session_number-requires-clause-place
 exchange_session_number-requires-clause-place g c = let need = c.requires.course in let r = need.2 in let on = need.4 in
-    let due : due_word r.place r.met ≡ Some c.in-Some.word = ap (due_word r.place) (sym on.is.met) ∙ (sym (c.word_due.ensures _ r.end r.place on.there.refines.refines) ∙ c.in-Some.is) in meets_at _ c.args.me c.args.routes.now r c.args.pass.now c.args.peer.now.end c.in-Some.word on.there due
+    let due : due_word r.place r.met ≡ Some c.in-Some.word = ap (due_word r.place) (sym on.is.met) ∙ (sym (c.word_due.ensures _ r.end r.place on.there.refines.refines) ∙ c.in-Some.is) in meets_at _ c.args.context.now.me c.args.context.now.routes.now r c.args.pass.now c.args.peer.now.end c.in-Some.word on.there due
 
 pub exchange_session_number-requires-clause-opened : goal.exchange_session_number-requires-clause-opened
-exchange_session_number-requires-clause-opened g c = let need = c.requires.course in let r = need.2 in let on = need.4 in let few = few_opened need.1 r (counted_of _ c.args.me c.args.routes.now need.0 need.1 r on.comes) need.5 need.3 in
-    let same = on.is.opened in (on.is.opened ∙ opened_at _ c.args.me c.args.routes.now r c.args.pass.now c.args.peer.now.end on.there, omega arith)
+exchange_session_number-requires-clause-opened g c = let need = c.requires.course in let r = need.2 in let on = need.4 in let few = few_opened need.1 r (counted_of _ c.args.context.now.me c.args.context.now.routes.now need.0 need.1 r on.comes) need.5 need.3 in
+    let same = on.is.opened in (on.is.opened ∙ opened_at _ c.args.context.now.me c.args.context.now.routes.now r c.args.pass.now c.args.peer.now.end on.there, omega arith)
 
 pub exchange_session_number-requires-clause-of : goal.exchange_session_number-requires-clause-of
-exchange_session_number-requires-clause-of g c = let need = c.requires.course in let r = need.2 in let on = need.4 in seated _ _ c.args.me c.args.routes.now need.0 need.1 r c.args.pass.now c.args.peer.now on
+exchange_session_number-requires-clause-of g c = let need = c.requires.course in let r = need.2 in let on = need.4 in seated _ _ c.args.context.now.me c.args.context.now.routes.now need.0 need.1 r c.args.pass.now c.args.peer.now on
 
 pub returns-in-Some : goal.returns-in-Some
 returns-in-Some g c = record {
-  course = λ plan spans r on left told. let key = c.args.words.now.shared.key in let me = c.args.me in let routes = c.args.routes.now in let peer = c.args.peer.now in
+  course = λ plan spans r on left told. let key = c.args.context.now.words.now.shared.key in let me = c.args.context.now.me in let routes = c.args.context.now.routes.now in let peer = c.args.peer.now in
       let dues = c.looks_due-due.ensures.due (config_in key me) r.end r.place r.auto on.there.refines.refines on.is.planned in
       let first : looks_now (route_to routes me) (due_of (config_in key me) r) r.looks ≡ false = looks_at c.route_to.result (route_to routes me) c.looks_due-due.result (due_of (config_in key me) r) peer.looks r.looks c.is_look_next.result c.is_look_next.ensures.value c.route_to.ensures dues (sym on.is.looks) ∙ c.if-is_look_next.false in
       let due : due_word r.place r.met ≡ Some c.in-Some.word = ap (due_word r.place) (sym on.is.met) ∙ (sym (c.word_due.ensures _ r.end r.place on.there.refines.refines) ∙ c.in-Some.is) in
@@ -73,14 +70,14 @@ returns-then-is_finished g c = record {
       let matches = c.choose-choice.ensures.chosen _ r.end r.place r.auto on.there.refines.refines on.is.planned in
       let is : has_finished r ≡ true = ends_where _ _ _ matches ∙ (sym c.is_finished.ensures ∙ c.if-is_finished.true) in
       let planned = c.choose-choice.ensures.plan _ r.end r.place r.auto on.there.refines.refines on.is.planned in
-      (r, course_still _ _ c.args.me c.args.routes.now plan spans r c.args.pass.now c.args.peer.now c.choose-choice.new.auto on is planned, (told, (refl, is)));
+      (r, course_still _ _ c.args.context.now.me c.args.context.now.routes.now plan spans r c.args.pass.now c.args.peer.now c.choose-choice.new.auto on is planned, (told, (refl, is)));
 }
 
 pub take_turn-requires-clause-of : goal.take_turn-requires-clause-of
-take_turn-requires-clause-of g c = let need = c.requires.course in let r = need.2 in let on = need.4 in (on.of, c.requires.honest.0, c.requires.honest.1)
+take_turn-requires-clause-of g c = let need = c.requires.course in let r = need.2 in let on = need.4 in on.of
 
 pub take_turn-requires-clause-few : goal.take_turn-requires-clause-few
-take_turn-requires-clause-few g c = let need = c.requires.course in let r = need.2 in let on = need.4 in let few = few_opened need.1 r (counted_of _ c.args.me c.args.routes.now need.0 need.1 r on.comes) need.5 need.3 in let same = on.is.opened in omega arith
+take_turn-requires-clause-few g c = let need = c.requires.course in let r = need.2 in let on = need.4 in let few = few_opened need.1 r (counted_of _ c.args.context.now.me c.args.context.now.routes.now need.0 need.1 r on.comes) need.5 need.3 in let same = on.is.opened in omega arith
 
 pub take_turn-requires-clause-turns : goal.take_turn-requires-clause-turns
 take_turn-requires-clause-turns g c = let need = c.requires.course in let r = need.2 in let on = need.4 in
@@ -88,7 +85,7 @@ take_turn-requires-clause-turns g c = let need = c.requires.course in let r = ne
     let matches = c.choose-choice.ensures.chosen _ r.end r.place r.auto on.there.refines.refines on.is.planned in
     let goes : has_finished r ≡ false = ends_where _ _ _ matches ∙ (sym c.is_finished.ensures ∙ c.if-is_finished.false) in
     let planned = c.choose-choice.ensures.plan _ r.end r.place r.auto on.there.refines.refines on.is.planned in
-    let turns : Turns _ c.args.me c.args.routes.now r c.choose-choice.result c.args.pass.now (record (c.args.peer.now) { auto = c.choose-choice.new.auto }) = record {
+    let turns : Turns _ c.args.context.now.me c.args.context.now.routes.now r c.choose-choice.result c.args.pass.now (record (c.args.peer.now) { auto = c.choose-choice.new.auto }) = record {
       there = on.there;
       is = record { planned = planned; looks = on.is.looks; ringing = on.is.ringing; opened = on.is.opened; met = on.is.met };
       matches = matches;
@@ -100,14 +97,14 @@ take_turn-requires-clause-turns g c = let need = c.requires.course in let r = ne
 
 pub returns-in_err-take_turn : goal.returns-in_err-take_turn
 returns-in_err-take_turn g c = record {
-  course = λ plan spans r on left told. let key = c.args.words.now.shared.key in let me = c.args.me in let routes = c.args.routes.now in let peer = c.args.peer.now in
+  course = λ plan spans r on left told. let key = c.args.context.now.words.now.shared.key in let me = c.args.context.now.me in let routes = c.args.context.now.routes.now in let peer = c.args.peer.now in
       let dues = c.looks_due-due.ensures.due (config_in key me) r.end r.place r.auto on.there.refines.refines on.is.planned in
       let first : looks_now (route_to routes me) (due_of (config_in key me) r) r.looks ≡ false = looks_at c.route_to.result (route_to routes me) c.looks_due-due.result (due_of (config_in key me) r) peer.looks r.looks c.is_look_next.result c.is_look_next.ensures.value c.route_to.ensures dues (sym on.is.looks) ∙ c.if-is_look_next.false in
       let due : due_word r.place r.met ≡ None = ap (due_word r.place) (sym on.is.met) ∙ (sym (c.word_due.ensures _ r.end r.place on.there.refines.refines) ∙ c.in_default.is) in
       let matches = c.choose-choice.ensures.chosen _ r.end r.place r.auto on.there.refines.refines on.is.planned in
       let goes : has_finished r ≡ false = ends_where _ _ _ matches ∙ (sym c.is_finished.ensures ∙ c.if-is_finished.false) in
       let planned = c.choose-choice.ensures.plan _ r.end r.place r.auto on.there.refines.refines on.is.planned in
-      let turns : Turns _ c.args.me c.args.routes.now r c.choose-choice.result c.args.pass.now (record (c.args.peer.now) { auto = c.choose-choice.new.auto }) = record {
+      let turns : Turns _ c.args.context.now.me c.args.context.now.routes.now r c.choose-choice.result c.args.pass.now (record (c.args.peer.now) { auto = c.choose-choice.new.auto }) = record {
         there = on.there;
         is = record { planned = planned; looks = on.is.looks; ringing = on.is.ringing; opened = on.is.opened; met = on.is.met };
         matches = matches;
@@ -126,14 +123,14 @@ returns-in_err-take_turn g c = record {
 
 pub returns : goal.returns
 returns g c = record {
-  course = λ plan spans r on left told. let key = c.args.words.now.shared.key in let me = c.args.me in let routes = c.args.routes.now in let peer = c.args.peer.now in
+  course = λ plan spans r on left told. let key = c.args.context.now.words.now.shared.key in let me = c.args.context.now.me in let routes = c.args.context.now.routes.now in let peer = c.args.peer.now in
       let dues = c.looks_due-due.ensures.due (config_in key me) r.end r.place r.auto on.there.refines.refines on.is.planned in
       let first : looks_now (route_to routes me) (due_of (config_in key me) r) r.looks ≡ false = looks_at c.route_to.result (route_to routes me) c.looks_due-due.result (due_of (config_in key me) r) peer.looks r.looks c.is_look_next.result c.is_look_next.ensures.value c.route_to.ensures dues (sym on.is.looks) ∙ c.if-is_look_next.false in
       let due : due_word r.place r.met ≡ None = ap (due_word r.place) (sym on.is.met) ∙ (sym (c.word_due.ensures _ r.end r.place on.there.refines.refines) ∙ c.in_default.is) in
       let matches = c.choose-choice.ensures.chosen _ r.end r.place r.auto on.there.refines.refines on.is.planned in
       let goes : has_finished r ≡ false = ends_where _ _ _ matches ∙ (sym c.is_finished.ensures ∙ c.if-is_finished.false) in
       let planned = c.choose-choice.ensures.plan _ r.end r.place r.auto on.there.refines.refines on.is.planned in
-      let turns : Turns _ c.args.me c.args.routes.now r c.choose-choice.result c.args.pass.now (record (c.args.peer.now) { auto = c.choose-choice.new.auto }) = record {
+      let turns : Turns _ c.args.context.now.me c.args.context.now.routes.now r c.choose-choice.result c.args.pass.now (record (c.args.peer.now) { auto = c.choose-choice.new.auto }) = record {
         there = on.there;
         is = record { planned = planned; looks = on.is.looks; ringing = on.is.ringing; opened = on.is.opened; met = on.is.met };
         matches = matches;

@@ -7,4 +7,4 @@ abbrev pub decreases-join+arg3 : goal.decreases-join+arg3
 decreases-join+arg3 g l = l.rest
 
 abbrev pub decreases-run_range : goal.decreases-run_range
-decreases-run_range g l = l.count
+decreases-run_range g l = l.range.count

@@ -4,6 +4,6 @@ use Rattle.lawful_history.specs.Sides.{world_of}
 use Rattle.reference_history.specs.Marks.{AllStand}
 use Rattle.reference_history.proofs.marks.marks_stand.Given as goal
 
--- all lines stand exactly where the others do after those that were looked at
+-- All lines satisfy the condition exactly if the remaining ones do after the lines that were read.
 abbrev pub invariant-loop-at : goal.invariant-loop-at
 invariant-loop-at l = AllStand (world_of l.scenario) [] l.lines ↔ AllStand (world_of l.scenario) (reverse (take l.at l.lines)) (drop l.at l.lines)

@@ -11,7 +11,7 @@ returns-clause-spelled c =
     let world = world_of c.args.scenario.now in
     let starts = c.in_ok-put_front.ensures ∙ ap (λ (t : List ℕ). t ++ front_text 2 world) c.new.ensures.items in
     ended c.parts_are_the_record.ensures.parts world 2 (record { text = c.put_front.new.out; count = 0 }) c.play.new.listener c.put_count.new.out.items (lawful_record 2 world).lines
-    refl c.args.scenario.now.world starts refl c.in-Ok.ensures c.in_ok-put_count.ensures
+    refl c.args.scenario.now.world starts refl c.in-Ok.ensures.received c.in_ok-put_count.ensures
 
 pub returns-clause-again : goal.returns-clause-again
 returns-clause-again c = is_answered (lawful_record 2 (world_of c.args.scenario.now)) c.put_count.new.out.items (returns-clause-spelled c)

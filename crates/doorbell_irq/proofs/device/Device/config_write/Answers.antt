@@ -1,22 +1,6 @@
-use Rattle.std.proofs.Common.{◌<◌, refl, sym, subst}
-use Rattle.std.proofs.lemmas.Result.{on_ok_weaker}
-use Rattle.doorbell_irq.specs.DeviceView.{DeviceView, IsDeviceView}
+use Rattle.std.proofs.Common.{sym, subst}
 use Rattle.doorbell_irq.specs.Refinement.{Refines}
-use Rattle.doorbell_irq.specs.Events.{ConfigWritten}
-use Rattle.doorbell_irq.proofs.Devices.{peer_at, moved}
-use Rattle.doorbell_irq.proofs.EventKinds.{config_spares, config_written}
 use Rattle.doorbell_irq.proofs.device.Device.config_write.Goals as goal
 
 pub returns-clause-written : goal.returns-clause-written
-returns-clause-written c w events refines =
-    let d : DeviceView = record { peers = c.self.inside.peers; wiring = c.self.inside.wiring; registers = c.self.inside.registers } in
-    let sound : IsDeviceView d = c.self.invariant in
-    let was : Refines w events d = subst (Refines w events) (sym c.self.view_is) refines in
-    let below : c.args.peer < d.peers = subst (λ v. c.args.peer < v.peers) (sym c.self.view_is) c.requires in
-    on_ok_weaker c.write_config.result
-    (λ written. moved w events (ConfigWritten c.args.peer c.args.offset c.args.width c.args.value) d sound was c.args.peer below
-    (config_spares w events c.args.peer c.args.offset c.args.width c.args.value)
-    _ c.write_config.new.self refl refl refl (λ peer. refl)
-    (config_written w events c.args.peer _ c.write_config.new.self
-    (peer_at w events d sound was c.args.peer c.index-self-peer.result below) c.args.offset c.args.width c.args.value written))
-    c.write_config.ensures.written
+returns-clause-written c w events refines = c.config_write.ensures.written w events (subst (Refines w events) (sym c.self.view_is) refines)

@@ -1,17 +1,6 @@
-use Rattle.std.proofs.Common.{◌<◌, refl, sym, subst}
-use Rattle.doorbell_irq.specs.DeviceView.{DeviceView, IsDeviceView}
+use Rattle.std.proofs.Common.{sym, subst}
 use Rattle.doorbell_irq.specs.Refinement.{Refines}
-use Rattle.doorbell_irq.specs.Events.{WasConnected}
-use Rattle.doorbell_irq.proofs.Devices.{peer_at, moved}
-use Rattle.doorbell_irq.proofs.EventKinds.{connect_spares, was_connected}
 use Rattle.doorbell_irq.proofs.device.Device.connect.Goals as goal
 
 pub returns-clause-refines : goal.returns-clause-refines
-returns-clause-refines c w events refines =
-    let d : DeviceView = record { peers = c.self.inside.peers; wiring = c.self.inside.wiring; registers = c.self.inside.registers } in
-    let sound : IsDeviceView d = c.self.invariant in
-    let was : Refines w events d = subst (Refines w events) (sym c.self.view_is) refines in
-    let below : c.args.peer < d.peers = subst (λ v. c.args.peer < v.peers) (sym c.self.view_is) c.requires in
-    moved w events (WasConnected c.args.peer) d sound was c.args.peer below (connect_spares w events c.args.peer)
-    _ c.connect.new.self refl refl refl (λ peer. refl)
-    (was_connected w events c.args.peer _ c.connect.new.self (peer_at w events d sound was c.args.peer c.index-self-peer.result below) c.connect.ensures)
+returns-clause-refines c w events refines = c.connect.ensures.refines w events (subst (Refines w events) (sym c.self.view_is) refines)

@@ -5,7 +5,7 @@ use Rattle.frame_bridge.specs.declared.ports.Port.{Port}
 use Rattle.frame_bridge.proofs.Copying.{Copied}
 use Rattle.frame_bridge.proofs.run.Run.arrive.Given as goal
 
--- each port before this one has its copy, where the frame goes there
+-- Each port before this one has its copy, if the frame goes there.
 abbrev pub invariant-loop-port : goal.invariant-loop-port
 invariant-loop-port l = record {
   ports : (sender : Port) → slice_get l.fn.self.ports.items l.from ≡ Some sender → Copied l.fn.self.ports.items l.self.ports.items l.to.items (delivered sender.own.end) l.port;

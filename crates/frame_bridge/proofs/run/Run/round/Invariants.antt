@@ -6,6 +6,6 @@ use Rattle.frame_bridge.specs.Run.{World, turns_of, ran}
 use Rattle.frame_bridge.specs.Refinement.{IsThere}
 use Rattle.frame_bridge.proofs.run.Run.round.Given as goal
 
--- the ports so far
+-- The ports so far.
 abbrev pub invariant-loop-port : goal.invariant-loop-port
 invariant-loop-port l = (sent : List Sent) (ports : ℕ) (w : World) → IsThere sent ports w l.fn.self → IsThere sent ports (ran w (flat_map turns_of (first_ports l.port))) l.self

@@ -3,7 +3,7 @@ use Rattle.frame_bridge.specs.Run.{started}
 use Rattle.frame_bridge.specs.Refinement.{RunRefines}
 use Rattle.frame_bridge.proofs.run.Run.send.Given as goal
 
--- the frames so far are given out
+-- The frames so far were given to their stations.
 abbrev pub invariant-loop-one : goal.invariant-loop-one
 invariant-loop-one l = record {
   long : length l.self.ports.items ≡ length l.fn.self.ports.items;

@@ -1,4 +1,4 @@
--- What a handle owns may go to another thread.
+-- The value that a handle owns may be sent to another thread.
 use Rattle.std.specs.Prelude.{Option, Some, None}
 use mir.Raw.{raw}
 use base.Shift.{Keyless}
@@ -15,12 +15,18 @@ use Rattle.std.specs.declared.alloc.Global.{Global}
 use Rattle.std.proofs.alloc.Global.TheSendSync as handle
 use Rattle.ivshm_c.specs.declared.end_state.EndState.{EndState}
 use Rattle.ivshm_c.specs.contracts.end_state.EndState as boxed
+use Rattle.ivshm_c.specs.contracts.counts.Counts as counts
 use Rattle.ivshm_c.specs.Handle.{held}
 use Rattle.ivshm_c.specs.contracts.held.End.{the_row, the_type}
 
--- a port may go to another thread, since its endpoint may
+-- Counts may be sent to another thread, because numbers may.
+counts_sent : IsSend (counts.the_field).row
+counts_sent =
+    struct_send (plain_shape counts.the_type) (search sendable, (search sendable, (search sendable, (search sendable, (search sendable, (search sendable, tt))))))
+
+-- An end may be sent to another thread, because its endpoint and its counts may.
 sent : IsSend boxed.the_row
-sent = recorded_send (boxed.the_field).row _ _ boxed.the_type.to_one (struct_send (plain_shape boxed.the_type) (endpoint_sent, (search sendable depth 16, tt)))
+sent = recorded_send (boxed.the_field).row _ _ boxed.the_type.to_one (struct_send (plain_shape boxed.the_type) (endpoint_sent, (search sendable depth 16, (counts_sent, tt))))
 
 held_keyless : (at : Ptr) (alloc : Global) (port : Option EndState) → Keyless (held at alloc port)
 held_keyless at alloc None = λ _. tt

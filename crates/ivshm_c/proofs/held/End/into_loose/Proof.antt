@@ -1,4 +1,4 @@
--- `into_loose` tests the pointer, and moves the fields where it isn't null.
+-- `into_loose` tests the pointer, and moves the fields if it isn't null.
 use Rattle.std.proofs.Common.{◌≡◌, List, [], ◌∷◌, ◌++◌, refl, sym, subst, lit<}
 use Rattle.std.specs.Prelude.{Some, None}
 use mir.Val.{Val, vptr, vnull, vcons, vnil}

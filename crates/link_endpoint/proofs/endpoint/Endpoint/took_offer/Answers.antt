@@ -9,7 +9,7 @@ use Rattle.link_endpoint.proofs.Away.{none_left, away_refused, away_none}
 use Rattle.link_endpoint.proofs.Sending.{takes_refused, takes_end, takes_on}
 use Rattle.link_endpoint.proofs.endpoint.Endpoint.took_offer.Goals as goal
 
--- a value was refused
+-- A value was refused.
 refused : (c : goal.After-self-in-Some-1) → KeepsNumbers c.self.inside.tx c.took_into.new.self × Takes (seen c.self.inside) c.args.value c.took_into.new.notes.items (seen (record (c.self.inside) { refused = Some c.in-Some.refused; place = Refusing; tx = c.took_into.new.self }))
 refused c =
     let i = c.self.inside in
@@ -26,7 +26,7 @@ returns-in-Some-clause-steps c = rw (← c.self.view_is) (refused c).1
 pub invariant_of-self : goal.invariant_of-self
 invariant_of-self c = kept_sent c.self.inside _ _ Refusing c.args.value c.took_into.new.notes.items c.self.invariant (refused c).0 (λ other. absurd (other refl)) (λ is. tt) (refused c).1
 
--- the offer is over
+-- The offer is over.
 over : (c : goal.After-self-then-not-busy-1) → KeepsNumbers c.self.inside.tx c.took_into.new.self × Takes (seen c.self.inside) c.args.value c.took_into.new.notes.items (seen (record (c.self.inside) { place = Closed; tx = c.took_into.new.self }))
 over c =
     let i = c.self.inside in
@@ -40,7 +40,7 @@ over c =
 pub returns-then-not-busy-clause-steps : goal.returns-then-not-busy-clause-steps
 returns-then-not-busy-clause-steps c = rw (← c.self.view_is) (over c).1
 
--- the offer goes on
+-- The offer is still open.
 going : (c : goal.Else-not-busy) → KeepsNumbers c.self.inside.tx c.took_into.new.self × Takes (seen c.self.inside) c.args.value c.took_into.new.notes.items (seen (record (c.self.inside) { tx = c.took_into.new.self }))
 going c =
     let i = c.self.inside in
@@ -62,7 +62,7 @@ invariant_of-self-then-not-busy c =
     kept_sent c.self.inside _ _ Closed c.args.value c.took_into.new.notes.items c.self.invariant (over c).0 (λ other. c.self.invariant.mark (grind (arith, common_steps)))
     (λ is. absurd (none_left (seen c.self.inside) (grind (arith, common_steps)) c.self.invariant.left is)) (over c).1
 
--- what the step keeps of a refusal
+-- After a refusal the step satisfies `KeepsAway`.
 pub returns-in-Some-clause-leaving : goal.returns-in-Some-clause-leaving
 returns-in-Some-clause-leaving c =
     let found : refused_after c.took_into.new.notes.items None ≡ Some c.in-Some.refused = sym c.refused_in.ensures ∙ c.in-Some.is in

@@ -9,7 +9,7 @@ use Rattle.link_endpoint.proofs.Away.{none_left, away_refused, away_none}
 use Rattle.link_endpoint.proofs.Receiving.{takes_refused, takes_end, takes_on}
 use Rattle.link_endpoint.proofs.endpoint.Endpoint.took_poll.Goals as goal
 
--- a value was refused
+-- A value was refused.
 refused : (c : goal.After-self-in-Some-1) → Takes (seen c.self.inside) c.args.value c.took_into.new.notes.items (seen (record (c.self.inside) { refused = Some c.in-Some.refused; place = Refusing; rx = c.took_into.new.self }))
 refused c =
     let i = c.self.inside in
@@ -24,7 +24,7 @@ returns-in-Some-clause-steps c = rw (← c.self.view_is) (refused c)
 pub invariant_of-self : goal.invariant_of-self
 invariant_of-self c = kept_received c.self.inside _ _ Refusing c.args.value c.took_into.new.notes.items c.self.invariant c.took_into.ensures.kept (λ other. absurd (other refl)) (λ is. tt) (refused c)
 
--- the poll is over
+-- The poll is over.
 over : (c : goal.After-self-then-not-busy-1) → Takes (seen c.self.inside) c.args.value c.took_into.new.notes.items (seen (record (c.self.inside) { place = Closed; rx = c.took_into.new.self }))
 over c =
     let i = c.self.inside in
@@ -36,7 +36,7 @@ over c =
 pub returns-then-not-busy-clause-steps : goal.returns-then-not-busy-clause-steps
 returns-then-not-busy-clause-steps c = rw (← c.self.view_is) (over c)
 
--- the poll goes on
+-- The poll is still open.
 going : (c : goal.Else-not-busy) → Takes (seen c.self.inside) c.args.value c.took_into.new.notes.items (seen (record (c.self.inside) { rx = c.took_into.new.self }))
 going c =
     let i = c.self.inside in
@@ -55,7 +55,7 @@ pub invariant_of-self-then-not-busy : goal.invariant_of-self-then-not-busy
 invariant_of-self-then-not-busy c = kept_received c.self.inside _ _ Closed c.args.value c.took_into.new.notes.items c.self.invariant c.took_into.ensures.kept (λ other. c.self.invariant.mark (grind (arith, common_steps)))
     (λ is. absurd (none_left (seen c.self.inside) (grind (arith, common_steps)) c.self.invariant.left is)) (over c)
 
--- what the step keeps of a refusal
+-- After a refusal the step satisfies `KeepsAway`.
 pub returns-in-Some-clause-leaving : goal.returns-in-Some-clause-leaving
 returns-in-Some-clause-leaving c =
     let found : refused_after c.took_into.new.notes.items None ≡ Some c.in-Some.refused = sym c.refused_in.ensures ∙ c.in-Some.is in

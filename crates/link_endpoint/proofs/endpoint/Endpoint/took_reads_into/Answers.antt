@@ -22,7 +22,7 @@ polls NotInRun rx some = absurd (omega (arith, some))
 polls Offering rx some = absurd (omega (arith, some))
 polls Polling rx some = refl
 
--- a poll is open
+-- A poll is open.
 here : (c : goal.After-took_reads_into) → c.self.inside.place ≡ Polling
 here c =
     let ahead : reads_ahead c.args.self.now ≡ reads_ahead_at c.self.inside.place c.self.inside.rx = ap reads_ahead (sym c.self.view_is) in

@@ -8,7 +8,7 @@ invariant-loop-self l = record {
   along : (lines : List Line) → IsAlong lines l.initial.self → IsAlong lines l.self;
   some : (lines : List Line) × IsAlong lines l.self;
   none : l.self.passed ≡ 0;
-  scenario : l.self.scenario.now ≡ l.initial.self.scenario.now;
+  scenario : l.self.scenario ≡ l.initial.self.scenario;
   version : l.self.version ≡ l.initial.self.version;
 }
 

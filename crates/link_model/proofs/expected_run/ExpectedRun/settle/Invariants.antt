@@ -7,7 +7,7 @@ abbrev pub invariant-loop-self : goal.invariant-loop-self
 invariant-loop-self l = record {
   along : (lines : List Line) → IsAlong lines l.initial.self → IsAlong lines l.self;
   some : (lines : List Line) × IsAlong lines l.self;
-  scenario : l.self.scenario.now ≡ l.initial.self.scenario.now;
+  scenario : l.self.scenario ≡ l.initial.self.scenario;
   version : l.self.version ≡ l.initial.self.version;
 }
 

@@ -4,7 +4,7 @@ use Rattle.rx_engine.specs.Receiver.{Receiver, frame_ahead, reads_ahead}
 use Rattle.rx_engine.specs.declared.place.Place.TheVariants.{ReadingFrameWord}
 use Rattle.rx_engine.proofs.receiver.Rx.took_reads_into.Goals as goal
 
--- all words of a frame, from its first one on
+-- All words of a frame, from the first one on.
 whole : (more entry address bytes at : ℕ) (words frame : List ℕ) → (at ≡ 0 → length words ≡ 4 * words_for bytes → frame ≡ take bytes words) →
     IfSome (frame_ahead (ReadingFrameWord more entry address bytes at)) (λ n. length words ≡ 4 * reads_ahead (ReadingFrameWord more entry address bytes at) → frame ≡ take n words)
 whole more entry address bytes zero words frame delivers = λ all. delivers refl (omega (arith, all))

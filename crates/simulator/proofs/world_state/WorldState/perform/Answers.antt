@@ -9,7 +9,7 @@ use Rattle.simulator.specs.WorldState.{WorldStateAfter, GaveLast, accessed}
 use Rattle.simulator.specs.declared.world_state.WorldState.{WorldState}
 use Rattle.simulator.proofs.world_state.WorldState.perform.Goals as goal
 
--- what an access gave and left
+-- The value that an access returned, and the state after it.
 abbrev Left : World → Output → List Line → (ℕ → ℕ) → ℕ → WorldState → Access → ℕ → Type 0
 Left world output past losses me world_state a value = GaveLast past a value × WorldStateAfter world output (reverse (accessed world past losses me a value) ++ past) losses world_state
 

@@ -1,0 +1,20 @@
+use Rattle.std.proofs.Common.{◌<◌, refl}
+use Rattle.doorbell_irq.specs.DeviceView.{DeviceView, IsDeviceView}
+use Rattle.doorbell_irq.specs.Refinement.{Refines, among}
+use Rattle.doorbell_irq.specs.Events.{MsixWritten}
+use Rattle.doorbell_irq.proofs.Devices.{peer_at, moved}
+use Rattle.doorbell_irq.proofs.EventKinds.{msix_spares, msix_written}
+use Rattle.doorbell_irq.proofs.peers.msix_write.Goals as goal
+
+pub returns-clause-refines : goal.returns-clause-refines
+returns-clause-refines g c w events refines =
+    let d : DeviceView = among c.args.peers c.args.wiring c.args.registers.now in
+    let sound : IsDeviceView d = c.requires.sound in
+    let was : Refines w events d = refines in
+    let below : c.args.peer < d.peers = c.requires.inside in
+    moved w events (MsixWritten c.args.peer c.args.offset c.args.value) d sound was c.args.peer below
+    (msix_spares w events c.args.peer c.args.offset c.args.value)
+    _ c.write_entry.new.self refl refl refl (λ peer. refl)
+    (msix_written w events c.args.peer _ c.write_entry.new.self
+    (peer_at w events d sound was c.args.peer c.index-registers-peer.result below)
+    d.wiring c.args.offset c.args.value was.wiring c.write_entry.ensures)

@@ -1,0 +1,237 @@
+//! The calls of a device over a slice of peer devices, wherever the slice is stored.
+//!
+//! Each call names the number of peers, how interrupts are raised, and a peer below that number.
+ghost use Rattle.std.specs.Prelude.{◌≡◌, ◌<◌, ◌≤◌, ◌↔◌, ℕ, List, ◌∷◌, IsOk, IsTrue, IfOk, IfErr, OnOk, length};
+ghost use Rattle.pci_space.specs.Numbers.{number_from};
+ghost use Rattle.pci_space.specs.Fields.{is_access};
+ghost use Rattle.doorbell_irq.specs.Events.{Devices, Event, ConfigWritten, RegisterWritten, MsixWritten, WasReset, WasDisconnected, WasConnected, Config};
+ghost use Rattle.doorbell_irq.specs.DeviceRules.{bytes_after, effect_of, reset_event, register_at, msix_at};
+ghost use Rattle.doorbell_irq.specs.DeviceView.{IsDeviceView};
+ghost use Rattle.doorbell_irq.specs.Refinement.{Refines, among};
+ghost use Rattle.doorbell_irq.specs.Routes.{IsRoute};
+
+use crate::doorbell::REGISTER_STATE;
+use crate::effect::Effect;
+use crate::msix_table::MsixTable;
+use crate::registers::PeerDevice;
+use crate::route::Route;
+use crate::trigger::deliver;
+use pci_space::{BadAccess, Wiring};
+
+/// Reads a peer's configuration space.
+///
+/// Returns `BadAccess` exactly if the width is not 1, 2 or 4, the offset is not a multiple of the
+/// width, or the access ends after byte 256.
+pub fn config_read<E: MsixTable + Drop>(
+    registers: &[PeerDevice<E>],
+    peers: u32,
+    wiring: Wiring,
+    peer: u32,
+    offset: u16,
+    width: u16,
+) -> Result<u32, BadAccess>
+    requires sound { IsDeviceView (among peers wiring registers.now) }
+    requires count { peers ≤ length registers.now }
+    requires inside { peer < peers }
+    ensures allowed { IsOk result ↔ IsTrue (is_access 256 offset width) }
+    ensures value { (w : Devices) (events : List Event) → Refines w events (among peers wiring registers.now) →
+        IfOk result (λ v. v ≡ number_from (bytes_after w events peer Config) offset width) }
+    ensures refused { IfErr result (λ e. e ≡ record { offset = offset; width = width }) }
+{
+    registers[peer as usize].read_config(offset, width)
+}
+
+/// Writes a peer's configuration space.
+///
+/// Returns `BadAccess` under the conditions of `config_read`; nothing has changed then.
+pub fn config_write<E: MsixTable + Drop>(
+    registers: &mut [PeerDevice<E>],
+    peers: u32,
+    wiring: Wiring,
+    peer: u32,
+    offset: u16,
+    width: u16,
+    value: u32,
+) -> Result<(), BadAccess>
+    requires sound { IsDeviceView (among peers wiring registers.old) }
+    requires count { peers ≤ length registers.old }
+    requires inside { peer < peers }
+    ensures allowed { IsOk result ↔ IsTrue (is_access 256 offset width) }
+    ensures written { (w : Devices) (events : List Event) → Refines w events (among peers wiring registers.old) →
+        OnOk result (Refines w (ConfigWritten peer offset width value ∷ events) (among peers wiring registers.new)) }
+    ensures refused { IfErr result (λ e. (e ≡ record { offset = offset; width = width }) × (registers.new ≡ registers.old)) }
+    ensures count { length registers.new ≡ length registers.old }
+{
+    registers[peer as usize].write_config(offset, width, value)
+}
+
+/// Reads an aligned word of a peer's register page. Every other offset reads 0.
+pub fn register_read<E: MsixTable + Drop>(
+    registers: &[PeerDevice<E>],
+    peers: u32,
+    wiring: Wiring,
+    peer: u32,
+    offset: u32,
+) -> u32
+    requires sound { IsDeviceView (among peers wiring registers.now) }
+    requires count { peers ≤ length registers.now }
+    requires inside { peer < peers }
+    ensures { (w : Devices) (events : List Event) → Refines w events (among peers wiring registers.now) → result ≡ register_at (bytes_after w events peer) offset }
+{
+    registers[peer as usize].read_register(offset)
+}
+
+/// Writes an aligned word of a peer's register page.
+///
+/// Interrupt Control and State store the value, and the Doorbell triggers its target. A write at
+/// every other offset is ignored.
+// claim effect, refines, count with config_read.allowed, config_read.value, config_read.refused,
+//    config_write.allowed, config_write.written, config_write.refused, config_write.count,
+//    register_read, route, msix_read, msix_write.refines, msix_write.count, reset.effect,
+//    reset.refines, reset.count, disconnect.effect, disconnect.refines, disconnect.count,
+//    connect.refines, connect.count: A slice of peers' devices of any length answers each call as
+//    `Device` does: by the device's rules over all events before it. The number of peers stays.
+pub fn register_write<E: MsixTable + Drop>(
+    registers: &mut [PeerDevice<E>],
+    peers: u32,
+    wiring: Wiring,
+    peer: u32,
+    offset: u32,
+    value: u32,
+) -> Effect
+    requires sound { IsDeviceView (among peers wiring registers.old) }
+    requires count { peers ≤ length registers.old }
+    requires inside { peer < peers }
+    ensures effect { (w : Devices) (events : List Event) → Refines w events (among peers wiring registers.old) → result ≡ effect_of w events (RegisterWritten peer offset value) }
+    ensures refines { (w : Devices) (events : List Event) → Refines w events (among peers wiring registers.old) → Refines w (RegisterWritten peer offset value ∷ events) (among peers wiring registers.new) }
+    ensures count { length registers.new ≡ length registers.old }
+{
+    let trigger = registers[peer as usize].write_register(peer, offset, value);
+    Effect {
+        state: (offset == REGISTER_STATE).then_some(value),
+        deliveries: deliver(registers, peers, wiring, trigger),
+    }
+}
+
+/// Returns which doorbells a peer's registers let through.
+pub fn route<E: MsixTable + Drop>(
+    registers: &[PeerDevice<E>],
+    peers: u32,
+    wiring: Wiring,
+    peer: u32,
+) -> Route
+    requires sound { IsDeviceView (among peers wiring registers.now) }
+    requires count { peers ≤ length registers.now }
+    requires inside { peer < peers }
+    ensures { (w : Devices) (events : List Event) → Refines w events (among peers wiring registers.now) → IsRoute w events peer result }
+{
+    registers[peer as usize].route(wiring)
+}
+
+/// Reads an aligned word of a peer's MSI-X table. Every other offset reads 0.
+pub fn msix_read<E: MsixTable + Drop>(
+    registers: &[PeerDevice<E>],
+    peers: u32,
+    wiring: Wiring,
+    peer: u32,
+    offset: u32,
+) -> u32
+    requires sound { IsDeviceView (among peers wiring registers.now) }
+    requires count { peers ≤ length registers.now }
+    requires inside { peer < peers }
+    ensures { (w : Devices) (events : List Event) → Refines w events (among peers wiring registers.now) → result ≡ msix_at w.wiring (bytes_after w events peer) offset }
+{
+    registers[peer as usize].read_entry(wiring, offset)
+}
+
+/// Writes an aligned word of a peer's MSI-X table. A write at every other offset is ignored.
+pub fn msix_write<E: MsixTable + Drop>(
+    registers: &mut [PeerDevice<E>],
+    peers: u32,
+    wiring: Wiring,
+    peer: u32,
+    offset: u32,
+    value: u32,
+)
+    requires sound { IsDeviceView (among peers wiring registers.old) }
+    requires count { peers ≤ length registers.old }
+    requires inside { peer < peers }
+    ensures refines { (w : Devices) (events : List Event) → Refines w events (among peers wiring registers.old) → Refines w (MsixWritten peer offset value ∷ events) (among peers wiring registers.new) }
+    ensures count { length registers.new ≡ length registers.old }
+{
+    registers[peer as usize].write_entry(wiring, offset, value);
+}
+
+/// Gives all registers of a peer their reset values.
+///
+/// The peer's State is 0 then. If it was another value, all other peers are triggered.
+pub fn reset<E: MsixTable + Drop>(
+    registers: &mut [PeerDevice<E>],
+    peers: u32,
+    wiring: Wiring,
+    peer: u32,
+) -> Effect
+    requires sound { IsDeviceView (among peers wiring registers.old) }
+    requires count { peers ≤ length registers.old }
+    requires inside { peer < peers }
+    ensures effect { (w : Devices) (events : List Event) → Refines w events (among peers wiring registers.old) → result ≡ effect_of w events (WasReset peer) }
+    ensures refines { (w : Devices) (events : List Event) → Refines w events (among peers wiring registers.old) → Refines w (WasReset peer ∷ events) (among peers wiring registers.new) }
+    ensures count { length registers.new ≡ length registers.old }
+{
+    reset_by(registers, peers, wiring, peer, false)
+}
+
+/// Resets a peer and disconnects it: nothing is delivered to it until it is connected again.
+pub fn disconnect<E: MsixTable + Drop>(
+    registers: &mut [PeerDevice<E>],
+    peers: u32,
+    wiring: Wiring,
+    peer: u32,
+) -> Effect
+    requires sound { IsDeviceView (among peers wiring registers.old) }
+    requires count { peers ≤ length registers.old }
+    requires inside { peer < peers }
+    ensures effect { (w : Devices) (events : List Event) → Refines w events (among peers wiring registers.old) → result ≡ effect_of w events (WasDisconnected peer) }
+    ensures refines { (w : Devices) (events : List Event) → Refines w events (among peers wiring registers.old) → Refines w (WasDisconnected peer ∷ events) (among peers wiring registers.new) }
+    ensures count { length registers.new ≡ length registers.old }
+{
+    reset_by(registers, peers, wiring, peer, true)
+}
+
+/// Resets a peer, and disconnects it if `disconnects` is set.
+fn reset_by<E: MsixTable + Drop>(
+    registers: &mut [PeerDevice<E>],
+    peers: u32,
+    wiring: Wiring,
+    peer: u32,
+    disconnects: bool,
+) -> Effect
+    requires sound { IsDeviceView (among peers wiring registers.old) }
+    requires count { peers ≤ length registers.old }
+    requires inside { peer < peers }
+    ensures effect { (w : Devices) (events : List Event) → Refines w events (among peers wiring registers.old) → result ≡ effect_of w events (reset_event disconnects peer) }
+    ensures refines { (w : Devices) (events : List Event) → Refines w events (among peers wiring registers.old) → Refines w (reset_event disconnects peer ∷ events) (among peers wiring registers.new) }
+    ensures count { length registers.new ≡ length registers.old }
+{
+    let trigger = registers[peer as usize].reset(peer, disconnects);
+    Effect {
+        state: Some(0),
+        deliveries: deliver(registers, peers, wiring, trigger),
+    }
+}
+
+/// Connects a peer again, at reset. No peer is triggered: a disconnected peer has State 0 already.
+pub fn connect<E: MsixTable + Drop>(
+    registers: &mut [PeerDevice<E>],
+    peers: u32,
+    wiring: Wiring,
+    peer: u32,
+)
+    requires sound { IsDeviceView (among peers wiring registers.old) }
+    requires count { peers ≤ length registers.old }
+    requires inside { peer < peers }
+    ensures refines { (w : Devices) (events : List Event) → Refines w events (among peers wiring registers.old) → Refines w (WasConnected peer ∷ events) (among peers wiring registers.new) }
+    ensures count { length registers.new ≡ length registers.old }
+{
+    registers[peer as usize].connect();
+}

@@ -1,0 +1,24 @@
+-- Answers with their causes.
+use Rattle.std.proofs.Common.{◌≡◌, ℕ, sym, ◌∙◌, subst, Option, Some, None}
+use Rattle.ivshm_device.specs.declared.device_state.DeviceState.{DeviceState}
+use Rattle.ivshm_device.specs.declared.status.Status.{Status}
+use Rattle.ivshm_device.specs.declared.status.Status.TheVariants.{Done, HasDevice}
+use Rattle.ivshm_device.specs.Answers.{Leads, IfDone, IsNew, RefusesNew, MakesAnswered, made, has_device, refused}
+
+-- the devices of a handle take their step
+pub leads : (step : DeviceState → DeviceState → Type 0) (old new : Option DeviceState) (a b : DeviceState) → old ≡ Some a → new ≡ Some b → step a b → Leads old step new
+leads step old new a b is was s = subst (λ p. Leads p step new) (sym is) (subst (λ p. Leads (Some a) step p) (sym was) s)
+
+-- a call is done
+pub done : (status : Status) (step rest : Type 0) → status ≡ Done → step → IfDone status step rest
+done status step rest is s = subst (λ x. IfDone x step rest) (sym is) s
+
+module _ (peers table common out vectors : ℕ) (old new : Option DeviceState) where
+  pub holds_one : (state : DeviceState) → old ≡ Some state → new ≡ Some state → MakesAnswered old peers table common out vectors HasDevice new
+  holds_one state was is = subst (MakesAnswered old peers table common out vectors HasDevice) (was ∙ sym is) (has_device (λ e. let wrong : Some state ≡ None = sym was ∙ e in absurd cc))
+
+  pub new_one : (state : DeviceState) → old ≡ None → IsNew peers table common out vectors state → new ≡ Some state → MakesAnswered old peers table common out vectors Done new
+  new_one state was is_new is = subst (MakesAnswered old peers table common out vectors Done) (sym is) (made state was is_new)
+
+  pub none_made : (status : Status) → old ≡ None → RefusesNew peers table common out vectors status → old ≡ new → MakesAnswered old peers table common out vectors status new
+  none_made status was why is = subst (MakesAnswered old peers table common out vectors status) is (refused status was why)

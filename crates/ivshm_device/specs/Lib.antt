@@ -1,0 +1,5 @@
+pub mod Handle
+pub mod Statuses
+pub mod Crossing
+pub mod Windows
+pub mod Answers

@@ -1,0 +1,28 @@
+//! The devices of a world for hypervisors in C. It stands on `doorbell_irq` for the device's rules
+//! and on `raw_box` for the pointer that a program in C holds. Its contracts promise for each
+//! export the exact status for all arguments, and the result and the new devices by the device's
+//! rules.
+//!
+//! # Design
+//!
+//! - The devices are stored for exactly the peers and MSI-X vectors of their world.
+//! - Each export makes one call of `doorbell_irq`, and its contract cites that crate's definitions:
+//!   for every list of events of which the device is the state.
+//! - All arguments are tested, except the pointers that a program in C passes.
+// tested: The header's match with the library, the stack of each call, and test vectors made by
+//    `ivshm sim` (`checks/c_device`). The program above the library is in C, and no proof covers
+//    it: `c/ivshm_device.h` says what it owes.
+#![tactic(auto)]
+
+mod calls;
+mod crossing;
+mod device_state;
+mod entry_list;
+mod exports;
+mod handle;
+mod peer_devices;
+mod status;
+mod window;
+
+pub use crossing::{Access, Effect, Message, Route};
+pub use handle::DeviceHandle;

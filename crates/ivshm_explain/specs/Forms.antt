@@ -1,0 +1,46 @@
+-- The words of the program, and how many bytes a form reads: as of `ivshm` (profile).
+use Rattle.std.specs.Prelude.{ℕ, ◌-◌, ◌&&◌, nat_le, if◌then◌else◌, List, [], ◌∷◌, codes, Option, Some, None, option_and_then}
+use Rattle.std.specs.Str.{bytes_eq}
+use Rattle.line_format.specs.Numbers.{number_of}
+use Rattle.ivshm_explain.specs.declared.forms.Form.{Form}
+use Rattle.ivshm_explain.specs.declared.forms.Form.TheVariants.{Sim, Run, Config, Load, Record, Feed, Dump, Ports, Bridge}
+
+-- `config` with a peer: one digit, 0 to 7
+abbrev pub config_of : List ℕ → Option Form
+config_of (digit ∷ []) = if nat_le 48 digit && nat_le digit 55 then Some (Config (digit - 48)) else None
+config_of _ = None
+
+-- `load` with a count: a number from 1 to 80,000
+abbrev pub load_of : List ℕ → Option Form
+load_of word = option_and_then (λ count. if nat_le 1 count && nat_le count 80000 then Some Load else None) (number_of word)
+
+-- a form with the peer 0 or 1 after it, in one digit
+abbrev pub link_form_of : Form → List ℕ → Option Form
+link_form_of form (digit ∷ []) = if nat_le 48 digit && nat_le digit 49 then Some form else None
+link_form_of form _ = None
+
+-- the form that the words are, if they are one
+abbrev pub form_of : List (List ℕ) → Option Form
+form_of (first ∷ []) =
+    if bytes_eq first (codes "sim") then Some Sim
+    else if bytes_eq first (codes "run") then Some Run
+    else if bytes_eq first (codes "replay") then Some Record
+    else if bytes_eq first (codes "renew") then Some Record
+    else if bytes_eq first (codes "dump") then Some Dump
+    else if bytes_eq first (codes "ports") then Some Ports
+    else if bytes_eq first (codes "bridge") then Some Bridge
+    else None
+form_of (first ∷ second ∷ []) =
+    if bytes_eq first (codes "config") then config_of second
+    else if bytes_eq first (codes "load") then load_of second
+    else if bytes_eq first (codes "capture") then link_form_of Record second
+    else if bytes_eq first (codes "feed") then link_form_of Feed second
+    else None
+form_of _ = None
+
+-- how many bytes a form reads at most; `load` reads nothing
+abbrev pub limit_of : Form → ℕ
+limit_of Load = 0
+limit_of Record = 1073741824
+limit_of Dump = 16777248
+limit_of _ = 16777216

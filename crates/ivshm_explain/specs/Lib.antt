@@ -1,0 +1,8 @@
+pub mod Status
+pub mod Forms
+pub mod Refusals
+pub mod Places
+pub mod Differences
+pub mod DifferenceText
+pub mod Verdicts
+pub mod Explained

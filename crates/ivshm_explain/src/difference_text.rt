@@ -1,0 +1,118 @@
+//! The text of a difference: what `ivshm` answers, where the line is, what was found there and what
+//! is due.
+ghost use Rattle.std.specs.Prelude.{◌≡◌, ◌+◌, ◌++◌, IfOk, IfSome, OnOk, length};
+ghost use Rattle.ivshm_explain.specs.DifferenceText.{law_name, line_said, line_in_record, verdict_by, verdict_of, certain_text, IsDifferenceText};
+
+use crate::difference_words::difference_words;
+use crate::differences::Difference;
+use crate::places::put_number;
+use ivs_base::NoMemory;
+use lawful_history::Line;
+use record_text::put_lines;
+use scenario_text::Scenario;
+use std::alloc::{AllocError, Global};
+use trace_replay::Law;
+
+/// The law in one word.
+fn law_name(law: Law) -> &'static str
+    ensures { result.now ≡ law_name law }
+{
+    match law {
+        Law::Order => "order",
+        Law::Device => "device",
+        Law::Touch => "touch",
+        Law::Memory => "memory",
+        Law::Link => "link",
+        Law::Call => "call",
+    }
+}
+
+/// Puts the history line with this number last, from 1, or that there is none.
+fn put_line_at(out: &mut Vec<u8>, lines: &[Line], number: u64) -> Result<(), AllocError>
+    ensures { OnOk result (out.new.items ≡ out.old.items ++ line_said lines.now number) }
+{
+    let at = number.saturating_sub(1) as usize;
+    if at < lines.len() {
+        put_lines(out, &lines[at..at + 1])
+    } else {
+        out.extend_from_slice(b"none, since the history has ended\n")?;
+        Ok(())
+    }
+}
+
+/// How many peers the scenario has.
+fn peer_count(scenario: &Scenario) -> u64
+    ensures { result ≡ length scenario.now.honest }
+{
+    scenario.honest.items().len() as u64
+}
+
+/// How many acts the scenario has.
+fn act_count(scenario: &Scenario) -> u64
+    ensures { result ≡ length scenario.now.acts }
+{
+    scenario.acts.items().len() as u64
+}
+
+/// The number of a history line in a record with these counts: eight lines, `begin` and `end` come
+/// before the history besides. None comes if it passes the last number.
+fn number_in_record(line: u64, peers: u64, acts: u64) -> Option<u64>
+    ensures { IfSome result (λ number. number ≡ line + peers + acts + 10) }
+{
+    line.checked_add(peers)?.checked_add(acts)?.checked_add(10)
+}
+
+/// The number of the differing line in the record, whose first line is line 1. None comes if it
+/// passes the last number.
+pub fn line_in_record(difference: &Difference) -> Option<u64>
+    ensures { IfSome result (λ number. number ≡ line_in_record difference.now) }
+{
+    let scenario = &difference.trace.scenario;
+    let line = difference.fault.line;
+    let Some(number) = number_in_record(line, peer_count(scenario), act_count(scenario)) else {
+        return None;
+    };
+    Some(number)
+}
+
+/// The answer for a line and a law.
+fn verdict_by(alloc: Global, line: u64, law: &'static str) -> Result<Vec<u8>, AllocError>
+    ensures { IfOk result (λ text. text.items ≡ verdict_by line law.now) }
+{
+    let text = format!(in alloc; "differs {line} {law}\n")?;
+    Ok(text.into_bytes())
+}
+
+/// What `replay` answers to the record.
+fn verdict(alloc: Global, difference: &Difference) -> Result<Vec<u8>, AllocError>
+    ensures { IfOk result (λ text. text.items ≡ verdict_of difference.now) }
+{
+    let law = law_name(difference.fault.law);
+    verdict_by(alloc, difference.fault.line, law)
+}
+
+/// The answer, the line's number in the record, the line found, the line due, and these words.
+fn joined(alloc: Global, difference: &Difference, words: &[u8]) -> Result<Vec<u8>, NoMemory>
+    ensures { IfOk result (λ text. text.items ≡ certain_text difference.now ++ words.now) }
+{
+    let Some(number) = line_in_record(difference) else {
+        return Err(NoMemory);
+    };
+    let line = difference.fault.line;
+    let mut text = verdict(alloc, difference)?;
+    put_number(alloc, &mut text, number)?;
+    put_line_at(&mut text, difference.trace.lines.items(), line)?;
+    text.extend_from_slice(b"due: ")?;
+    put_line_at(&mut text, difference.lawful.items(), line)?;
+    text.extend_from_slice(words)?;
+    Ok(text)
+}
+
+/// The explanation of a difference.
+pub fn difference_text(alloc: Global, difference: &Difference) -> Result<Vec<u8>, NoMemory>
+    ensures { IfOk result (λ text. IsDifferenceText difference.now text.items) }
+{
+    let words = difference_words(alloc, difference)?;
+    let text = joined(alloc, difference, &words)?;
+    Ok(text)
+}

@@ -1,0 +1,114 @@
+//! What is wrong with a refused text and what is due there, in words.
+
+use crate::forms::Form;
+use crate::line_words::bad_line_words;
+use crate::number_words::{bad_number_words, bytes_words};
+use crate::order_words::{bad_order_words, bad_peer_words, not_running_words};
+use crate::refusals::{Place, Reason, Refusal};
+use crate::shapes::Grammar;
+use crate::size_words::{bad_geometry_words, no_end_words};
+use crate::texts::FaultyText;
+use line_format::cut;
+use std::alloc::{AllocError, Global};
+
+/// Whether a line `end` stands before the line with this number, or anywhere if the number is 0.
+fn is_after_scenario(bytes: &[u8], number: u64) -> bool {
+    let last = if number == 0 { u64::MAX } else { number };
+    let mut rest = bytes;
+    for _ in 1..last {
+        let Some((line, more)) = cut(b'\n', rest) else {
+            return false;
+        };
+        if line == b"end".as_slice() {
+            return true;
+        }
+        rest = more;
+    }
+    false
+}
+
+/// A refused text, as the lines around the faulty one are read.
+fn faulty_text(form: Form, bytes: &[u8], number: u64) -> FaultyText {
+    let (grammar, before) = match form {
+        Form::Ports => (Grammar::Ports, 0),
+        Form::Bridge => (Grammar::Bridge, 0),
+        Form::Record if number == 1 || is_after_scenario(bytes, number) => (Grammar::History, 1),
+        Form::Record => (Grammar::Scenario, 1),
+        _ => (Grammar::Scenario, 0),
+    };
+    FaultyText {
+        bytes,
+        grammar,
+        before,
+    }
+}
+
+/// The least and the most bytes of a frame of this text.
+fn frame_sizes(text: &FaultyText) -> (u64, u64) {
+    match text.grammar {
+        Grammar::Bridge => (14, 274),
+        _ => (14, text.head_number(b"mtu").saturating_add(18)),
+    }
+}
+
+/// What is wrong with the text as a whole.
+fn whole_words(alloc: Global, text: &FaultyText, reason: Reason) -> Result<String, AllocError> {
+    match reason {
+        Reason::NoEnd => no_end_words(alloc, text),
+        Reason::BadPeer => {
+            let last = text.peers().saturating_sub(1);
+            format!(in alloc;
+                "the scenario has no such peer: `config 0` to `config {last}` are due\n"
+            )
+        }
+        Reason::BadCount { kept, found } => {
+            format!(in alloc;
+                "the last line states {kept} history lines, and there are {found}: `end {found}` is due\n"
+            )
+        }
+        _ => format!(in alloc; "there are more bytes than this form reads\n"),
+    }
+}
+
+/// What is wrong with the line with this number.
+fn line_words(
+    alloc: Global,
+    text: &FaultyText,
+    number: u64,
+    reason: Reason,
+) -> Result<String, AllocError> {
+    match reason {
+        Reason::BadLine => bad_line_words(alloc, text, number),
+        Reason::BadOrder => bad_order_words(alloc, text, number),
+        Reason::BadNumber => bad_number_words(alloc, text, number),
+        Reason::BadPeer => bad_peer_words(alloc, text, number),
+        Reason::BadFrame => {
+            let (least, most) = frame_sizes(text);
+            bytes_words(alloc, text, number, least, most)
+        }
+        Reason::BadMessage => bytes_words(alloc, text, number, 1, text.head_number(b"message")),
+        Reason::BadGeometry => bad_geometry_words(alloc, text, number),
+        Reason::TooManyTurns => {
+            format!(in alloc;
+                "with this line the acts count for more than 4000000: a `turn P K` counts for K, and any other act for 1\n"
+            )
+        }
+        Reason::TooManyFrames => { format!(in alloc; "this is frame 10001: 10000 are the most\n") }
+        Reason::NotRunning => not_running_words(alloc, text, number),
+        _ => format!(in alloc; "the line is refused\n"),
+    }
+}
+
+/// What is wrong with the text that a form refuses, and what is due there.
+pub fn fault_words(
+    alloc: Global,
+    form: Form,
+    bytes: &[u8],
+    refusal: Refusal,
+) -> Result<String, AllocError> {
+    let text = faulty_text(form, bytes, refusal.place.number());
+    match refusal.place {
+        Place::Whole => whole_words(alloc, &text, refusal.reason),
+        Place::Line(number) => line_words(alloc, &text, number, refusal.reason),
+    }
+}

@@ -1,0 +1,99 @@
+//! What a form answers to bytes.
+ghost use Rattle.std.specs.Prelude.{◌≡◌, IfOk, MatchResult};
+ghost use Rattle.scenario_text.specs.Spelling.{world_of, IsSpelling};
+ghost use Rattle.ivshm_explain.specs.Verdicts.{IsScenarioFault, IsScenarioVerdict, IsPortsVerdict, IsBridgeVerdict, IsVerdict};
+
+use crate::differences::{Difference, record_verdict};
+use crate::forms::Form;
+use crate::refusals::{Place, Reason, Refusal};
+use ivs_base::NoMemory;
+use scenario_text::{Scenario, not_running};
+use std::alloc::Global;
+
+/// What a form answers to bytes.
+#[derive(Drop)]
+pub enum Verdict {
+    /// The form accepts them.
+    Accepted,
+    /// The form refuses them.
+    Refused(Refusal),
+    /// The form reads a record, whose history isn't the lawful one.
+    Differs(Difference),
+    /// The form isn't explained yet.
+    NotExplained,
+}
+
+/// The scenario that the bytes spell, or their refusal.
+fn scenario_of(alloc: Global, bytes: &[u8]) -> Result<Result<Scenario, Refusal>, NoMemory>
+    ensures { IfOk result (λ judged. MatchResult judged (λ scenario. IsSpelling (world_of scenario) bytes.now) (IsScenarioFault bytes.now)) }
+{
+    match scenario_text::parse(alloc, bytes) {
+        Ok(scenario) => Ok(Ok(scenario)),
+        Err(fault) => match Refusal::of_scenario(fault) {
+            Some(refusal) => Ok(Err(refusal)),
+            None => Err(NoMemory),
+        },
+    }
+}
+
+/// What `sim`, `run` or `config P` answers to a scenario.
+fn scenario_verdict(form: Form, scenario: &Scenario) -> Verdict
+    ensures { IsScenarioVerdict form (world_of scenario.now) result }
+{
+    match form {
+        Form::Run => match not_running(scenario) {
+            Some(line) => Verdict::Refused(Refusal {
+                place: Place::Line(line),
+                reason: Reason::NotRunning,
+            }),
+            None => Verdict::Accepted,
+        },
+        Form::Config(peer) if peer >= scenario.geometry.peers() => Verdict::Refused(Refusal {
+            place: Place::Whole,
+            reason: Reason::BadPeer,
+        }),
+        _ => Verdict::Accepted,
+    }
+}
+
+/// What `ports` answers to the bytes.
+fn ports_verdict(alloc: Global, bytes: &[u8]) -> Result<Verdict, NoMemory>
+    ensures { IfOk result (IsPortsVerdict bytes.now) }
+{
+    match port_text::parse(alloc, bytes) {
+        Ok(_) => Ok(Verdict::Accepted),
+        Err(fault) => match Refusal::of_ports(fault) {
+            Some(refusal) => Ok(Verdict::Refused(refusal)),
+            None => Err(NoMemory),
+        },
+    }
+}
+
+/// What `bridge` answers to the bytes.
+fn bridge_verdict(alloc: Global, bytes: &[u8]) -> Result<Verdict, NoMemory>
+    ensures { IfOk result (IsBridgeVerdict bytes.now) }
+{
+    match bridge_text::parse(alloc, bytes) {
+        Ok(_) => Ok(Verdict::Accepted),
+        Err(fault) => match Refusal::of_bridge(fault) {
+            Some(refusal) => Ok(Verdict::Refused(refusal)),
+            None => Err(NoMemory),
+        },
+    }
+}
+
+/// What the form answers to the bytes.
+pub fn verdict_of(alloc: Global, form: Form, bytes: &[u8]) -> Result<Verdict, NoMemory>
+    ensures { IfOk result (IsVerdict form bytes.now) }
+{
+    match form {
+        Form::Sim | Form::Run | Form::Config(_) => match scenario_of(alloc, bytes)? {
+            Ok(scenario) => Ok(scenario_verdict(form, &scenario)),
+            Err(refusal) => Ok(Verdict::Refused(refusal)),
+        },
+        Form::Record => record_verdict(alloc, bytes),
+        Form::Ports => ports_verdict(alloc, bytes),
+        Form::Bridge => bridge_verdict(alloc, bytes),
+        _ => Ok(Verdict::NotExplained),
+    }
+}

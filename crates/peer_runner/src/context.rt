@@ -1,0 +1,17 @@
+//! What the turns of an automatic peer use and leave as it is.
+use crate::words::Words;
+use doorbell_irq::Route;
+use std::alloc::Global;
+
+/// The surroundings of a running peer, which stay the same through all its turns.
+#[derive(Clone, Copy)]
+pub struct PeerContext<'a> {
+    /// The allocator of the lines that the peer records.
+    pub alloc: Global,
+    /// The words that all peers share.
+    pub words: &'a Words,
+    /// The number of the peer.
+    pub me: u32,
+    /// How doorbells reach each peer, by its number.
+    pub routes: &'a [Route],
+}

@@ -1,17 +1,18 @@
 -- The sizes that no region has (profile). Sizes are in bytes here.
 use Rattle.std.specs.Prelude.{◌≡◌, ℕ, ◌+◌, ◌*◌, ◌/◌, ◌%◌, ◌<◌, ◌≤◌}
 use Rattle.section_map.specs.Geometry.{Shape}
+use Rattle.section_map.specs.declared.limits.TheConstants.{LARGEST_REGION, LEAST_PEERS, MOST_PEERS, PAGE}
 use Rattle.section_map.specs.declared.sizes.Part.TheVariants.{Table, Common, Out}
 use Rattle.section_map.specs.declared.sizes.GeometryFault.{GeometryFault}
 use Rattle.section_map.specs.declared.sizes.GeometryFault.TheVariants.{BadPeers, BadPage, TableTooSmall, TooLarge}
 
--- A region serves 2 to 65,536 peers.
+-- The range of the number of peers of a region.
 abbrev pub IsPeerCount : ℕ → Type 0
-IsPeerCount peers = (2 ≤ peers) × (peers ≤ 65536)
+IsPeerCount peers = (LEAST_PEERS ≤ peers) × (peers ≤ MOST_PEERS)
 
--- The size is a whole number of pages of 4,096 bytes.
+-- The size is a whole number of pages.
 abbrev pub IsPages : ℕ → Type 0
-IsPages size = size % 4096 ≡ 0
+IsPages size = size % PAGE ≡ 0
 
 -- The size is a whole number of pages, and at least one. The State Table and the output sections
 -- need this.
@@ -45,4 +46,4 @@ IsFirstFault peers table common out (TableTooSmall need found) =
     × (table < 4 * peers) × (need ≡ 4 * peers) × (found ≡ table)
 IsFirstFault peers table common out (TooLarge bytes) =
     IsPeerCount peers × IsSomePages table × IsPages common × IsSomePages out × (4 * peers ≤ table)
-    × (16777216 < bytes) × (bytes ≡ byte_count peers table common out)
+    × (LARGEST_REGION < bytes) × (bytes ≡ byte_count peers table common out)

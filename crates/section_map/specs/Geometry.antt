@@ -1,6 +1,7 @@
 -- The sizes of a shared region (the device's specification, "Shared memory layout"). All sizes are
 -- in words of 4 bytes.
 use Rattle.std.specs.Prelude.{◌≡◌, ℕ, ◌+◌, ◌*◌, ◌%◌, ◌≤◌, List, length}
+use Rattle.section_map.specs.declared.limits.TheConstants.{LEAST_PEERS, MOST_PEERS, PAGE_WORDS, REGION_WORDS}
 
 -- The number of peers that a region serves, and the sizes of its State Table, of its common section
 -- and of each peer's output section.
@@ -19,18 +20,18 @@ section_start g peer = g.table + g.common + peer * g.out
 abbrev pub word_count : Shape → ℕ
 word_count g = g.table + g.common + g.peers * g.out
 
--- The invariant of a geometry (profile). Sizes are whole pages of 1,024 words, and the State Table
--- and the output sections have at least one page. A region has at most 4,194,304 words.
+-- The invariant of a geometry (profile). Sizes are whole pages, and the State Table and the output
+-- sections have at least one page.
 pub record IsShape (g : Shape) : Type 0 where
-  pub two_peers : 2 ≤ g.peers
-  pub most_peers : g.peers ≤ 65536
-  pub table_page : 1024 ≤ g.table
-  pub table_pages : g.table % 1024 ≡ 0
-  pub common_pages : g.common % 1024 ≡ 0
-  pub out_page : 1024 ≤ g.out
-  pub out_pages : g.out % 1024 ≡ 0
+  pub two_peers : LEAST_PEERS ≤ g.peers
+  pub most_peers : g.peers ≤ MOST_PEERS
+  pub table_page : PAGE_WORDS ≤ g.table
+  pub table_pages : g.table % PAGE_WORDS ≡ 0
+  pub common_pages : g.common % PAGE_WORDS ≡ 0
+  pub out_page : PAGE_WORDS ≤ g.out
+  pub out_pages : g.out % PAGE_WORDS ≡ 0
   pub states : g.peers ≤ g.table
-  pub room : word_count g ≤ 4194304
+  pub room : word_count g ≤ REGION_WORDS
 
 -- A region: its words, from its base upwards, and its sizes.
 pub record Words : Type 0 where

@@ -1,7 +1,7 @@
 -- Laws of every region, for all sizes.
-use Rattle.std.specs.Prelude.{◌≡◌, ◌≢◌, ℕ, ◌<◌}
+use Rattle.std.specs.Prelude.{◌≡◌, ◌≢◌, ℕ, ◌<◌, ◌↔◌, IsTrue}
 use Rattle.section_map.specs.Geometry.{Shape, word_count}
-use Rattle.section_map.specs.MayWrite.{InSection, InCommon, InTable, MayWrite, IsSectionOf}
+use Rattle.section_map.specs.MayWrite.{InSection, InCommon, InTable, MayWrite, may_write, IsSectionOf}
 use Rattle.section_map.specs.declared.sizes.Section.{Section}
 
 -- Two different peers' output sections share no word.
@@ -23,3 +23,7 @@ SharesCommon g = (p q word : ℕ) → p ≢ q → MayWrite g p word → MayWrite
 -- A word is in one section alone.
 abbrev pub LiesInOne : Shape → Type 0
 LiesInOne g = (word : ℕ) (s t : Section) → IsSectionOf g word s → IsSectionOf g word t → s ≡ t
+
+-- The test decides which words a peer may write.
+abbrev pub TestDecidesWrites : Type 0
+TestDecidesWrites = (g : Shape) (peer word : ℕ) → IsTrue (may_write g peer word) ↔ MayWrite g peer word

@@ -17,9 +17,11 @@
 #![tactic(auto)]
 
 mod laws;
+mod limits;
 mod regions;
 mod sizes;
 
-pub use laws::sections_stand_apart;
+pub use laws::{sections_stand_apart, test_decides_writes};
+pub use limits::{LARGEST_REGION, LEAST_PEERS, MOST_PEERS, PAGE, PAGE_WORDS, REGION_WORDS};
 pub use regions::{Denied, Outside, Region};
 pub use sizes::{Geometry, GeometryFault, Part, Section};

@@ -4,17 +4,9 @@ ghost use Rattle.section_map.specs.Geometry.{Shape, IsShape, section_start, word
 ghost use Rattle.section_map.specs.MayWrite.{MayWrite, IsSectionOf};
 ghost use Rattle.section_map.specs.Faults.{IsFirstFault, IsPages, IsSomePages, shape_of};
 
+use crate::limits::{LARGEST_REGION, LEAST_PEERS, MOST_PEERS, PAGE};
 use std::marker::Model;
 use thiserror::Error;
-
-/// The length in bytes of a page. Every size is a whole number of pages (profile).
-const PAGE: u64 = 4096;
-
-/// The greatest number of peers of a region.
-const MOST_PEERS: u32 = 65_536;
-
-/// The greatest length in bytes of a region, which is 4,194,304 words (profile).
-const MOST_BYTES: u128 = 16_777_216;
 
 /// A part of a region whose size is an argument of `new`.
 #[derive(Clone, Copy, Debug, PartialEq, Eq)]
@@ -81,7 +73,7 @@ impl Model for Geometry {
 fn is_pages(size: u64) -> bool
     ensures { IsTrue result ↔ IsPages size }
 {
-    size % PAGE == 0
+    size % u64::from(PAGE) == 0
 }
 
 /// Whether the size is a whole number of pages, and at least one.
@@ -102,7 +94,7 @@ impl Geometry {
         ensures pages { IfOk result (λ _. IsSomePages table × IsPages common × IsSomePages out) }
         ensures fault { IfErr result (IsFirstFault peers table common out) }
     {
-        if !(2..=MOST_PEERS).contains(&peers) {
+        if !(LEAST_PEERS..=MOST_PEERS).contains(&peers) {
             return Err(GeometryFault::BadPeers(peers));
         }
         if !is_some_pages(u64::from(table)) {
@@ -128,7 +120,7 @@ impl Geometry {
             return Err(GeometryFault::TableTooSmall { need, found: table });
         }
         let bytes = u128::from(table) + u128::from(common) + u128::from(peers) * u128::from(out);
-        if bytes > MOST_BYTES {
+        if bytes > u128::from(LARGEST_REGION) {
             return Err(GeometryFault::TooLarge { bytes });
         }
         Ok(Geometry {

@@ -3,3 +3,4 @@ pub mod Frames
 pub mod Keeps
 pub mod Places
 pub mod QueueSizes
+pub mod Tests

@@ -1,12 +1,13 @@
 -- The conditions under which a section and an MTU have no queue.
 use Rattle.std.specs.Prelude.{◌≡◌, ℕ, ◌<◌, ◌≤◌, None, IsSome}
 use Rattle.split_ring.specs.Layout.{Sizes, queue_size, slot_of, data_area_len}
+use Rattle.split_ring.specs.declared.sizes.TheConstants.{LEAST_MTU, MOST_MTU}
 use Rattle.split_ring.specs.declared.faults.QueueFault.{QueueFault}
 use Rattle.split_ring.specs.declared.faults.QueueFault.TheVariants.{BadMtu, TooSmall, NoSlot}
 
--- An MTU is 256 to 65,535 (profile).
+-- The range of an MTU (profile).
 abbrev pub IsMtu : ℕ → Type 0
-IsMtu mtu = (256 ≤ mtu) × (mtu ≤ 65535)
+IsMtu mtu = (LEAST_MTU ≤ mtu) × (mtu ≤ MOST_MTU)
 
 -- The fault is the first of three tests that fails: the MTU, then a queue size that fits, then a
 -- slot in the data area.

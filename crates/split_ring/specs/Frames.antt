@@ -4,6 +4,7 @@
 -- Source: profile. `length_of k` is the length in bytes of the session's frame with number k.
 use Rattle.std.specs.Prelude.{◌≡◌, ℕ, zero, suc, ◌+◌, ◌-◌, ◌*◌, ◌/◌, ◌%◌, ◌<◌, ◌≤◌, ◌⊎◌, Bool, true, false, ◌&&◌, ◌||◌, not, nat_lt, nat_le, if◌then◌else◌}
 use Rattle.ivs_base.specs.Numbers.{up64}
+use Rattle.split_ring.specs.declared.sizes.TheConstants.{FRAME_OVERHEAD}
 use Rattle.split_ring.specs.Layout.{Sizes, IsQueue, FrameSlot, is_byte_ring, data_area_len, slot_of, limit_of, data_area_start, offset_of}
 
 -- The footprint of a frame of `bytes` bytes, in bytes: a slot, or in a byte ring the next multiple
@@ -51,8 +52,8 @@ has_room q length_of freed number =
 pub record IsPlaced (q : Sizes) (length_of : ℕ → ℕ) (k : ℕ) : Type 0 where
   pub even : start_of q length_of k % 4 ≡ 0
   pub after : data_area_start q ≤ start_of q length_of k
-  pub holds : length_of k ≤ q.mtu + 18 → 4 * ((length_of k + 3) / 4) ≤ footprint_of q (length_of k)
-  pub inside : length_of k ≤ q.mtu + 18 → start_of q length_of k + footprint_of q (length_of k) ≤ q.out
+  pub holds : length_of k ≤ q.mtu + FRAME_OVERHEAD → 4 * ((length_of k + 3) / 4) ≤ footprint_of q (length_of k)
+  pub inside : length_of k ≤ q.mtu + FRAME_OVERHEAD → start_of q length_of k + footprint_of q (length_of k) ≤ q.out
 
 -- The place of a frame depends only on the lengths up to its own. If a frame fits, the number of
 -- frames in flight is below the limit, and no frame in flight shares a byte of its footprint. With

@@ -5,6 +5,8 @@
 -- frames in flight.
 use Rattle.std.specs.Prelude.{◌≡◌, ℕ, ◌+◌, ◌-◌, ◌*◌, ◌/◌, ◌%◌, ◌^◌, ◌<◌, ◌≤◌, min, List, [], ◌∷◌, Bool, Option, Some, find, nat_lt, nat_le, if◌then◌else◌, unwrap_or, MatchOption}
 use Rattle.ivs_base.specs.Numbers.{up64}
+use Rattle.section_map.specs.declared.limits.TheConstants.{LARGEST_REGION}
+use Rattle.split_ring.specs.declared.sizes.TheConstants.{FRAME_OVERHEAD, LEAST_MTU, LEAST_QUEUE, MOST_MTU, MOST_QUEUE}
 
 -- The numbers that determine the layout: the version of the link, the length in bytes of an output
 -- section, and the MTU.
@@ -65,10 +67,10 @@ data_area_start q = rings_len (size_of q)
 abbrev pub data_area_len : Sizes → ℕ
 data_area_len q = q.out - data_area_start q
 
--- The length in bytes of a slot, which holds the longest frame: 18 bytes more than the MTU, rounded
--- up to a multiple of 64.
+-- The length in bytes of a slot, which holds the longest frame of the MTU, rounded up to a multiple
+-- of 64.
 abbrev pub slot_of : Sizes → ℕ
-slot_of q = up64 (18 + q.mtu)
+slot_of q = up64 (FRAME_OVERHEAD + q.mtu)
 
 -- The number of slots: as many as the data area holds, and at most the number of descriptors.
 unfoldable pub slots_of : Sizes → ℕ
@@ -82,9 +84,9 @@ limit_of q = if is_byte_ring q then size_of q else slots_of q
 -- The sizes of a queue: the version is known, a queue size fits, and the data area holds a slot.
 pub record IsQueue (q : Sizes) : Type 0 where
   pub known : IsVersion q.version
-  pub mtu_least : 256 ≤ q.mtu
-  pub mtu_most : q.mtu ≤ 65535
-  pub section : q.out ≤ 2 ^ 24
+  pub mtu_least : LEAST_MTU ≤ q.mtu
+  pub mtu_most : q.mtu ≤ MOST_MTU
+  pub section : q.out ≤ LARGEST_REGION
   pub fits : queue_size q.out ≡ Some (size_of q)
   pub one_slot : slot_of q ≤ data_area_len q
 
@@ -180,8 +182,8 @@ pub record IsLaidOut (q : Sizes) : Type 0 where
 -- The bounds of a queue's numbers. The queue size divides 65,536, so an index that wraps from
 -- 65,535 to 0 moves from the last entry to the first.
 pub record HasBounds (q : Sizes) : Type 0 where
-  pub size_least : 64 ≤ size_of q
-  pub size_most : size_of q ≤ 4096
+  pub size_least : LEAST_QUEUE ≤ size_of q
+  pub size_most : size_of q ≤ MOST_QUEUE
   pub size_whole : size_of q % 64 ≡ 0
   pub turns : 65536 % size_of q ≡ 0
   pub limit_least : 0 < limit_of q

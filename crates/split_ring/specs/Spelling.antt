@@ -18,6 +18,10 @@ high_half word = word / 65536
 abbrev pub entry_half : ℕ → ℕ → ℕ
 entry_half k word = (if k % 2 == 0 then low_half word else high_half word)
 
+-- The flags of a descriptor are the low half of their word.
+abbrev pub desc_flags : ℕ → ℕ
+desc_flags word = low_half word
+
 -- In the following definitions, `words` gives the value of each word of a section, by its number
 -- from the start of the section.
 
@@ -39,7 +43,7 @@ length_at q words i = words (word_offset q (DescLength i))
 
 -- The flags of descriptor i.
 abbrev pub flags_at : Sizes → (ℕ → ℕ) → ℕ → ℕ
-flags_at q words i = low_half (words (word_offset q (DescFlags i)))
+flags_at q words i = desc_flags (words (word_offset q (DescFlags i)))
 
 -- The used index.
 abbrev pub used_index : Sizes → (ℕ → ℕ) → ℕ

@@ -1,15 +1,17 @@
 //! The layout of an output section: the offset of each field.
-ghost use Rattle.std.specs.Prelude.{◌≡◌, ◌+◌, ◌*◌, ◌/◌, ◌%◌, ◌<◌, ◌≤◌, ◌^◌, nat_le, min, cond, IfOk, IfErr};
+ghost use Rattle.std.specs.Prelude.{◌≡◌, ◌+◌, ◌*◌, ◌/◌, ◌%◌, ◌<◌, ◌≤◌, nat_le, min, cond, IfOk, IfErr};
 ghost use Rattle.split_ring.specs.Layout.{used_ring_offset, rings_len, queue_size, Sizes, IsVersion, has_events, is_byte_ring, size_of, data_area_start, data_area_len, slot_of, limit_of, IsQueue, HasBounds, word_offset, DescAddress, AvailIndex, AvailEntry, UsedEvent, UsedIndex, UsedId, AvailEvent, QueueSizeIsGreatest, QueuesAreLaidOut};
 ghost use Rattle.split_ring.specs.Faults.{IsQueueFault};
 ghost use Rattle.split_ring.specs.Frames.{FramesAreLaidOut};
 
 use crate::QueueFault;
+use crate::sizes::{FRAME_OVERHEAD, LEAST_MTU, LEAST_QUEUE, MOST_MTU, MOST_QUEUE};
 use ivs_base::up64;
+use section_map::LARGEST_REGION;
 use std::marker::Model;
 
 /// The queue sizes, in descending order.
-const SIZES: [u32; 7] = [4096, 2048, 1024, 512, 256, 128, 64];
+const SIZES: [u32; 7] = [MOST_QUEUE, 2048, 1024, 512, 256, 128, LEAST_QUEUE];
 
 /// The queue of a link, from the link's version, the length in bytes of an output section and the
 /// MTU: the queue size and the offset of each field.
@@ -45,16 +47,16 @@ impl Model for Queue {
 
 impl Queue {
     /// Returns the queue of a link of version 1, in sections of `out` bytes, for frames of at most
-    /// `mtu` + 18 bytes.
+    /// `mtu` + `FRAME_OVERHEAD` bytes.
     ///
-    /// The error is the first test that fails. It is `BadMtu` if the MTU isn't 256 to 65,535,
-    /// `TooSmall` if no queue size fits the section, `NoSlot` if the data area is shorter than a
+    /// The error is the first test that fails. It is `BadMtu` if the MTU isn't `LEAST_MTU` to
+    /// `MOST_MTU`, `TooSmall` if no queue size fits the section, `NoSlot` if the data area is shorter than a
     /// slot.
     // claim queue, fault with Queue::of_version.queue, Queue::of_version.fault: A queue is made
     //    exactly if the MTU, a queue size and a slot fit, tested in this order; otherwise the first
     //    fault is returned with its numbers. The queue has the version asked for.
     pub fn of(out: u64, mtu: u32) -> Result<Queue, QueueFault>
-        requires { out ≤ 2 ^ 24 }
+        requires { out ≤ LARGEST_REGION }
         ensures queue { IfOk result (λ q. (q ≡ record { version = 1; out = out; mtu = mtu }) × IsQueue q) }
         ensures fault { IfErr result (IsQueueFault (record { version = 1; out = out; mtu = mtu })) }
     {
@@ -66,18 +68,18 @@ impl Queue {
     /// a byte ring instead of slots.
     pub fn of_version(version: u32, out: u64, mtu: u32) -> Result<Queue, QueueFault>
         requires known { IsVersion version }
-        requires section { out ≤ 2 ^ 24 }
+        requires section { out ≤ LARGEST_REGION }
         ensures queue { IfOk result (λ q. (q ≡ record { version = version; out = out; mtu = mtu }) × IsQueue q) }
         ensures fault { IfErr result (IsQueueFault (record { version = version; out = out; mtu = mtu })) }
     {
-        if !(256..=65_535).contains(&mtu) {
+        if !(LEAST_MTU..=MOST_MTU).contains(&mtu) {
             return Err(QueueFault::BadMtu(mtu));
         }
         let Some(size) = queue_size(out) else {
             return Err(QueueFault::TooSmall(out));
         };
         let payload = ring_part(size);
-        let slot = up64(18 + u64::from(mtu)) as u32;
+        let slot = up64(FRAME_OVERHEAD + u64::from(mtu)) as u32;
         let out = out as u32;
         let room = out - payload;
         if room < slot {
@@ -154,7 +156,7 @@ impl Queue {
         self.limit
     }
 
-    /// Returns the MTU. A frame has at most 18 bytes more.
+    /// Returns the MTU. A frame has at most `FRAME_OVERHEAD` bytes more.
     pub fn mtu(&self) -> u32
         ensures value { result ≡ self.now.mtu }
         ensures queue { IsQueue self.now }
@@ -264,7 +266,7 @@ fn limit(version: u32, size: u32, slots: u32) -> u32
 
 /// Returns the offset in bytes of the used ring of a queue of `size`.
 fn used_place(size: u32) -> u32
-    requires { size ≤ 4096 }
+    requires { size ≤ MOST_QUEUE }
     ensures { result ≡ used_ring_offset size }
 {
     up64(u64::from(18 * size + 6)) as u32
@@ -272,7 +274,7 @@ fn used_place(size: u32) -> u32
 
 /// Returns the length in bytes of the descriptors and rings of a queue of `size`.
 fn ring_part(size: u32) -> u32
-    requires { size ≤ 4096 }
+    requires { size ≤ MOST_QUEUE }
     ensures { result ≡ rings_len size }
 {
     up64(u64::from(used_place(size) + 6 + 8 * size)) as u32
@@ -282,7 +284,7 @@ fn ring_part(size: u32) -> u32
 /// section of `out` bytes.
 #[tactic(auto, unfolding(crate::specs::Layout::queue_size))]
 fn queue_size(out: u64) -> Option<u32>
-    requires { out ≤ 2 ^ 24 }
+    requires { out ≤ LARGEST_REGION }
     ensures { result ≡ queue_size out }
 {
     SIZES

@@ -1,8 +1,8 @@
 //! The split virtqueue of an output section: the offset of each field, the range of each foreign
-//! field, and the steps that engines make over it. The crate uses `ivs_base` for numbers and
-//! `arrayvec` for the notes of a step. Its contracts promise that `specs/Layout` defines the queue
-//! size and each offset. They promise that a check refuses a value exactly if it is outside the
-//! field's range in `specs/Ranges`.
+//! field, and the steps that engines make over it. The crate uses `ivs_base` for numbers,
+//! `section_map` for the greatest length of a region, and `arrayvec` for the notes of a step. Its
+//! contracts promise that `specs/Layout` defines the queue size and each offset. They promise that
+//! a check refuses a value exactly if it is outside the field's range in `specs/Ranges`.
 //!
 //! # Design
 //!
@@ -23,15 +23,23 @@
 //! - A `Queue` stores every number of its layout, and a contract sees the three from which they
 //!   follow (`specs/Representation`). These three determine the value, so it can be `Copy` and have
 //!   `==`.
+//! - Each range is a fact and a test in `specs/Ranges`. The grammar of calls, the reference programs
+//!   and the proofs of the crates above cite these, so a range is changed there and in its check.
 //! - `specs/Spelling` defines the frame that the words of a foreign section hold at a position. It
 //!   serves other crates; no function of this one cites it.
 #![tactic(auto)]
 
 mod faults;
+mod halves;
 mod layout;
 mod ranges;
+mod sizes;
 pub mod steps;
 
 pub use faults::QueueFault;
+pub use halves::{desc_flags, entry_half, high_half, low_half, of_halves};
 pub use layout::{Queue, frames_are_laid_out, queue_size_is_greatest, queues_are_laid_out};
-pub use ranges::{FieldName, Refused, need_event};
+pub use ranges::{FieldName, Refused, need_event, tests_decide_ranges};
+pub use sizes::{
+    FRAME_OVERHEAD, LEAST_MTU, LEAST_QUEUE, LONGEST_FRAME, MOST_MTU, MOST_QUEUE, SHORTEST_FRAME,
+};

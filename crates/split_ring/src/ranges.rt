@@ -1,9 +1,10 @@
 //! The ranges of the fields that the other peer writes.
 ghost use Rattle.std.specs.Prelude.{◌≡◌, ◌↔◌, IsTrue, IfOk, IfErr, OnOk};
 ghost use Rattle.ivs_base.specs.Numbers.{distance};
-ghost use Rattle.split_ring.specs.Ranges.{IsAvailIndex, IsAvailEntry, IsDescAddress, IsDescLength, IsDescFlags, IsUsedIndex, IsUsedId, needs_event};
+ghost use Rattle.split_ring.specs.Ranges.{IsAvailIndex, IsAvailEntry, IsDescAddress, IsDescLength, IsDescFlags, IsUsedIndex, IsUsedId, TestsDecideRanges, needs_event};
 
 use crate::Queue;
+use crate::sizes::{LONGEST_FRAME, SHORTEST_FRAME};
 use ivs_base::distance;
 use thiserror::Error;
 
@@ -115,7 +116,7 @@ impl Queue {
             × (r ≡ record { field = FieldName.DescLength; value = length })) }
     {
         let end = u64::from(address) + u64::from(length);
-        if !(14..=65_553).contains(&length) || end > u64::from(self.out()) {
+        if !(SHORTEST_FRAME..=LONGEST_FRAME).contains(&length) || end > u64::from(self.out()) {
             return Err(Refused::of(FieldName::DescLength, u64::from(length)));
         }
         Ok(length)
@@ -145,6 +146,12 @@ impl Queue {
         Ok(())
     }
 }
+
+/// Law: the test of each field's range decides whether a value is in it.
+// claim: The tests that the calls are defined by are the ranges that the checks refuse by.
+pub fn tests_decide_ranges()
+    ensures { TestsDecideRanges }
+{}
 
 /// Whether the other peer's event index wants a notification when the own index moves from `old` to
 /// `new` (VIRTIO 1.1, 2.6.7.2).

@@ -1,18 +1,19 @@
 -- The places of a call follow its tree.
 use Rattle.std.proofs.Common.{◌≡◌, ℕ, zero, suc, ◌+◌, ◌-◌, Bool, true, false, List, [], ◌∷◌, ◌++◌, length, refl, sym, subst, ◌∙◌}
-use Rattle.std.specs.Prelude.{◌==◌, nat_le, if◌then◌else◌}
+use Rattle.std.specs.Prelude.{◌==◌, if◌then◌else◌, ◌%◌}
 use Rattle.link_handshake.specs.declared.Move.{Move}
 use Rattle.link_handshake.specs.declared.Move.TheVariants.{Stay, Set, ClearThenSet}
 use Rattle.link_handshake.specs.HandshakeState.{move_of}
-use Rattle.split_ring.specs.Layout.{has_events, size_of}
-use Rattle.split_ring.specs.Spelling.{low_half, entry_half}
+use Rattle.split_ring.specs.Layout.{has_events}
+use Rattle.split_ring.specs.Spelling.{low_half, entry_half, high_half, desc_flags}
+use Rattle.split_ring.specs.Ranges.{is_avail_entry, is_desc_address, is_desc_length, is_avail_index, is_desc_flags, is_used_index, is_used_id}
 use Rattle.call_grammar.specs.Steps.{Step}
 use Rattle.call_grammar.specs.Trees.{CallTree, Ended, Goes}
 use Rattle.call_grammar.specs.Ends.{End}
 use Rattle.call_grammar.specs.Words.{address_of, words_for}
 use Rattle.call_grammar.specs.Ticks.{EndConfig, clear, set_state, after_tick}
 use Rattle.call_grammar.specs.Offers.{PendingOffer, frame_fits, descriptor_of, avail_entry_of, wants_doorbell, notify, write_frame_words, read_used_ids, returned_by}
-use Rattle.call_grammar.specs.Polls.{is_entry, is_address, is_length, read_words, items, published_by, is_last, write_avail_event, read_avail_index, poll}
+use Rattle.call_grammar.specs.Polls.{read_words, items, published_by, is_last, write_avail_event, read_avail_index, poll}
 use Rattle.call_grammar.specs.Calls.{Call, Tick, Stop, Offer, Poll, in_run, pending_of, tree_of}
 use Rattle.call_grammar.specs.Places.{Place, Closed, ReadingOtherState, Clearing, WritingState, Refusing, NotInRun, ReadingUsedIndex, ReadingUsedId, WritingFrameWord, WritingDescAddressLow, WritingDescAddressHigh, WritingDescLength, WritingDescFlags, WritingAvailEntry, WritingAvailIndex, ReadingAvailEvent, RingingOffer, ReadingAvailIndex, WritingAvailEvent, ReadingAvailEntry, ReadingDescAddressLow, ReadingDescAddressHigh, ReadingDescLength, ReadingDescFlags, ReadingFrameWord, WritingUsedId, WritingUsedLength, WritingUsedIndex, RingingPoll, remaining, clear_place, tick_place, fill_place, ids_place, notify_place, none_place, items_place, words_place, first_place, next_place, step_at, is_open, PlacesFollowTrees}
 
@@ -82,14 +83,14 @@ look_goes : (config : EndConfig) (taken : ℕ) (last : Bool) (step : Step) (left
 look_goes config taken last step left g = (
   g.0,
   g.1,
-  g.2 ∙ going_on config (nat_le (published_by taken g.0) (size_of config.sizes)) (if published_by taken g.0 == 0 then none_place taken last else items_place taken (published_by taken g.0)) _ (look_left config taken last g.0),
+  g.2 ∙ going_on config (is_avail_index config.sizes (taken % 65536) (high_half g.0)) (if published_by taken g.0 == 0 then none_place taken last else items_place taken (published_by taken g.0)) _ (look_left config taken last g.0),
 )
 
 look_comes : (config : EndConfig) (taken : ℕ) (last : Bool) (value : ℕ) → Goes (read_avail_index config taken last (after_none config taken last)) (step_at config (ReadingAvailIndex taken last) value) (remaining config (next_place config (ReadingAvailIndex taken last) value))
 look_comes config taken last value = (
   value,
   refl,
-  sym (going_on config (nat_le (published_by taken value) (size_of config.sizes)) (if published_by taken value == 0 then none_place taken last else items_place taken (published_by taken value)) _ (look_left config taken last value)),
+  sym (going_on config (is_avail_index config.sizes (taken % 65536) (high_half value)) (if published_by taken value == 0 then none_place taken last else items_place taken (published_by taken value)) _ (look_left config taken last value)),
 )
 
 goes_lem : (config : EndConfig) (place : Place) (step : Step) (left : CallTree) → Goes (remaining config place) step left → (value : ℕ) × (step ≡ step_at config place value) × (left ≡ remaining config (next_place config place value))
@@ -99,8 +100,8 @@ goes_lem config (Clearing at more state) step left g = (0, g.0, g.1 ∙ sym (cle
 goes_lem config (WritingState state) step left g = (0, g.0, g.1)
 goes_lem config Refusing step left g = (0, g.0, g.1)
 goes_lem config NotInRun step left g = (0, g.0, g.1)
-goes_lem config (ReadingUsedIndex pending freed) step left g = (g.0, g.1, g.2 ∙ going_on config (nat_le (returned_by freed g.0) (pending.number - freed)) (ids_place config pending freed (returned_by freed g.0)) _ (ids_left config pending freed (returned_by freed g.0)))
-goes_lem config (ReadingUsedId pending freed more) step left g = (g.0, g.1, g.2 ∙ going_on config (g.0 == descriptor_of config freed) (ids_place config pending (freed + 1) more) _ (ids_left config pending (freed + 1) more))
+goes_lem config (ReadingUsedIndex pending freed) step left g = (g.0, g.1, g.2 ∙ going_on config (is_used_index (freed % 65536) (high_half g.0) (pending.number - freed)) (ids_place config pending freed (returned_by freed g.0)) _ (ids_left config pending freed (returned_by freed g.0)))
+goes_lem config (ReadingUsedId pending freed more) step left g = (g.0, g.1, g.2 ∙ going_on config (is_used_id (descriptor_of config freed) g.0) (ids_place config pending (freed + 1) more) _ (ids_left config pending (freed + 1) more))
 goes_lem config (WritingFrameWord pending at more) step left g = (0, g.0, g.1 ∙ sym (fill_left config pending (at + 1) more))
 goes_lem config (WritingDescAddressLow pending) step left g = (0, g.0, g.1)
 goes_lem config (WritingDescAddressHigh pending) step left g = (0, g.0, g.1)
@@ -112,11 +113,11 @@ goes_lem config (ReadingAvailEvent number) step left g = (g.0, g.1, g.2 ∙ sym 
 goes_lem config RingingOffer step left g = (0, g.0, g.1)
 goes_lem config (ReadingAvailIndex taken last) step left g = look_goes config taken last step left (subst (λ (t : CallTree). Goes t step left) (poll_is config taken last) g)
 goes_lem config (WritingAvailEvent taken) step left g = (0, g.0, g.1)
-goes_lem config (ReadingAvailEntry number more) step left g = (g.0, g.1, g.2 ∙ going_on config (is_entry config.sizes (entry_half (avail_entry_of config number) g.0)) (ReadingDescAddressLow number more (entry_half (avail_entry_of config number) g.0)) _ refl)
+goes_lem config (ReadingAvailEntry number more) step left g = (g.0, g.1, g.2 ∙ going_on config (is_avail_entry config.sizes (entry_half (avail_entry_of config number) g.0)) (ReadingDescAddressLow number more (entry_half (avail_entry_of config number) g.0)) _ refl)
 goes_lem config (ReadingDescAddressLow number more entry) step left g = g
-goes_lem config (ReadingDescAddressHigh number more entry low) step left g = (g.0, g.1, g.2 ∙ going_on config (is_address config.sizes (address_of low g.0)) (ReadingDescLength number more entry (address_of low g.0)) _ refl)
-goes_lem config (ReadingDescLength number more entry address) step left g = (g.0, g.1, g.2 ∙ going_on config (is_length config.sizes address g.0) (ReadingDescFlags number more entry address g.0) _ refl)
-goes_lem config (ReadingDescFlags number more entry address bytes) step left g = (g.0, g.1, g.2 ∙ going_on config (low_half g.0 == 0) (words_place number more entry address bytes [] (words_for bytes)) _ (words_left config number more entry address bytes [] (words_for bytes)))
+goes_lem config (ReadingDescAddressHigh number more entry low) step left g = (g.0, g.1, g.2 ∙ going_on config (is_desc_address config.sizes (address_of low g.0)) (ReadingDescLength number more entry (address_of low g.0)) _ refl)
+goes_lem config (ReadingDescLength number more entry address) step left g = (g.0, g.1, g.2 ∙ going_on config (is_desc_length config.sizes address g.0) (ReadingDescFlags number more entry address g.0) _ refl)
+goes_lem config (ReadingDescFlags number more entry address bytes) step left g = (g.0, g.1, g.2 ∙ going_on config (is_desc_flags (desc_flags g.0)) (words_place number more entry address bytes [] (words_for bytes)) _ (words_left config number more entry address bytes [] (words_for bytes)))
 goes_lem config (ReadingFrameWord number more entry address bytes read words) step left g = (g.0, g.1, g.2 ∙ sym (words_left config number more entry address bytes (read ++ g.0 ∷ []) words))
 goes_lem config (WritingUsedId number more entry) step left g = (0, g.0, g.1)
 goes_lem config (WritingUsedLength number more) step left g = (0, g.0, g.1)
@@ -130,8 +131,8 @@ comes_lem config (Clearing at more state) value is = (refl, clear_left config (a
 comes_lem config (WritingState state) value is = (refl, refl)
 comes_lem config Refusing value is = (refl, refl)
 comes_lem config NotInRun value is = (refl, refl)
-comes_lem config (ReadingUsedIndex pending freed) value is = (value, refl, sym (going_on config (nat_le (returned_by freed value) (pending.number - freed)) (ids_place config pending freed (returned_by freed value)) _ (ids_left config pending freed (returned_by freed value))))
-comes_lem config (ReadingUsedId pending freed more) value is = (value, refl, sym (going_on config (value == descriptor_of config freed) (ids_place config pending (freed + 1) more) _ (ids_left config pending (freed + 1) more)))
+comes_lem config (ReadingUsedIndex pending freed) value is = (value, refl, sym (going_on config (is_used_index (freed % 65536) (high_half value) (pending.number - freed)) (ids_place config pending freed (returned_by freed value)) _ (ids_left config pending freed (returned_by freed value))))
+comes_lem config (ReadingUsedId pending freed more) value is = (value, refl, sym (going_on config (is_used_id (descriptor_of config freed) value) (ids_place config pending (freed + 1) more) _ (ids_left config pending (freed + 1) more)))
 comes_lem config (WritingFrameWord pending at more) value is = (refl, fill_left config pending (at + 1) more)
 comes_lem config (WritingDescAddressLow pending) value is = (refl, refl)
 comes_lem config (WritingDescAddressHigh pending) value is = (refl, refl)
@@ -143,11 +144,11 @@ comes_lem config (ReadingAvailEvent number) value is = (value, refl, chosen conf
 comes_lem config RingingOffer value is = (refl, refl)
 comes_lem config (ReadingAvailIndex taken last) value is = subst (λ (t : CallTree). Goes t (step_at config (ReadingAvailIndex taken last) value) (remaining config (next_place config (ReadingAvailIndex taken last) value))) (sym (poll_is config taken last)) (look_comes config taken last value)
 comes_lem config (WritingAvailEvent taken) value is = (refl, refl)
-comes_lem config (ReadingAvailEntry number more) value is = (value, refl, sym (going_on config (is_entry config.sizes (entry_half (avail_entry_of config number) value)) (ReadingDescAddressLow number more (entry_half (avail_entry_of config number) value)) _ refl))
+comes_lem config (ReadingAvailEntry number more) value is = (value, refl, sym (going_on config (is_avail_entry config.sizes (entry_half (avail_entry_of config number) value)) (ReadingDescAddressLow number more (entry_half (avail_entry_of config number) value)) _ refl))
 comes_lem config (ReadingDescAddressLow number more entry) value is = (value, refl, refl)
-comes_lem config (ReadingDescAddressHigh number more entry low) value is = (value, refl, sym (going_on config (is_address config.sizes (address_of low value)) (ReadingDescLength number more entry (address_of low value)) _ refl))
-comes_lem config (ReadingDescLength number more entry address) value is = (value, refl, sym (going_on config (is_length config.sizes address value) (ReadingDescFlags number more entry address value) _ refl))
-comes_lem config (ReadingDescFlags number more entry address bytes) value is = (value, refl, sym (going_on config (low_half value == 0) (words_place number more entry address bytes [] (words_for bytes)) _ (words_left config number more entry address bytes [] (words_for bytes))))
+comes_lem config (ReadingDescAddressHigh number more entry low) value is = (value, refl, sym (going_on config (is_desc_address config.sizes (address_of low value)) (ReadingDescLength number more entry (address_of low value)) _ refl))
+comes_lem config (ReadingDescLength number more entry address) value is = (value, refl, sym (going_on config (is_desc_length config.sizes address value) (ReadingDescFlags number more entry address value) _ refl))
+comes_lem config (ReadingDescFlags number more entry address bytes) value is = (value, refl, sym (going_on config (is_desc_flags (desc_flags value)) (words_place number more entry address bytes [] (words_for bytes)) _ (words_left config number more entry address bytes [] (words_for bytes))))
 comes_lem config (ReadingFrameWord number more entry address bytes read words) value is = (value, refl, words_left config number more entry address bytes (read ++ value ∷ []) words)
 comes_lem config (WritingUsedId number more entry) value is = (refl, refl)
 comes_lem config (WritingUsedLength number more) value is = (refl, refl)

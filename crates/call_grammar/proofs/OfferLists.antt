@@ -1,12 +1,13 @@
 -- An offer as a tree and as a list.
 use Rattle.std.proofs.Common.{◌≡◌, ◌≢◌, ℕ, zero, suc, ◌+◌, ◌-◌, ◌<◌, ◌≤◌, ◌⊎◌, inl, inr, Bool, true, false, List, [], ◌∷◌, ◌++◌, length, refl, sym, ap, ◌∙◌, subst, arith, eq-eqb, ne_eqb}
-use Rattle.std.specs.Prelude.{◌==◌, nat_le, if◌then◌else◌}
+use Rattle.std.specs.Prelude.{◌==◌, nat_le, if◌then◌else◌, ◌%◌}
 use Rattle.std.proofs.lemmas.Bool.Decides.{nat_tests}
 use mathlib.Core.Logic.{dite}
 use native.Mathlib.Decide.{dec_lt}
 use Rattle.split_ring.specs.declared.ranges.FieldName.TheVariants as field_name
 use Rattle.split_ring.specs.Layout.{has_events}
 use Rattle.split_ring.specs.Spelling.{low_half, high_half}
+use Rattle.split_ring.specs.Ranges.{is_used_index, is_used_id}
 use Rattle.call_grammar.specs.Steps.{Step, Mark, Full, Over}
 use Rattle.call_grammar.specs.Trees.{CallTree, Ended, Makes}
 use Rattle.call_grammar.specs.Ticks.{EndConfig, set_state, state_step}
@@ -120,7 +121,7 @@ id_before config pending freed more total step steps value same first bad =
     let tail = bad.6 in inr (suc bad.0, bad.1, bad.2, (let e = bad.3 in omega arith), (let lt = bad.4 in omega arith), bad.5, (cc))
 
 -- One id, and the rest.
-id_listed : (config : EndConfig) (pending : PendingOffer) (freed more total value : ℕ) (step : Step) (steps : List Step) → total ≡ freed + suc more → (b : Bool) → (value == descriptor_of config freed) ≡ b →
+id_listed : (config : EndConfig) (pending : PendingOffer) (freed more total value : ℕ) (step : Step) (steps : List Step) → total ≡ freed + suc more → (b : Bool) → (is_used_id (descriptor_of config freed) value) ≡ b →
     step ≡ used_id_step config freed value (if b then (if more == 0 then full_marks config pending (freed + 1) else []) else refusal field_name.UsedId value) →
     Makes (if b then read_used_ids config pending (freed + 1) more else set_state 0) steps →
     ((steps : List Step) → Makes (read_used_ids config pending (freed + 1) more) steps → IdsListed config pending (freed + 1) more total steps) → IdsListed config pending freed (suc more) total (step ∷ steps)
@@ -140,7 +141,7 @@ ids_listed : (config : EndConfig) (pending : PendingOffer) (freed count total : 
 ids_listed config pending freed zero total steps is m = let same : freed ≡ total = omega arith in
     inl (steps, subst (λ k. IsEnding config pending k steps) same (ending config pending freed (frame_fits config pending freed) steps refl m), refl)
 ids_listed config pending freed (suc more) total [] is m = absurd m
-ids_listed config pending freed (suc more) total (step ∷ steps) is m = id_listed config pending freed more total m.0 step steps is (m.0 == descriptor_of config freed) refl m.1 m.2 (λ others made. ids_listed config pending (freed + 1) more total others (omega arith) made)
+ids_listed config pending freed (suc more) total (step ∷ steps) is m = id_listed config pending freed more total m.0 step steps is (is_used_id (descriptor_of config freed) m.0) refl m.1 m.2 (λ others made. ids_listed config pending (freed + 1) more total others (omega arith) made)
 
 marks_none : (config : EndConfig) (pending : PendingOffer) (freed : ℕ) → frame_fits config pending freed ≡ true → full_marks config pending freed ≡ []
 marks_none config pending freed room = yes (frame_fits config pending freed) [] (Full ∷ []) room
@@ -165,7 +166,7 @@ offer_ids config pending freed value step steps within first (inr bad) = inr (in
   steps_are = let same : used_id_step config bad.1 bad.2 (refusal field_name.UsedId bad.2) ≡ used_id_step config (freed + bad.0) bad.2 (refusal field_name.UsedId bad.2) = ap (λ k. used_id_step config k bad.2 (refusal field_name.UsedId bad.2)) bad.3 in let tail = bad.6 in cc;
 })
 
-offer_by : (config : EndConfig) (pending : PendingOffer) (freed value : ℕ) (step : Step) (steps : List Step) (b : Bool) → nat_le (returned_by freed value) (pending.number - freed) ≡ b →
+offer_by : (config : EndConfig) (pending : PendingOffer) (freed value : ℕ) (step : Step) (steps : List Step) (b : Bool) → is_used_index (freed % 65536) (high_half value) (pending.number - freed) ≡ b →
     step ≡ used_index_step config value (if b then reclaim_marks config pending freed (returned_by freed value) else refusal field_name.UsedIndex (high_half value)) →
     Makes (if b then read_used_ids config pending freed (returned_by freed value) else set_state 0) steps → IsOffer config pending freed (step ∷ steps)
 offer_by config pending freed value step steps true test first later =
@@ -178,10 +179,10 @@ offer_by config pending freed value step steps false test first later = inl reco
 
 pub offer_listed : (config : EndConfig) (pending : PendingOffer) (freed : ℕ) (steps : List Step) → Makes (offer config pending freed) steps → IsOffer config pending freed steps
 offer_listed config pending freed [] m = absurd m
-offer_listed config pending freed (step ∷ steps) m = offer_by config pending freed m.0 step steps (nat_le (returned_by freed m.0) (pending.number - freed)) refl m.1 m.2
+offer_listed config pending freed (step ∷ steps) m = offer_by config pending freed m.0 step steps (is_used_index (freed % 65536) (high_half m.0) (pending.number - freed)) refl m.1 m.2
 
 -- An id and the steps after it make the rest of the ids, by the test of the id.
-id_from : (config : EndConfig) (pending : PendingOffer) (freed more value : ℕ) (step : Step) (steps : List Step) (b : Bool) → (value == descriptor_of config freed) ≡ b →
+id_from : (config : EndConfig) (pending : PendingOffer) (freed more value : ℕ) (step : Step) (steps : List Step) (b : Bool) → (is_used_id (descriptor_of config freed) value) ≡ b →
     step ≡ used_id_step config freed value (if b then (if more == 0 then full_marks config pending (freed + 1) else []) else refusal field_name.UsedId value) →
     Makes (if b then read_used_ids config pending (freed + 1) more else set_state 0) steps → Makes (read_used_ids config pending freed (suc more)) (step ∷ steps)
 id_from config pending freed more value step steps b test first later = (
@@ -209,7 +210,7 @@ ids_bad config pending freed (suc more) (suc passed) at id is lt wrong = let som
     (ids_bad config pending (freed + 1) more passed at id (omega arith) (omega arith) wrong)
 
 -- The used index and the steps after it make an offer, by the test of the index.
-offer_from : (config : EndConfig) (pending : PendingOffer) (freed value : ℕ) (step : Step) (steps : List Step) (b : Bool) → nat_le (returned_by freed value) (pending.number - freed) ≡ b →
+offer_from : (config : EndConfig) (pending : PendingOffer) (freed value : ℕ) (step : Step) (steps : List Step) (b : Bool) → is_used_index (freed % 65536) (high_half value) (pending.number - freed) ≡ b →
     step ≡ used_index_step config value (if b then reclaim_marks config pending freed (returned_by freed value) else refusal field_name.UsedIndex (high_half value)) →
     Makes (if b then read_used_ids config pending freed (returned_by freed value) else set_state 0) steps → Makes (offer config pending freed) (step ∷ steps)
 offer_from config pending freed value step steps b test first later = (

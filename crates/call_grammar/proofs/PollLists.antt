@@ -1,20 +1,19 @@
 -- A poll as a tree and as a list.
 use Rattle.std.proofs.Common.{◌≡◌, ◌≢◌, ℕ, zero, suc, ◌+◌, ◌/◌, ◌<◌, ◌≤◌, ◌⊎◌, inl, inr, Bool, true, false, List, [], ◌∷◌, ◌++◌, length, refl, sym, ap, ◌∙◌, subst, arith, append_assoc, eq-eqb, ne_eqb, length-append}
-use Rattle.std.specs.Prelude.{◌==◌, nat_le, if◌then◌else◌}
+use Rattle.std.specs.Prelude.{◌==◌, if◌then◌else◌, ◌%◌}
 use Rattle.std.proofs.lemmas.Bool.Decides.{nat_tests}
-use mathlib.Core.Logic.{dite}
-use native.Mathlib.Decide.{dec_lt}
 use Rattle.split_ring.specs.declared.ranges.FieldName.TheVariants as field_name
 use Rattle.split_ring.specs.declared.steps.Access.TheVariants.{Read}
-use Rattle.split_ring.specs.Layout.{Sizes, size_of, word_offset, DescAddress, DescLength, DescFlags, AvailEntry}
-use Rattle.split_ring.specs.Ranges.{IsAvailEntry, IsDescAddress, IsDescLength, IsDescFlags}
-use Rattle.split_ring.specs.Spelling.{low_half, high_half, entry_half}
+use Rattle.split_ring.specs.Layout.{size_of, word_offset, DescAddress, DescLength, DescFlags, AvailEntry}
+use Rattle.split_ring.specs.Ranges.{IsAvailEntry, IsDescAddress, IsDescLength, is_avail_entry, is_desc_address, is_desc_length, is_avail_index, is_desc_flags}
+use Rattle.split_ring.specs.Spelling.{high_half, entry_half, desc_flags}
+use Rattle.split_ring.proofs.Tests.{entry_tells, entry_denies, entry_test, entry_fails, address_tells, address_test, address_denies, address_fails, length_tells, length_test, length_denies, length_fails, flags_tells, flags_denies}
 use Rattle.call_grammar.specs.Steps.{Step, Mark, Look, Deliver, Done, step_of}
 use Rattle.call_grammar.specs.Trees.{CallTree, Ended, Reads, Makes}
 use Rattle.call_grammar.specs.Ticks.{EndConfig, set_state, state_step}
 use Rattle.call_grammar.specs.Words.{address_of, words_for, frame_in}
 use Rattle.call_grammar.specs.Offers.{avail_entry_of, refusal, refused_steps, doorbell_step}
-use Rattle.call_grammar.specs.Polls.{is_entry, is_address, is_length, write_used_id, read_words, read_flags, read_length, read_high, read_low, item, items, published_by, look_marks, write_avail_event, read_avail_index, poll, avail_event_write_step, IsLook, FindsNothing, LooksAgain, Item, item_entry, item_address, entry_step, low_step, high_step, length_step, word_steps, return_steps, IsValidItem, item_steps, AreValidItems, items_steps, IsRefusedItem, avail_index_step, IsPoll}
+use Rattle.call_grammar.specs.Polls.{write_used_id, read_words, read_flags, read_length, read_high, read_low, item, items, published_by, look_marks, write_avail_event, read_avail_index, poll, avail_event_write_step, IsLook, FindsNothing, LooksAgain, Item, item_entry, item_address, entry_step, low_step, high_step, length_step, word_steps, return_steps, IsValidItem, item_steps, AreValidItems, items_steps, IsRefusedItem, avail_index_step, IsPoll}
 use Rattle.call_grammar.proofs.TickLists.{set_listed}
 use Rattle.call_grammar.proofs.OfferLists.{yes, no, within_test, beyond_test}
 
@@ -50,58 +49,6 @@ tested_bad word ok marks rest value test = (
   ap (λ (l : List Mark). step_of (Read word) value l) (sym (no (ok value) [] (marks value) test)),
   subst (λ (t : CallTree). Makes t (state_step 0 ∷ [])) (sym (no (ok value) (rest value) (set_state 0) test)) (refl, refl),
 )
-
--- The tests are the ranges
-
-pub entry_tells : (q : Sizes) (e : ℕ) → is_entry q e ≡ true → IsAvailEntry q e
-entry_tells q e test = grind (arith, nat_tests)
-
-pub entry_denies : (q : Sizes) (e : ℕ) → is_entry q e ≡ false → ¬ IsAvailEntry q e
-entry_denies q e test is = grind (arith, nat_tests)
-
-pub entry_test : (q : Sizes) (e : ℕ) → IsAvailEntry q e → is_entry q e ≡ true
-entry_test q e is = grind (arith, nat_tests)
-
-pub entry_fails : (q : Sizes) (e : ℕ) → ¬ IsAvailEntry q e → is_entry q e ≡ false
-entry_fails q e not = dite (dec_lt e (size_of q)) (λ lt. absurd (not lt)) (λ ge. grind (arith, nat_tests))
-
-pub address_tells : (q : Sizes) (a : ℕ) → is_address q a ≡ true → IsDescAddress q a
-address_tells q a test = (grind (arith, nat_tests), grind (arith, nat_tests), grind (arith, nat_tests))
-
-pub address_test : (q : Sizes) (a : ℕ) → IsDescAddress q a → is_address q a ≡ true
-address_test q a is = let x = is.0 in let y = is.1 in let z = is.2 in grind (arith, nat_tests)
-
-pub address_denies : (q : Sizes) (a : ℕ) → is_address q a ≡ false → ¬ IsDescAddress q a
-address_denies q a test is = let yes_is = address_test q a is in let f : false ≡ true = sym test ∙ yes_is in cc
-
-pub address_fails : (q : Sizes) (a : ℕ) → ¬ IsDescAddress q a → is_address q a ≡ false
-address_fails q a not = by_bool (is_address q a) refl
-  where
-    by_bool : (b : Bool) → is_address q a ≡ b → is_address q a ≡ false
-    by_bool true e = absurd (not (address_tells q a e))
-    by_bool false e = e
-
-pub length_tells : (q : Sizes) (a l : ℕ) → is_length q a l ≡ true → IsDescLength q a l
-length_tells q a l test = (grind (arith, nat_tests), grind (arith, nat_tests), grind (arith, nat_tests))
-
-pub length_test : (q : Sizes) (a l : ℕ) → IsDescLength q a l → is_length q a l ≡ true
-length_test q a l is = let x = is.0 in let y = is.1 in let z = is.2 in grind (arith, nat_tests)
-
-pub length_denies : (q : Sizes) (a l : ℕ) → is_length q a l ≡ false → ¬ IsDescLength q a l
-length_denies q a l test is = let yes_is = length_test q a l is in let f : false ≡ true = sym test ∙ yes_is in cc
-
-pub length_fails : (q : Sizes) (a l : ℕ) → ¬ IsDescLength q a l → is_length q a l ≡ false
-length_fails q a l not = by_bool (is_length q a l) refl
-  where
-    by_bool : (b : Bool) → is_length q a l ≡ b → is_length q a l ≡ false
-    by_bool true e = absurd (not (length_tells q a l e))
-    by_bool false e = e
-
-flags_tells : (f : ℕ) → (f == 0) ≡ true → IsDescFlags f
-flags_tells f test = grind (arith, nat_tests)
-
-flags_denies : (f : ℕ) → (f == 0) ≡ false → ¬ IsDescFlags f
-flags_denies f test is = grind (arith, nat_tests)
 
 -- The words of a frame, and the steps after them
 
@@ -172,36 +119,36 @@ abbrev four : EndConfig → (number ew lo hi l : ℕ) → List Step → List Ste
 four config number ew lo hi l steps = three config number ew lo hi (length_step config number (item_of ew lo hi l 0 []) [] ∷ steps)
 
 flags_item : (config : EndConfig) (number ew lo hi l : ℕ) (after : CallTree) (steps : List Step) → IsAvailEntry config.sizes (entry_name config number ew) → IsDescAddress config.sizes (address_of lo hi) → IsDescLength config.sizes (address_of lo hi) l →
-    (t : (value : ℕ) × IsTested (config.theirs + word_offset config.sizes (DescFlags (entry_name config number ew))) (λ value. low_half value == 0) (λ value. refusal field_name.DescFlags (low_half value)) (λ value. read_words config number (entry_name config number ew) (address_of lo hi) l [] (words_for l) after) value steps) →
+    (t : (value : ℕ) × IsTested (config.theirs + word_offset config.sizes (DescFlags (entry_name config number ew))) (λ value. is_desc_flags (desc_flags value)) (λ value. refusal field_name.DescFlags (desc_flags value)) (λ value. read_words config number (entry_name config number ew) (address_of lo hi) l [] (words_for l) after) value steps) →
     ItemListed config number after (four config number ew lo hi l steps)
 flags_item config number ew lo hi l after steps ie ia il (fw, inl good) =
     let w = words_listed config number (entry_name config number ew) (address_of lo hi) l [] (words_for l) 0 after good.1 refl good.3 in
     let read = item_of ew lo hi l fw w.0 in
     inl (
       read,
-      record { entry = ie; address = ia; bytes = il; flags = flags_tells (low_half fw) good.0; words = w.3 },
+      record { entry = ie; address = ia; bytes = il; flags = flags_tells (desc_flags fw) good.0; words = w.3 },
       w.1,
       w.2,
       (let here = good.2 in let rest = w.4 in let seam = append_assoc (word_steps config (address_of lo hi) 0 w.0 (Deliver (frame_in l w.0) ∷ [])) (return_steps config number (entry_name config number ew)) w.1 in cc),
     )
-flags_item config number ew lo hi l after steps ie ia il (fw, inr bad) = inr (item_of ew lo hi l fw [], inr (inr (inr (ie, ia, il, flags_denies (low_half fw) bad.0, (let here = bad.1 in cc)))))
+flags_item config number ew lo hi l after steps ie ia il (fw, inr bad) = inr (item_of ew lo hi l fw [], inr (inr (inr (ie, ia, il, flags_denies (desc_flags fw) bad.0, (let here = bad.1 in cc)))))
 
 length_item : (config : EndConfig) (number ew lo hi : ℕ) (after : CallTree) (steps : List Step) → IsAvailEntry config.sizes (entry_name config number ew) → IsDescAddress config.sizes (address_of lo hi) →
-    (t : (value : ℕ) × IsTested (config.theirs + word_offset config.sizes (DescLength (entry_name config number ew))) (λ value. is_length config.sizes (address_of lo hi) value) (λ value. refusal field_name.DescLength value) (λ value. read_flags config number (entry_name config number ew) (address_of lo hi) value after) value steps) →
+    (t : (value : ℕ) × IsTested (config.theirs + word_offset config.sizes (DescLength (entry_name config number ew))) (λ value. is_desc_length config.sizes (address_of lo hi) value) (λ value. refusal field_name.DescLength value) (λ value. read_flags config number (entry_name config number ew) (address_of lo hi) value after) value steps) →
     ItemListed config number after (three config number ew lo hi steps)
 length_item config number ew lo hi after steps ie ia (l, inl good) =
     subst (λ (s : List Step). ItemListed config number after (three config number ew lo hi s)) (sym good.2)
     (flags_item config number ew lo hi l after good.1 ie ia (length_tells config.sizes (address_of lo hi) l good.0)
-    (tested (config.theirs + word_offset config.sizes (DescFlags (entry_name config number ew))) (λ value. low_half value == 0) (λ value. refusal field_name.DescFlags (low_half value)) (λ value. read_words config number (entry_name config number ew) (address_of lo hi) l [] (words_for l) after) good.1 good.3))
+    (tested (config.theirs + word_offset config.sizes (DescFlags (entry_name config number ew))) (λ value. is_desc_flags (desc_flags value)) (λ value. refusal field_name.DescFlags (desc_flags value)) (λ value. read_words config number (entry_name config number ew) (address_of lo hi) l [] (words_for l) after) good.1 good.3))
 length_item config number ew lo hi after steps ie ia (l, inr bad) = inr (item_of ew lo hi l 0 [], inr (inr (inl (ie, ia, length_denies config.sizes (address_of lo hi) l bad.0, (let here = bad.1 in cc)))))
 
 high_item : (config : EndConfig) (number ew lo : ℕ) (after : CallTree) (steps : List Step) → IsAvailEntry config.sizes (entry_name config number ew) →
-    (t : (value : ℕ) × IsTested (config.theirs + word_offset config.sizes (DescAddress (entry_name config number ew)) + 1) (λ value. is_address config.sizes (address_of lo value)) (λ value. refusal field_name.DescAddress (address_of lo value)) (λ value. read_length config number (entry_name config number ew) (address_of lo value) after) value steps) →
+    (t : (value : ℕ) × IsTested (config.theirs + word_offset config.sizes (DescAddress (entry_name config number ew)) + 1) (λ value. is_desc_address config.sizes (address_of lo value)) (λ value. refusal field_name.DescAddress (address_of lo value)) (λ value. read_length config number (entry_name config number ew) (address_of lo value) after) value steps) →
     ItemListed config number after (entry_step config number (item_of ew lo 0 0 0 []) [] ∷ low_step config number (item_of ew lo 0 0 0 []) ∷ steps)
 high_item config number ew lo after steps ie (hi, inl good) =
     subst (λ (s : List Step). ItemListed config number after (entry_step config number (item_of ew lo 0 0 0 []) [] ∷ low_step config number (item_of ew lo 0 0 0 []) ∷ s)) (sym good.2)
     (length_item config number ew lo hi after good.1 ie (address_tells config.sizes (address_of lo hi) good.0)
-    (tested (config.theirs + word_offset config.sizes (DescLength (entry_name config number ew))) (λ value. is_length config.sizes (address_of lo hi) value) (λ value. refusal field_name.DescLength value) (λ value. read_flags config number (entry_name config number ew) (address_of lo hi) value after) good.1 good.3))
+    (tested (config.theirs + word_offset config.sizes (DescLength (entry_name config number ew))) (λ value. is_desc_length config.sizes (address_of lo hi) value) (λ value. refusal field_name.DescLength value) (λ value. read_flags config number (entry_name config number ew) (address_of lo hi) value after) good.1 good.3))
 high_item config number ew lo after steps ie (hi, inr bad) = inr (item_of ew lo hi 0 0 [], inr (inl (ie, address_denies config.sizes (address_of lo hi) bad.0, (let here = bad.1 in cc))))
 
 low_item : (config : EndConfig) (number ew : ℕ) (after : CallTree) (steps : List Step) → IsAvailEntry config.sizes (entry_name config number ew) → Makes (read_low config number (entry_name config number ew) after) steps →
@@ -210,17 +157,17 @@ low_item config number ew after [] ie m = absurd m
 low_item config number ew after (step ∷ steps) ie m =
     subst (λ (s : Step). ItemListed config number after (entry_step config number (item_of ew 0 0 0 0 []) [] ∷ s ∷ steps)) (sym m.1)
     (high_item config number ew m.0 after steps ie
-    (tested (config.theirs + word_offset config.sizes (DescAddress (entry_name config number ew)) + 1) (λ value. is_address config.sizes (address_of m.0 value)) (λ value. refusal field_name.DescAddress (address_of m.0 value)) (λ value. read_length config number (entry_name config number ew) (address_of m.0 value) after) steps m.2))
+    (tested (config.theirs + word_offset config.sizes (DescAddress (entry_name config number ew)) + 1) (λ value. is_desc_address config.sizes (address_of m.0 value)) (λ value. refusal field_name.DescAddress (address_of m.0 value)) (λ value. read_length config number (entry_name config number ew) (address_of m.0 value) after) steps m.2))
 
 entry_item : (config : EndConfig) (number : ℕ) (after : CallTree) (steps : List Step) →
-    (t : (value : ℕ) × IsTested (config.theirs + word_offset config.sizes (AvailEntry (avail_entry_of config number))) (λ value. is_entry config.sizes (entry_name config number value)) (λ value. refusal field_name.AvailEntry (entry_name config number value)) (λ value. read_low config number (entry_name config number value) after) value steps) →
+    (t : (value : ℕ) × IsTested (config.theirs + word_offset config.sizes (AvailEntry (avail_entry_of config number))) (λ value. is_avail_entry config.sizes (entry_name config number value)) (λ value. refusal field_name.AvailEntry (entry_name config number value)) (λ value. read_low config number (entry_name config number value) after) value steps) →
     ItemListed config number after steps
 entry_item config number after steps (ew, inl good) = subst (λ (s : List Step). ItemListed config number after s) (sym good.2) (low_item config number ew after good.1 (entry_tells config.sizes (entry_name config number ew) good.0) good.3)
 entry_item config number after steps (ew, inr bad) = inr (item_of ew 0 0 0 0 [], inl (entry_denies config.sizes (entry_name config number ew) bad.0, (let here = bad.1 in cc)))
 
 item_listed : (config : EndConfig) (number : ℕ) (after : CallTree) (steps : List Step) → Makes (item config number after) steps → ItemListed config number after steps
 item_listed config number after steps m = entry_item config number after steps
-    (tested (config.theirs + word_offset config.sizes (AvailEntry (avail_entry_of config number))) (λ value. is_entry config.sizes (entry_name config number value)) (λ value. refusal field_name.AvailEntry (entry_name config number value)) (λ value. read_low config number (entry_name config number value) after) steps m)
+    (tested (config.theirs + word_offset config.sizes (AvailEntry (avail_entry_of config number))) (λ value. is_avail_entry config.sizes (entry_name config number value)) (λ value. refusal field_name.AvailEntry (entry_name config number value)) (λ value. read_low config number (entry_name config number value) after) steps m)
 
 -- The items
 
@@ -240,7 +187,7 @@ items_listed config number (suc more) steps m = elim (item_listed config number 
   ]
 ]
 
-look_by : (config : EndConfig) (taken : ℕ) (last : Bool) (none : CallTree) (FindsNone : List Step → Type 0) (value : ℕ) (step : Step) (steps : List Step) (b c : Bool) → nat_le (published_by taken value) (size_of config.sizes) ≡ b → (published_by taken value == 0) ≡ c →
+look_by : (config : EndConfig) (taken : ℕ) (last : Bool) (none : CallTree) (FindsNone : List Step → Type 0) (value : ℕ) (step : Step) (steps : List Step) (b c : Bool) → is_avail_index config.sizes (taken % 65536) (high_half value) ≡ b → (published_by taken value == 0) ≡ c →
     (published_by taken value ≡ 0 → step ≡ avail_index_step config value (if last then Look 0 ∷ Done ∷ [] else Look 0 ∷ []) → Makes none steps → FindsNone (step ∷ steps)) →
     step ≡ avail_index_step config value (if b then (if c then (if last then Look 0 ∷ Done ∷ [] else Look 0 ∷ []) else Look (published_by taken value) ∷ []) else refusal field_name.AvailIndex (high_half value)) →
     Makes (if b then (if c then none else items config taken (published_by taken value)) else set_state 0) steps → IsLook config taken FindsNone (step ∷ steps)
@@ -258,7 +205,7 @@ nothing_listed config taken value step steps none first later = record { value =
 
 last_listed : (config : EndConfig) (taken : ℕ) (steps : List Step) → Makes (poll config taken true) steps → IsPoll config taken true steps
 last_listed config taken [] m = absurd m
-last_listed config taken (step ∷ steps) m = look_by config taken true Ended (FindsNothing config taken) m.0 step steps (nat_le (published_by taken m.0) (size_of config.sizes)) (published_by taken m.0 == 0) refl refl (nothing_listed config taken m.0 step steps) m.1 m.2
+last_listed config taken (step ∷ steps) m = look_by config taken true Ended (FindsNothing config taken) m.0 step steps (is_avail_index config.sizes (taken % 65536) (high_half m.0)) (published_by taken m.0 == 0) refl refl (nothing_listed config taken m.0 step steps) m.1 m.2
 
 -- A read of the available index before the last one finds no frame.
 again_listed : (config : EndConfig) (taken value : ℕ) (step : Step) (steps : List Step) → published_by taken value ≡ 0 → step ≡ avail_index_step config value (Look 0 ∷ []) → Makes (write_avail_event config taken (poll config taken true)) steps → LooksAgain config taken (step ∷ steps)
@@ -268,45 +215,45 @@ again_listed config taken value step (asks ∷ steps) none first later = record 
 pub poll_listed : (config : EndConfig) (taken : ℕ) (last : Bool) (steps : List Step) → Makes (poll config taken last) steps → IsPoll config taken last steps
 poll_listed config taken true steps m = last_listed config taken steps m
 poll_listed config taken false [] m = absurd m
-poll_listed config taken false (step ∷ steps) m = look_by config taken false (write_avail_event config taken (poll config taken true)) (LooksAgain config taken) m.0 step steps (nat_le (published_by taken m.0) (size_of config.sizes)) (published_by taken m.0 == 0) refl refl (again_listed config taken m.0 step steps) m.1 m.2
+poll_listed config taken false (step ∷ steps) m = look_by config taken false (write_avail_event config taken (poll config taken true)) (LooksAgain config taken) m.0 step steps (is_avail_index config.sizes (taken % 65536) (high_half m.0)) (published_by taken m.0 == 0) refl refl (again_listed config taken m.0 step steps) m.1 m.2
 
 -- The converse
 
 length_made : (config : EndConfig) (number : ℕ) (after : CallTree) (read : Item) (steps : List Step) → IsDescLength config.sizes (item_address read) read.bytes → Makes (read_flags config number (item_entry config number read) (item_address read) read.bytes after) steps →
     Makes (read_length config number (item_entry config number read) (item_address read) after) (length_step config number read [] ∷ steps)
-length_made config number after read steps il made = tested_good (config.theirs + word_offset config.sizes (DescLength (item_entry config number read))) (λ value. is_length config.sizes (item_address read) value) (λ value. refusal field_name.DescLength value)
+length_made config number after read steps il made = tested_good (config.theirs + word_offset config.sizes (DescLength (item_entry config number read))) (λ value. is_desc_length config.sizes (item_address read) value) (λ value. refusal field_name.DescLength value)
     (λ value. read_flags config number (item_entry config number read) (item_address read) value after) read.bytes steps (length_test config.sizes (item_address read) read.bytes il) made
 
 high_made : (config : EndConfig) (number : ℕ) (after : CallTree) (read : Item) (steps : List Step) → IsDescAddress config.sizes (item_address read) → Makes (read_length config number (item_entry config number read) (item_address read) after) steps →
     Makes (read_high config number (item_entry config number read) read.low after) (high_step config number read [] ∷ steps)
-high_made config number after read steps ia made = tested_good (config.theirs + word_offset config.sizes (DescAddress (item_entry config number read)) + 1) (λ value. is_address config.sizes (address_of read.low value)) (λ value. refusal field_name.DescAddress (address_of read.low value))
+high_made config number after read steps ia made = tested_good (config.theirs + word_offset config.sizes (DescAddress (item_entry config number read)) + 1) (λ value. is_desc_address config.sizes (address_of read.low value)) (λ value. refusal field_name.DescAddress (address_of read.low value))
     (λ value. read_length config number (item_entry config number read) (address_of read.low value) after) read.high steps (address_test config.sizes (item_address read) ia) made
 
 entry_made : (config : EndConfig) (number : ℕ) (after : CallTree) (read : Item) (steps : List Step) → IsAvailEntry config.sizes (item_entry config number read) → Makes (read_high config number (item_entry config number read) read.low after) steps →
     Makes (item config number after) (entry_step config number read [] ∷ low_step config number read ∷ steps)
-entry_made config number after read steps ie made = tested_good (config.theirs + word_offset config.sizes (AvailEntry (avail_entry_of config number))) (λ value. is_entry config.sizes (entry_name config number value)) (λ value. refusal field_name.AvailEntry (entry_name config number value))
+entry_made config number after read steps ie made = tested_good (config.theirs + word_offset config.sizes (AvailEntry (avail_entry_of config number))) (λ value. is_avail_entry config.sizes (entry_name config number value)) (λ value. refusal field_name.AvailEntry (entry_name config number value))
     (λ value. read_low config number (entry_name config number value) after) read.entry_word _ (entry_test config.sizes (item_entry config number read) ie) (read.low, refl, made)
 
 good_made : (config : EndConfig) (number : ℕ) (after : CallTree) (read : Item) (tail : List Step) → IsValidItem config number read → Makes after tail → Makes (item config number after) (item_steps config number read ++ tail)
 good_made config number after read tail good made = let e = item_entry config number read in let a = item_address read in
     let words = words_made config number e a read.bytes [] read.words (words_for read.bytes) 0 after tail refl good.words made in
     let seam = append_assoc (word_steps config a 0 read.words (Deliver (frame_in read.bytes read.words) ∷ [])) (return_steps config number e) tail in
-    let f = tested_good (config.theirs + word_offset config.sizes (DescFlags e)) (λ value. low_half value == 0) (λ value. refusal field_name.DescFlags (low_half value)) (λ value. read_words config number e a read.bytes [] (words_for read.bytes) after) read.flags_word _ (eq-eqb _ _ good.flags)
+    let f = tested_good (config.theirs + word_offset config.sizes (DescFlags e)) (λ value. is_desc_flags (desc_flags value)) (λ value. refusal field_name.DescFlags (desc_flags value)) (λ value. read_words config number e a read.bytes [] (words_for read.bytes) after) read.flags_word _ (eq-eqb _ _ good.flags)
     (subst (λ (l : List Step). Makes (read_words config number e a read.bytes [] (words_for read.bytes) after) l) (sym seam) words) in
     entry_made config number after read _ good.entry (high_made config number after read _ good.address (length_made config number after read _ good.bytes f))
 
 refused_made : (config : EndConfig) (number : ℕ) (after : CallTree) (read : Item) (steps : List Step) → IsRefusedItem config number read steps → Makes (item config number after) steps
 refused_made config number after read steps (inl is) = subst (λ (l : List Step). Makes (item config number after) l) (sym is.1)
-    (tested_bad (config.theirs + word_offset config.sizes (AvailEntry (avail_entry_of config number))) (λ value. is_entry config.sizes (entry_name config number value)) (λ value. refusal field_name.AvailEntry (entry_name config number value)) (λ value. read_low config number (entry_name config number value) after) read.entry_word (entry_fails config.sizes (item_entry config number read) is.0))
+    (tested_bad (config.theirs + word_offset config.sizes (AvailEntry (avail_entry_of config number))) (λ value. is_avail_entry config.sizes (entry_name config number value)) (λ value. refusal field_name.AvailEntry (entry_name config number value)) (λ value. read_low config number (entry_name config number value) after) read.entry_word (entry_fails config.sizes (item_entry config number read) is.0))
 refused_made config number after read steps (inr (inl is)) = subst (λ (l : List Step). Makes (item config number after) l) (sym is.2)
     (entry_made config number after read _ is.0
-    (tested_bad (config.theirs + word_offset config.sizes (DescAddress (item_entry config number read)) + 1) (λ value. is_address config.sizes (address_of read.low value)) (λ value. refusal field_name.DescAddress (address_of read.low value)) (λ value. read_length config number (item_entry config number read) (address_of read.low value) after) read.high (address_fails config.sizes (item_address read) is.1)))
+    (tested_bad (config.theirs + word_offset config.sizes (DescAddress (item_entry config number read)) + 1) (λ value. is_desc_address config.sizes (address_of read.low value)) (λ value. refusal field_name.DescAddress (address_of read.low value)) (λ value. read_length config number (item_entry config number read) (address_of read.low value) after) read.high (address_fails config.sizes (item_address read) is.1)))
 refused_made config number after read steps (inr (inr (inl is))) = subst (λ (l : List Step). Makes (item config number after) l) (sym is.3)
     (entry_made config number after read _ is.0 (high_made config number after read _ is.1
-    (tested_bad (config.theirs + word_offset config.sizes (DescLength (item_entry config number read))) (λ value. is_length config.sizes (item_address read) value) (λ value. refusal field_name.DescLength value) (λ value. read_flags config number (item_entry config number read) (item_address read) value after) read.bytes (length_fails config.sizes (item_address read) read.bytes is.2))))
+    (tested_bad (config.theirs + word_offset config.sizes (DescLength (item_entry config number read))) (λ value. is_desc_length config.sizes (item_address read) value) (λ value. refusal field_name.DescLength value) (λ value. read_flags config number (item_entry config number read) (item_address read) value after) read.bytes (length_fails config.sizes (item_address read) read.bytes is.2))))
 refused_made config number after read steps (inr (inr (inr is))) = subst (λ (l : List Step). Makes (item config number after) l) (sym is.4)
     (entry_made config number after read _ is.0 (high_made config number after read _ is.1 (length_made config number after read _ is.2
-    (tested_bad (config.theirs + word_offset config.sizes (DescFlags (item_entry config number read))) (λ value. low_half value == 0) (λ value. refusal field_name.DescFlags (low_half value)) (λ value. read_words config number (item_entry config number read) (item_address read) read.bytes [] (words_for read.bytes) after) read.flags_word (ne_eqb _ _ is.3)))))
+    (tested_bad (config.theirs + word_offset config.sizes (DescFlags (item_entry config number read))) (λ value. is_desc_flags (desc_flags value)) (λ value. refusal field_name.DescFlags (desc_flags value)) (λ value. read_words config number (item_entry config number read) (item_address read) read.bytes [] (words_for read.bytes) after) read.flags_word (ne_eqb _ _ is.3)))))
 
 items_made : (config : EndConfig) (number count : ℕ) (reads : List Item) → AreValidItems config number reads → length reads ≡ count → Makes (items config number count) (items_steps config number reads ++ doorbell_step config (Done ∷ []) ∷ [])
 items_made config number zero [] good n = (refl, refl)
@@ -323,7 +270,7 @@ items_refused config number (suc more) at [] last last_steps good lt is refused 
 items_refused config number (suc more) at (read ∷ reads) last last_steps good lt is refused = subst (λ (l : List Step). Makes (items config number (suc more)) l) (sym (append_assoc (item_steps config number read) (items_steps config (number + 1) reads) last_steps))
     (good_made config number (items config (number + 1) more) read _ good.0 (items_refused config (number + 1) more at reads last last_steps good.1 (omega arith) (omega arith) refused))
 
-look_from : (config : EndConfig) (taken : ℕ) (last : Bool) (none : CallTree) (value : ℕ) (step : Step) (steps : List Step) (b c : Bool) → nat_le (published_by taken value) (size_of config.sizes) ≡ b → (published_by taken value == 0) ≡ c →
+look_from : (config : EndConfig) (taken : ℕ) (last : Bool) (none : CallTree) (value : ℕ) (step : Step) (steps : List Step) (b c : Bool) → is_avail_index config.sizes (taken % 65536) (high_half value) ≡ b → (published_by taken value == 0) ≡ c →
     step ≡ avail_index_step config value (if b then (if c then (if last then Look 0 ∷ Done ∷ [] else Look 0 ∷ []) else Look (published_by taken value) ∷ []) else refusal field_name.AvailIndex (high_half value)) →
     Makes (if b then (if c then none else items config taken (published_by taken value)) else set_state 0) steps → Makes (read_avail_index config taken last none) (step ∷ steps)
 look_from config taken last none value step steps b c test zero_test first later = (

@@ -1,9 +1,9 @@
 -- Every call has permitted accesses only.
 use Rattle.std.proofs.Common.{◌≡◌, ℕ, zero, suc, ◌+◌, ◌-◌, ◌*◌, ◌%◌, ◌<◌, ◌≤◌, Bool, true, false, List, [], ◌∷◌, ◌++◌, length, refl, sym, subst, arith, inl, inr, All, length-append}
-use Rattle.std.specs.Prelude.{◌==◌, nat_le, if◌then◌else◌}
+use Rattle.std.specs.Prelude.{◌==◌, if◌then◌else◌}
 use Rattle.std.proofs.lemmas.Nat.{mod_below}
 use Rattle.split_ring.specs.Layout.{Field, DescAddress, DescLength, DescFlags, AvailIndex, AvailEntry, UsedIndex, UsedId, UsedLength, AvailEvent, IsField, has_events, size_of, limit_of, width_of, word_offset}
-use Rattle.split_ring.specs.Spelling.{low_half, entry_half}
+use Rattle.split_ring.specs.Spelling.{low_half, entry_half, high_half, desc_flags}
 use Rattle.split_ring.proofs.Bounds.{bounds}
 use Rattle.split_ring.proofs.Places.{places_lem}
 use Rattle.std.proofs.lemmas.List.Elements.{All-nil, All-cons}
@@ -12,6 +12,8 @@ use Rattle.link_handshake.specs.declared.Move.{Move}
 use Rattle.link_handshake.specs.declared.Move.TheVariants.{Stay, Set, ClearThenSet}
 use Rattle.split_ring.specs.declared.steps.Access.{Access}
 use Rattle.split_ring.specs.declared.steps.Access.TheVariants as access
+use Rattle.split_ring.specs.Ranges.{is_avail_entry, is_desc_address, is_desc_length, is_desc_flags, is_used_index, is_used_id, is_avail_index}
+use Rattle.split_ring.proofs.Tests.{entry_tells, address_tells, length_tells}
 use Rattle.call_grammar.specs.Steps.{Step}
 use Rattle.call_grammar.specs.Trees.{CallTree, Ended, Does, Reads, Goes, GoesAlong}
 use Rattle.call_grammar.specs.Ends.{End}
@@ -19,8 +21,7 @@ use Rattle.call_grammar.specs.Ticks.{EndConfig, clear, set_state, after_tick}
 use Rattle.call_grammar.specs.Words.{address_of, words_for}
 use Rattle.call_grammar.specs.Offers.{PendingOffer, start_at, frame_fits, avail_entry_of, descriptor_of, ring_doorbell, wants_doorbell, read_avail_event, notify, write_frame_words, read_used_ids, returned_by, offer}
 use Rattle.call_grammar.proofs.Lengths.{words_fit}
-use Rattle.call_grammar.specs.Polls.{is_entry, is_address, is_length, read_words, read_flags, read_length, read_low, item, items, published_by, is_last, read_avail_index, write_avail_event, poll}
-use Rattle.call_grammar.proofs.PollLists.{entry_tells, address_tells, length_tells}
+use Rattle.call_grammar.specs.Polls.{read_words, read_flags, read_length, read_low, item, items, published_by, is_last, read_avail_index, write_avail_event, poll}
 use Rattle.call_grammar.specs.Calls.{Call, Tick, Stop, Offer, Poll, in_run, pending_of, down, tree_of}
 use Rattle.call_grammar.specs.Reach.{MayDo, MayRead, MayStore, IsPermittedAccess, StaysInReach, HasSections, IsPermittedCall, CallsStayInReach}
 
@@ -94,13 +95,13 @@ ids_stay : (config : EndConfig) → HasSections config → (pending : PendingOff
 ids_stay config has pending freed zero room = choice config (frame_fits config pending freed) (write_frame_words config pending 0 (words_for (length pending.frame))) Ended (λ _. fill_stays config has pending 0 (words_for (length pending.frame)) (omega arith)) tt
 ids_stay config has pending freed (suc more) room = (
   first_their config has (UsedId (avail_entry_of config freed)) (in_ring config has freed) (omega arith),
-  λ value. choice config (value == descriptor_of config freed) (read_used_ids config pending (freed + 1) more) (set_state 0) (λ _. ids_stay config has pending (freed + 1) more room) (tt, tt),
+  λ value. choice config (is_used_id (descriptor_of config freed) value) (read_used_ids config pending (freed + 1) more) (set_state 0) (λ _. ids_stay config has pending (freed + 1) more room) (tt, tt),
 )
 
 offer_stays : (config : EndConfig) → HasSections config → (pending : PendingOffer) (freed : ℕ) → start_at config pending + 4 * words_for (length pending.frame) ≤ config.sizes.out → StaysInReach config (offer config pending freed)
 offer_stays config has pending freed fits = (
   first_their config has UsedIndex tt (omega arith),
-  λ value. choice config (nat_le (returned_by freed value) (pending.number - freed)) (read_used_ids config pending freed (returned_by freed value)) (set_state 0) (λ _. ids_stay config has pending freed (returned_by freed value) fits) (tt, tt),
+  λ value. choice config (is_used_index (freed % 65536) (high_half value) (pending.number - freed)) (read_used_ids config pending freed (returned_by freed value)) (set_state 0) (λ _. ids_stay config has pending freed (returned_by freed value) fits) (tt, tt),
 )
 
 words_stay : (config : EndConfig) → HasSections config → (number entry address bytes : ℕ) (read : List ℕ) (more : ℕ) (after : CallTree) → address % 4 ≡ 0 → address + bytes ≤ config.sizes.out → length read + more ≡ words_for bytes → StaysInReach config after → StaysInReach config (read_words config number entry address bytes read more after)
@@ -114,15 +115,15 @@ words_stay config has number entry address bytes read (suc more) after even ends
 item_stays : (config : EndConfig) → HasSections config → (number : ℕ) (after : CallTree) → StaysInReach config after → StaysInReach config (item config number after)
 item_stays config has number after stays = (
   first_their config has (AvailEntry (avail_entry_of config number)) (in_ring config has number) (omega arith),
-  λ value. let e = entry_half (avail_entry_of config number) value in choice config (is_entry config.sizes e) (read_low config number e after) (set_state 0) (λ test. let i = entry_tells config.sizes e test in (
+  λ value. let e = entry_half (avail_entry_of config number) value in choice config (is_avail_entry config.sizes e) (read_low config number e after) (set_state 0) (λ test. let i = entry_tells config.sizes e test in (
     first_their config has (DescAddress e) i (omega arith),
     λ low. (
       their_word config has (DescAddress e) 1 i (omega arith),
-      λ high. let a = address_of low high in choice config (is_address config.sizes a) (read_length config number e a after) (set_state 0) (λ atest. (
+      λ high. let a = address_of low high in choice config (is_desc_address config.sizes a) (read_length config number e a after) (set_state 0) (λ atest. (
         first_their config has (DescLength e) i (omega arith),
-        λ l. choice config (is_length config.sizes a l) (read_flags config number e a l after) (set_state 0) (λ ltest. (
+        λ l. choice config (is_desc_length config.sizes a l) (read_flags config number e a l after) (set_state 0) (λ ltest. (
           first_their config has (DescFlags e) i (omega arith),
-          λ flags. choice config (low_half flags == 0) (read_words config number e a l [] (words_for l) after) (set_state 0) (λ _. words_stay config has number e a l [] (words_for l) after (address_tells config.sizes a atest).0 (length_tells config.sizes a l ltest).2 (omega arith) stays) (tt, tt),
+          λ flags. choice config (is_desc_flags (desc_flags flags)) (read_words config number e a l [] (words_for l) after) (set_state 0) (λ _. words_stay config has number e a l [] (words_for l) after (address_tells config.sizes a atest).0 (length_tells config.sizes a l ltest).2 (omega arith) stays) (tt, tt),
         )) (tt, tt),
       )) (tt, tt),
     ),
@@ -136,7 +137,7 @@ items_stay config has number (suc more) = item_stays config has number (items co
 look_stays : (config : EndConfig) → HasSections config → (taken : ℕ) (last : Bool) (none : CallTree) → StaysInReach config none → StaysInReach config (read_avail_index config taken last none)
 look_stays config has taken last none stays = (
   first_their config has AvailIndex tt (omega arith),
-  λ value. let d = published_by taken value in choice config (nat_le d (size_of config.sizes)) (if d == 0 then none else items config taken d) (set_state 0)
+  λ value. let d = published_by taken value in choice config (is_avail_index config.sizes (taken % 65536) (high_half value)) (if d == 0 then none else items config taken d) (set_state 0)
       (λ _. choice config (d == 0) none (items config taken d) (λ _. stays) (items_stay config has taken d)) (tt, tt),
 )
 

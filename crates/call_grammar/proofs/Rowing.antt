@@ -1,9 +1,9 @@
 -- Every call has its State rows.
 use Rattle.std.proofs.Common.{◌≡◌, ℕ, zero, suc, ◌+◌, ◌-◌, true, false, Bool, List, [], ◌∷◌, ◌++◌, length, refl, sym, subst, inl, inr}
-use Rattle.std.specs.Prelude.{◌==◌, nat_le, if◌then◌else◌}
+use Rattle.std.specs.Prelude.{◌==◌, if◌then◌else◌, ◌%◌}
 use Rattle.split_ring.specs.declared.ranges.FieldName.TheVariants as field_name
-use Rattle.split_ring.specs.Layout.{has_events, size_of, word_offset, AvailIndex, UsedIndex, UsedId}
-use Rattle.split_ring.specs.Spelling.{low_half, high_half, entry_half}
+use Rattle.split_ring.specs.Layout.{has_events, word_offset, AvailIndex, UsedIndex, UsedId}
+use Rattle.split_ring.specs.Spelling.{low_half, high_half, entry_half, desc_flags}
 use Rattle.link_handshake.specs.declared.Phase.{Phase}
 use Rattle.link_handshake.specs.HandshakeState.{move_of}
 use Rattle.link_handshake.specs.declared.Move.{Move}
@@ -11,13 +11,14 @@ use Rattle.link_handshake.specs.declared.Move.TheVariants.{Stay, Set, ClearThenS
 use Rattle.link_handshake.specs.PhaseTable.{move_on}
 use Rattle.split_ring.specs.declared.steps.Access.{Access}
 use Rattle.split_ring.specs.declared.steps.Access.TheVariants as access
+use Rattle.split_ring.specs.Ranges.{is_avail_entry, is_desc_address, is_desc_length, is_desc_flags, is_used_id, is_avail_index, is_used_index}
 use Rattle.call_grammar.specs.Steps.{Mark, Reclaim, Full, Look, Deliver, Done, Over, Step, value_given, step_of}
 use Rattle.call_grammar.specs.Trees.{CallTree, Ended, Does, Reads, Goes}
 use Rattle.call_grammar.specs.Ends.{End}
 use Rattle.call_grammar.specs.Ticks.{EndConfig, clear, set_state, tick_marks, after_tick}
 use Rattle.call_grammar.specs.Words.{address_of, words_for, frame_in}
 use Rattle.call_grammar.specs.Offers.{PendingOffer, frame_fits, avail_entry_of, descriptor_of, refusal, full_marks, ring_doorbell, wants_doorbell, read_avail_event, notify, write_frame_words, read_used_ids, returned_by, reclaim_marks, offer}
-use Rattle.call_grammar.specs.Polls.{is_entry, is_address, is_length, read_words, read_flags, read_length, read_high, read_low, item, items, published_by, is_last, look_marks, read_avail_index, write_avail_event, poll}
+use Rattle.call_grammar.specs.Polls.{read_words, read_flags, read_length, read_high, read_low, item, items, published_by, is_last, look_marks, read_avail_index, write_avail_event, poll}
 use Rattle.call_grammar.specs.Calls.{Call, Tick, Stop, Offer, Poll, in_run, pending_of, down, tree_of}
 use Rattle.call_grammar.specs.Rows.{MovesTo, phase_with, seen_with, SeesTheOther, RowHolds, KeepsRows, CallsKeepRows}
 
@@ -75,16 +76,16 @@ fill_keeps config phase seen pending at (suc more) = (tt, fill_keeps config phas
 ids_keep : (config : EndConfig) (phase : Phase) (pending : PendingOffer) (freed more seen : ℕ) → KeepsRows config phase seen (read_used_ids config pending freed more)
 ids_keep config phase pending freed zero seen = either config phase seen (frame_fits config pending freed) (write_frame_words config pending 0 (words_for (length pending.frame))) Ended (fill_keeps config phase seen pending 0 (words_for (length pending.frame))) tt
 ids_keep config phase pending freed (suc more) seen = λ value. let word = config.theirs + word_offset config.sizes (UsedId (avail_entry_of config freed)) in (
-  blind config word value (value == descriptor_of config freed) (if more == 0 then full_marks config pending (freed + 1) else []) (refusal field_name.UsedId value)
+  blind config word value (is_used_id (descriptor_of config freed) value) (if more == 0 then full_marks config pending (freed + 1) else []) (refusal field_name.UsedId value)
       (blind config word value (more == 0) (full_marks config pending (freed + 1)) [] (full_sees config word value pending (freed + 1)) tt) tt,
-  either config phase _ (value == descriptor_of config freed) (read_used_ids config pending (freed + 1) more) (set_state 0) (ids_keep config phase pending (freed + 1) more _) (back_off config phase _),
+  either config phase _ (is_used_id (descriptor_of config freed) value) (read_used_ids config pending (freed + 1) more) (set_state 0) (ids_keep config phase pending (freed + 1) more _) (back_off config phase _),
 )
 
 offer_keeps : (config : EndConfig) (phase : Phase) (seen : ℕ) (pending : PendingOffer) (freed : ℕ) → KeepsRows config phase seen (offer config pending freed)
 offer_keeps config phase seen pending freed = λ value. let word = config.theirs + word_offset config.sizes UsedIndex in let d = returned_by freed value in (
-  blind config word value (nat_le d (pending.number - freed)) (reclaim_marks config pending freed d) (refusal field_name.UsedIndex (high_half value))
+  blind config word value (is_used_index (freed % 65536) (high_half value) (pending.number - freed)) (reclaim_marks config pending freed d) (refusal field_name.UsedIndex (high_half value))
       (blind config word value (d == 0) (Reclaim 0 ∷ full_marks config pending freed) (Reclaim d ∷ []) (full_sees config word value pending freed) tt) tt,
-  either config phase _ (nat_le d (pending.number - freed)) (read_used_ids config pending freed d) (set_state 0) (ids_keep config phase pending freed d _) (back_off config phase _),
+  either config phase _ (is_used_index (freed % 65536) (high_half value) (pending.number - freed)) (read_used_ids config pending freed d) (set_state 0) (ids_keep config phase pending freed d _) (back_off config phase _),
 )
 
 words_keep : (config : EndConfig) (phase : Phase) (number entry address bytes : ℕ) (read : List ℕ) (more : ℕ) (after : CallTree) → ((seen : ℕ) → KeepsRows config phase seen after) → (seen : ℕ) → KeepsRows config phase seen (read_words config number entry address bytes read more after)
@@ -96,26 +97,26 @@ words_keep config phase number entry address bytes read (suc more) after keeps s
 
 flags_keep : (config : EndConfig) (phase : Phase) (seen number entry address bytes : ℕ) (after : CallTree) → ((seen : ℕ) → KeepsRows config phase seen after) → KeepsRows config phase seen (read_flags config number entry address bytes after)
 flags_keep config phase seen number entry address bytes after keeps = λ value. (
-  blind config _ value (low_half value == 0) [] (refusal field_name.DescFlags (low_half value)) tt tt,
-  either config phase _ (low_half value == 0) (read_words config number entry address bytes [] (words_for bytes) after) (set_state 0) (words_keep config phase number entry address bytes [] (words_for bytes) after keeps _) (back_off config phase _),
+  blind config _ value (is_desc_flags (desc_flags value)) [] (refusal field_name.DescFlags (desc_flags value)) tt tt,
+  either config phase _ (is_desc_flags (desc_flags value)) (read_words config number entry address bytes [] (words_for bytes) after) (set_state 0) (words_keep config phase number entry address bytes [] (words_for bytes) after keeps _) (back_off config phase _),
 )
 
 length_keeps : (config : EndConfig) (phase : Phase) (seen number entry address : ℕ) (after : CallTree) → ((seen : ℕ) → KeepsRows config phase seen after) → KeepsRows config phase seen (read_length config number entry address after)
 length_keeps config phase seen number entry address after keeps = λ value. (
-  blind config _ value (is_length config.sizes address value) [] (refusal field_name.DescLength value) tt tt,
-  either config phase _ (is_length config.sizes address value) (read_flags config number entry address value after) (set_state 0) (flags_keep config phase _ number entry address value after keeps) (back_off config phase _),
+  blind config _ value (is_desc_length config.sizes address value) [] (refusal field_name.DescLength value) tt tt,
+  either config phase _ (is_desc_length config.sizes address value) (read_flags config number entry address value after) (set_state 0) (flags_keep config phase _ number entry address value after keeps) (back_off config phase _),
 )
 
 high_keeps : (config : EndConfig) (phase : Phase) (seen number entry low : ℕ) (after : CallTree) → ((seen : ℕ) → KeepsRows config phase seen after) → KeepsRows config phase seen (read_high config number entry low after)
 high_keeps config phase seen number entry low after keeps = λ value. (
-  blind config _ value (is_address config.sizes (address_of low value)) [] (refusal field_name.DescAddress (address_of low value)) tt tt,
-  either config phase _ (is_address config.sizes (address_of low value)) (read_length config number entry (address_of low value) after) (set_state 0) (length_keeps config phase _ number entry (address_of low value) after keeps) (back_off config phase _),
+  blind config _ value (is_desc_address config.sizes (address_of low value)) [] (refusal field_name.DescAddress (address_of low value)) tt tt,
+  either config phase _ (is_desc_address config.sizes (address_of low value)) (read_length config number entry (address_of low value) after) (set_state 0) (length_keeps config phase _ number entry (address_of low value) after keeps) (back_off config phase _),
 )
 
 item_keeps : (config : EndConfig) (phase : Phase) (seen number : ℕ) (after : CallTree) → ((seen : ℕ) → KeepsRows config phase seen after) → KeepsRows config phase seen (item config number after)
 item_keeps config phase seen number after keeps = λ value. let e = entry_half (avail_entry_of config number) value in (
-  blind config _ value (is_entry config.sizes e) [] (refusal field_name.AvailEntry e) tt tt,
-  either config phase _ (is_entry config.sizes e) (read_low config number e after) (set_state 0) (λ low. (tt, high_keeps config phase _ number e low after keeps)) (back_off config phase _),
+  blind config _ value (is_avail_entry config.sizes e) [] (refusal field_name.AvailEntry e) tt tt,
+  either config phase _ (is_avail_entry config.sizes e) (read_low config number e after) (set_state 0) (λ low. (tt, high_keeps config phase _ number e low after keeps)) (back_off config phase _),
 )
 
 items_keep : (config : EndConfig) (phase : Phase) (seen number more : ℕ) → KeepsRows config phase seen (items config number more)
@@ -124,9 +125,9 @@ items_keep config phase seen number (suc more) = item_keeps config phase seen nu
 
 look_keeps : (config : EndConfig) (phase : Phase) (seen taken : ℕ) (last : Bool) (none : CallTree) → ((seen : ℕ) → KeepsRows config phase seen none) → KeepsRows config phase seen (read_avail_index config taken last none)
 look_keeps config phase seen taken last none keeps = λ value. let word = config.theirs + word_offset config.sizes AvailIndex in let d = published_by taken value in (
-  blind config word value (nat_le d (size_of config.sizes)) (look_marks last d) (refusal field_name.AvailIndex (high_half value))
+  blind config word value (is_avail_index config.sizes (taken % 65536) (high_half value)) (look_marks last d) (refusal field_name.AvailIndex (high_half value))
       (blind config word value (d == 0) (if last then Look 0 ∷ Done ∷ [] else Look 0 ∷ []) (Look d ∷ []) (blind config word value last (Look 0 ∷ Done ∷ []) (Look 0 ∷ []) tt tt) tt) tt,
-  either config phase _ (nat_le d (size_of config.sizes)) (if d == 0 then none else items config taken d) (set_state 0) (either config phase _ (d == 0) none (items config taken d) (keeps _) (items_keep config phase _ taken d)) (back_off config phase _),
+  either config phase _ (is_avail_index config.sizes (taken % 65536) (high_half value)) (if d == 0 then none else items config taken d) (set_state 0) (either config phase _ (d == 0) none (items config taken d) (keeps _) (items_keep config phase _ taken d)) (back_off config phase _),
 )
 
 poll_keeps : (config : EndConfig) (phase : Phase) (seen taken : ℕ) (last : Bool) → KeepsRows config phase seen (poll config taken last)

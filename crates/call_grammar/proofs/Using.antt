@@ -1,14 +1,16 @@
 -- An index is read once for each use.
 use Rattle.std.proofs.Common.{◌≡◌, ◌≢◌, ℕ, zero, suc, ◌+◌, ◌-◌, ◌*◌, ◌/◌, ◌<◌, ◌≤◌, Bool, true, false, List, [], ◌∷◌, ◌++◌, length, refl, sym, ap, ◌∙◌, subst, arith, All, eq-eqb, ne_eqb}
-use Rattle.std.specs.Prelude.{◌==◌, ◌||◌, nat_le, if◌then◌else◌}
+use Rattle.std.specs.Prelude.{◌==◌, ◌||◌, if◌then◌else◌, ◌%◌}
 use Rattle.std.proofs.lemmas.Nat.{mod_below}
 use Rattle.std.proofs.lemmas.List.Elements.{All-nil, All-cons}
 use Rattle.link_handshake.specs.HandshakeState.{move_of}
 use Rattle.link_handshake.specs.declared.Move.{Move}
 use Rattle.link_handshake.specs.declared.Move.TheVariants.{Stay, Set, ClearThenSet}
 use Rattle.split_ring.specs.Layout.{has_events, size_of, data_area_start, word_offset, AvailEntry, UsedId, AvailEvent}
-use Rattle.split_ring.specs.Spelling.{low_half, high_half, entry_half}
+use Rattle.split_ring.specs.Spelling.{low_half, high_half, entry_half, desc_flags}
 use Rattle.split_ring.specs.declared.ranges.FieldName.TheVariants as field_name
+use Rattle.split_ring.specs.Ranges.{is_avail_entry, is_desc_address, is_desc_length, is_avail_index, is_desc_flags, is_used_index, is_used_id}
+use Rattle.split_ring.proofs.Tests.{entry_tells, address_tells}
 use Rattle.split_ring.proofs.Bounds.{bounds}
 use Rattle.call_grammar.specs.Steps.{Mark, Reclaim, Full, Look, Deliver, Done, Over, Step}
 use Rattle.call_grammar.specs.Trees.{CallTree, Ended, Does, Reads, Goes, GoesAlong}
@@ -16,12 +18,11 @@ use Rattle.call_grammar.specs.Ends.{End}
 use Rattle.call_grammar.specs.Ticks.{EndConfig, clear, set_state, other_state, tick_marks, after_tick}
 use Rattle.call_grammar.specs.Words.{address_of, words_for, frame_in}
 use Rattle.call_grammar.specs.Offers.{PendingOffer, frame_fits, avail_entry_of, descriptor_of, refusal, full_marks, ring_doorbell, wants_doorbell, read_avail_event, notify, write_frame_words, used_id_marks, read_used_ids, returned_by, reclaim_marks, used_index_marks, offer}
-use Rattle.call_grammar.specs.Polls.{is_entry, is_address, is_length, read_words, read_flags, read_length, read_low, item, items, published_by, is_last, look_marks, avail_index_marks, after_look, read_avail_index, write_avail_event, poll}
+use Rattle.call_grammar.specs.Polls.{read_words, read_flags, read_length, read_low, item, items, published_by, is_last, look_marks, avail_index_marks, after_look, read_avail_index, write_avail_event, poll}
 use Rattle.call_grammar.specs.Calls.{Call, Tick, Stop, Offer, Poll, in_run, pending_of, down, tree_of}
 use Rattle.call_grammar.specs.Reach.{HasSections}
 use Rattle.call_grammar.specs.ReadsOnce.{used_index_word, avail_index_word, indexes_used, index_at, indexes_read, ReadsForUse}
 use Rattle.call_grammar.proofs.OfferLists.{yes, no}
-use Rattle.call_grammar.proofs.PollLists.{entry_tells, address_tells}
 
 -- Each step of the call reads an index exactly for its uses, for all values read.
 abbrev UsesReads : EndConfig → CallTree → Type 0
@@ -75,17 +76,17 @@ reclaim_uses config pending freed count =
 
 used_uses : (config : EndConfig) (pending : PendingOffer) (freed value : ℕ) → indexes_used config (used_index_marks config pending freed value) ≡ used_index_word config ∷ []
 used_uses config pending freed value =
-    either config (nat_le (returned_by freed value) (pending.number - freed)) (reclaim_marks config pending freed (returned_by freed value)) (refusal field_name.UsedIndex (high_half value)) (used_index_word config ∷ [])
+    either config (is_used_index (freed % 65536) (high_half value) (pending.number - freed)) (reclaim_marks config pending freed (returned_by freed value)) (refusal field_name.UsedIndex (high_half value)) (used_index_word config ∷ [])
     (reclaim_uses config pending freed (returned_by freed value)) refl
 
 id_uses : (config : EndConfig) (pending : PendingOffer) (freed more value : ℕ) → indexes_used config (used_id_marks config pending freed more value) ≡ []
 id_uses config pending freed more value =
-    either config (value == descriptor_of config freed) (if more == 0 then full_marks config pending (freed + 1) else []) (refusal field_name.UsedId value) []
+    either config (is_used_id (descriptor_of config freed) value) (if more == 0 then full_marks config pending (freed + 1) else []) (refusal field_name.UsedId value) []
     (either config (more == 0) (full_marks config pending (freed + 1)) [] [] (full_uses config pending (freed + 1)) refl) refl
 
 available_uses : (config : EndConfig) (taken : ℕ) (last : Bool) (value : ℕ) → indexes_used config (avail_index_marks config taken last value) ≡ avail_index_word config ∷ []
 available_uses config taken last value =
-    either config (nat_le (published_by taken value) (size_of config.sizes)) (look_marks last (published_by taken value)) (refusal field_name.AvailIndex (high_half value)) (avail_index_word config ∷ [])
+    either config (is_avail_index config.sizes (taken % 65536) (high_half value)) (look_marks last (published_by taken value)) (refusal field_name.AvailIndex (high_half value)) (avail_index_word config ∷ [])
     (either config (published_by taken value == 0) (if last then Look 0 ∷ Done ∷ [] else Look 0 ∷ []) (Look (published_by taken value) ∷ []) (avail_index_word config ∷ [])
     (either config last (Look 0 ∷ Done ∷ []) (Look 0 ∷ []) (avail_index_word config ∷ []) refl refl) refl) refl
 
@@ -124,13 +125,13 @@ ids_use : (config : EndConfig) → HasSections config → (pending : PendingOffe
 ids_use config has pending freed zero = choice config (frame_fits config pending freed) (write_frame_words config pending 0 (words_for (length pending.frame))) Ended (λ _. fill_uses config has pending 0 (words_for (length pending.frame))) tt
 ids_use config has pending freed (suc more) = λ value. (
   id_apart config freed ∙ sym (id_uses config pending freed more value),
-  choice config (value == descriptor_of config freed) (read_used_ids config pending (freed + 1) more) (set_state 0) (λ _. ids_use config has pending (freed + 1) more) (refl, tt),
+  choice config (is_used_id (descriptor_of config freed) value) (read_used_ids config pending (freed + 1) more) (set_state 0) (λ _. ids_use config has pending (freed + 1) more) (refl, tt),
 )
 
 offer_uses : (config : EndConfig) → HasSections config → (pending : PendingOffer) (freed : ℕ) → UsesReads config (offer config pending freed)
 offer_uses config has pending freed = λ value. (
   at_used config ∙ sym (used_uses config pending freed value),
-  choice config (nat_le (returned_by freed value) (pending.number - freed)) (read_used_ids config pending freed (returned_by freed value)) (set_state 0) (λ _. ids_use config has pending freed (returned_by freed value)) (refl, tt),
+  choice config (is_used_index (freed % 65536) (high_half value) (pending.number - freed)) (read_used_ids config pending freed (returned_by freed value)) (set_state 0) (λ _. ids_use config has pending freed (returned_by freed value)) (refl, tt),
 )
 
 -- The words of a frame are after the words of the indices.
@@ -158,16 +159,16 @@ entry_apart config has number =
 
 item_uses : (config : EndConfig) → HasSections config → (number : ℕ) (after : CallTree) → UsesReads config after → UsesReads config (item config number after)
 item_uses config has number after uses = λ value. let e = entry_half (avail_entry_of config number) value in (
-  entry_apart config has number ∙ sym (either config (is_entry config.sizes e) [] (refusal field_name.AvailEntry e) [] refl refl),
-  choice config (is_entry config.sizes e) (read_low config number e after) (set_state 0) (λ test. let i = entry_tells config.sizes e test in λ low. (
+  entry_apart config has number ∙ sym (either config (is_avail_entry config.sizes e) [] (refusal field_name.AvailEntry e) [] refl refl),
+  choice config (is_avail_entry config.sizes e) (read_low config number e after) (set_state 0) (λ test. let i = entry_tells config.sizes e test in λ low. (
     descriptor_apart config e 0 _ i (omega arith) (omega arith),
     λ high. let a = address_of low high in (
-      descriptor_apart config e 1 _ i (omega arith) (omega arith) ∙ sym (either config (is_address config.sizes a) [] (refusal field_name.DescAddress a) [] refl refl),
-      choice config (is_address config.sizes a) (read_length config number e a after) (set_state 0) (λ atest. λ l. (
-        descriptor_apart config e 2 _ i (omega arith) (omega arith) ∙ sym (either config (is_length config.sizes a l) [] (refusal field_name.DescLength l) [] refl refl),
-        choice config (is_length config.sizes a l) (read_flags config number e a l after) (set_state 0) (λ _. λ flags. (
-          descriptor_apart config e 3 _ i (omega arith) (omega arith) ∙ sym (either config (low_half flags == 0) [] (refusal field_name.DescFlags (low_half flags)) [] refl refl),
-          choice config (low_half flags == 0) (read_words config number e a l [] (words_for l) after) (set_state 0)
+      descriptor_apart config e 1 _ i (omega arith) (omega arith) ∙ sym (either config (is_desc_address config.sizes a) [] (refusal field_name.DescAddress a) [] refl refl),
+      choice config (is_desc_address config.sizes a) (read_length config number e a after) (set_state 0) (λ atest. λ l. (
+        descriptor_apart config e 2 _ i (omega arith) (omega arith) ∙ sym (either config (is_desc_length config.sizes a l) [] (refusal field_name.DescLength l) [] refl refl),
+        choice config (is_desc_length config.sizes a l) (read_flags config number e a l after) (set_state 0) (λ _. λ flags. (
+          descriptor_apart config e 3 _ i (omega arith) (omega arith) ∙ sym (either config (is_desc_flags (desc_flags flags)) [] (refusal field_name.DescFlags (desc_flags flags)) [] refl refl),
+          choice config (is_desc_flags (desc_flags flags)) (read_words config number e a l [] (words_for l) after) (set_state 0)
               (λ _. words_use config number e a l [] (words_for l) after (address_tells config.sizes a atest).1 uses) (refl, tt),
         )) (refl, tt),
       )) (refl, tt),
@@ -182,7 +183,7 @@ items_use config has number (suc more) = item_uses config has number (items conf
 look_uses : (config : EndConfig) → HasSections config → (taken : ℕ) (last : Bool) (none : CallTree) → UsesReads config none → UsesReads config (read_avail_index config taken last none)
 look_uses config has taken last none uses = λ value. let d = published_by taken value in (
   at_available config ∙ sym (available_uses config taken last value),
-  choice config (nat_le d (size_of config.sizes)) (after_look config taken value none) (set_state 0) (λ _. choice config (d == 0) none (items config taken d) (λ _. uses) (items_use config has taken d)) (refl, tt),
+  choice config (is_avail_index config.sizes (taken % 65536) (high_half value)) (after_look config taken value none) (set_state 0) (λ _. choice config (d == 0) none (items config taken d) (λ _. uses) (items_use config has taken d)) (refl, tt),
 )
 
 poll_uses : (config : EndConfig) → HasSections config → (taken : ℕ) (last : Bool) → UsesReads config (poll config taken last)

@@ -3,7 +3,7 @@
 --
 -- Source: VIRTIO 1.1, section 2.6.13 (supplying buffers to the device); profile for the order of
 -- accesses, one each step, and the limit of frames in flight.
-use Rattle.std.specs.Prelude.{ℕ, zero, suc, ◌≡◌, ◌+◌, ◌-◌, ◌/◌, ◌%◌, ◌<◌, ◌==◌, nat_le, Bool, true, false, ◌⊎◌, if◌then◌else◌, List, [], ◌∷◌, ◌++◌, length}
+use Rattle.std.specs.Prelude.{ℕ, zero, suc, ◌≡◌, ◌+◌, ◌-◌, ◌/◌, ◌%◌, ◌<◌, ◌==◌, Bool, true, false, ◌⊎◌, if◌then◌else◌, List, [], ◌∷◌, ◌++◌, length}
 use Rattle.ivs_base.specs.Numbers.{distance}
 use Rattle.split_ring.specs.declared.ranges.FieldName.{FieldName}
 use Rattle.split_ring.specs.declared.ranges.FieldName.TheVariants as field_name
@@ -11,7 +11,7 @@ use Rattle.split_ring.specs.declared.steps.Access.TheVariants.{Read, Write, Ring
 use Rattle.split_ring.specs.Layout.{has_events, size_of, limit_of, word_offset, DescAddress, DescLength, DescFlags, AvailIndex, AvailEntry, UsedIndex, UsedId, AvailEvent}
 use Rattle.split_ring.specs.Frames.{start_of, has_room}
 use Rattle.split_ring.specs.Spelling.{low_half, high_half}
-use Rattle.split_ring.specs.Ranges.{IsUsedIndex, IsUsedId, needs_event}
+use Rattle.split_ring.specs.Ranges.{IsUsedIndex, IsUsedId, needs_event, is_used_index, is_used_id}
 use Rattle.call_grammar.specs.Steps.{Mark, Reclaim, Full, Accept, Refuse, Over, Step, step_of}
 use Rattle.call_grammar.specs.Trees.{CallTree, Ended, Does, Reads}
 use Rattle.call_grammar.specs.Ticks.{EndConfig, set_state, state_step}
@@ -120,7 +120,7 @@ after_ids config pending freed = if frame_fits config pending freed then write_f
 -- The marks of the read of an id, with `more` ids left after it.
 abbrev pub used_id_marks : EndConfig → PendingOffer → (freed more : ℕ) → ℕ → List Mark
 used_id_marks config pending freed more value =
-    if value == descriptor_of config freed
+    if is_used_id (descriptor_of config freed) value
     then (if more == 0 then full_marks config pending (freed + 1) else [])
     else refusal field_name.UsedId value
 
@@ -131,7 +131,7 @@ read_used_ids config pending freed zero = after_ids config pending freed
 read_used_ids config pending freed (suc more) =
     Reads (config.theirs + word_offset config.sizes (UsedId (avail_entry_of config freed)))
     (λ value. used_id_marks config pending freed more value)
-    (λ value. if value == descriptor_of config freed then read_used_ids config pending (freed + 1) more else set_state 0)
+    (λ value. if is_used_id (descriptor_of config freed) value then read_used_ids config pending (freed + 1) more else set_state 0)
 
 -- The number of frames that a used index returns.
 abbrev pub returned_by : ℕ → ℕ → ℕ
@@ -144,7 +144,7 @@ reclaim_marks config pending freed count = if count == 0 then Reclaim 0 ∷ full
 -- The marks of the read of the used index.
 abbrev pub used_index_marks : EndConfig → PendingOffer → ℕ → ℕ → List Mark
 used_index_marks config pending freed value =
-    if nat_le (returned_by freed value) (pending.number - freed)
+    if is_used_index (freed % 65536) (high_half value) (pending.number - freed)
     then reclaim_marks config pending freed (returned_by freed value)
     else refusal field_name.UsedIndex (high_half value)
 
@@ -153,7 +153,7 @@ abbrev pub offer : EndConfig → PendingOffer → ℕ → CallTree
 offer config pending freed =
     Reads (config.theirs + word_offset config.sizes UsedIndex)
     (λ value. used_index_marks config pending freed value)
-    (λ value. if nat_le (returned_by freed value) (pending.number - freed) then read_used_ids config pending freed (returned_by freed value) else set_state 0)
+    (λ value. if is_used_index (freed % 65536) (high_half value) (pending.number - freed) then read_used_ids config pending freed (returned_by freed value) else set_state 0)
 
 -- The table of finished offers
 

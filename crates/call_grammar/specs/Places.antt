@@ -1,20 +1,21 @@
 -- The places of a call: the state of an end between two steps, as data, and the part of the call
 -- that is left there.
-use Rattle.std.specs.Prelude.{ℕ, zero, suc, ◌≡◌, ◌+◌, ◌-◌, ◌/◌, ◌%◌, ◌==◌, nat_le, Bool, true, false, if◌then◌else◌, List, [], ◌∷◌, ◌++◌, length}
+use Rattle.std.specs.Prelude.{ℕ, zero, suc, ◌≡◌, ◌+◌, ◌-◌, ◌/◌, ◌%◌, ◌==◌, Bool, true, false, if◌then◌else◌, List, [], ◌∷◌, ◌++◌, length}
 use Rattle.link_handshake.specs.declared.Move.{Move}
 use Rattle.link_handshake.specs.declared.Move.TheVariants.{Stay, Set, ClearThenSet}
 use Rattle.link_handshake.specs.HandshakeState.{HandshakeState, move_of}
 use Rattle.split_ring.specs.declared.steps.Access.{Access}
 use Rattle.split_ring.specs.declared.steps.Access.TheVariants as access
-use Rattle.split_ring.specs.Layout.{has_events, size_of, word_offset, DescAddress, DescLength, DescFlags, AvailIndex, AvailEntry, UsedIndex, UsedId, UsedLength, AvailEvent}
-use Rattle.split_ring.specs.Spelling.{low_half}
+use Rattle.split_ring.specs.Layout.{has_events, word_offset, DescAddress, DescLength, DescFlags, AvailIndex, AvailEntry, UsedIndex, UsedId, UsedLength, AvailEvent}
+use Rattle.split_ring.specs.Spelling.{low_half, high_half, desc_flags}
+use Rattle.split_ring.specs.Ranges.{is_avail_entry, is_desc_address, is_desc_length, is_avail_index, is_desc_flags, is_used_index, is_used_id}
 use Rattle.call_grammar.specs.Steps.{Mark, Over, Accept, Deliver, Return, Done, Down, Step, step_of}
 use Rattle.call_grammar.specs.Trees.{CallTree, Ended, Reads, Goes}
 use Rattle.call_grammar.specs.Ends.{End}
 use Rattle.call_grammar.specs.Words.{index_word, address_of, words_for, frame_word, frame_in}
 use Rattle.call_grammar.specs.Ticks.{EndConfig, clear, set_state, other_state, tick_marks, after_tick}
 use Rattle.call_grammar.specs.Offers.{PendingOffer, start_at, frame_fits, descriptor_of, avail_entry_of, avail_entry_value, ring_doorbell, wants_doorbell, avail_event_marks, read_avail_event, write_avail_index, write_avail_entry, write_desc_flags, write_desc_length, write_desc_address_high, write_desc_address_low, write_frame_words, used_id_marks, read_used_ids, returned_by, used_index_marks, offer}
-use Rattle.call_grammar.specs.Polls.{is_entry, is_address, is_length, entry_in, entry_marks, address_marks, length_marks, flags_marks, write_used_index, write_used_length, write_used_id, read_words, read_flags, read_length, read_high, read_low, item, ring_after_poll, items, published_by, is_last, avail_index_marks, write_avail_event, read_avail_index, poll}
+use Rattle.call_grammar.specs.Polls.{entry_in, entry_marks, address_marks, length_marks, flags_marks, write_used_index, write_used_length, write_used_id, read_words, read_flags, read_length, read_high, read_low, item, ring_after_poll, items, published_by, is_last, avail_index_marks, write_avail_event, read_avail_index, poll}
 use Rattle.call_grammar.specs.Calls.{Call, Tick, Stop, Offer, Poll, in_run, pending_of, down, tree_of}
 
 -- The place of a call, named after its next access:
@@ -202,8 +203,8 @@ next_place config (WritingState state) value = Closed
 next_place config Refusing value = Closed
 next_place config NotInRun value = Closed
 next_place config (ReadingUsedIndex pending freed) value =
-    if nat_le (returned_by freed value) (pending.number - freed) then ids_place config pending freed (returned_by freed value) else Refusing
-next_place config (ReadingUsedId pending freed more) value = if value == descriptor_of config freed then ids_place config pending (freed + 1) more else Refusing
+    if is_used_index (freed % 65536) (high_half value) (pending.number - freed) then ids_place config pending freed (returned_by freed value) else Refusing
+next_place config (ReadingUsedId pending freed more) value = if is_used_id (descriptor_of config freed) value then ids_place config pending (freed + 1) more else Refusing
 next_place config (WritingFrameWord pending at more) value = fill_place pending (at + 1) more
 next_place config (WritingDescAddressLow pending) value = WritingDescAddressHigh pending
 next_place config (WritingDescAddressHigh pending) value = WritingDescLength pending
@@ -214,18 +215,18 @@ next_place config (WritingAvailIndex pending) value = notify_place config pendin
 next_place config (ReadingAvailEvent number) value = if wants_doorbell (low_half value) number then RingingOffer else Closed
 next_place config RingingOffer value = Closed
 next_place config (ReadingAvailIndex taken last) value =
-    if nat_le (published_by taken value) (size_of config.sizes)
+    if is_avail_index config.sizes (taken % 65536) (high_half value)
     then (if published_by taken value == 0 then none_place taken last else items_place taken (published_by taken value))
     else Refusing
 next_place config (WritingAvailEvent taken) value = ReadingAvailIndex taken true
 next_place config (ReadingAvailEntry number more) value =
-    if is_entry config.sizes (entry_in config number value) then ReadingDescAddressLow number more (entry_in config number value) else Refusing
+    if is_avail_entry config.sizes (entry_in config number value) then ReadingDescAddressLow number more (entry_in config number value) else Refusing
 next_place config (ReadingDescAddressLow number more entry) value = ReadingDescAddressHigh number more entry value
 next_place config (ReadingDescAddressHigh number more entry low) value =
-    if is_address config.sizes (address_of low value) then ReadingDescLength number more entry (address_of low value) else Refusing
-next_place config (ReadingDescLength number more entry address) value = if is_length config.sizes address value then ReadingDescFlags number more entry address value else Refusing
+    if is_desc_address config.sizes (address_of low value) then ReadingDescLength number more entry (address_of low value) else Refusing
+next_place config (ReadingDescLength number more entry address) value = if is_desc_length config.sizes address value then ReadingDescFlags number more entry address value else Refusing
 next_place config (ReadingDescFlags number more entry address bytes) value =
-    if low_half value == 0 then words_place number more entry address bytes [] (words_for bytes) else Refusing
+    if is_desc_flags (desc_flags value) then words_place number more entry address bytes [] (words_for bytes) else Refusing
 next_place config (ReadingFrameWord number more entry address bytes read words) value =
     words_place number more entry address bytes (read ++ value ∷ []) words
 next_place config (WritingUsedId number more entry) value = WritingUsedLength number more

@@ -3,47 +3,36 @@
 --
 -- Source: VIRTIO 1.1, section 2.6.8 (the used ring); profile for the order of accesses, one each
 -- step, and the tests.
-use Rattle.std.specs.Prelude.{ℕ, zero, suc, ◌≡◌, ◌≢◌, ◌+◌, ◌/◌, ◌%◌, ◌<◌, ◌==◌, nat_lt, nat_le, Bool, true, false, ◌&&◌, ◌||◌, not, ◌⊎◌, if◌then◌else◌, List, [], ◌∷◌, ◌++◌, length}
+use Rattle.std.specs.Prelude.{ℕ, zero, suc, ◌≡◌, ◌≢◌, ◌+◌, ◌/◌, ◌%◌, ◌<◌, ◌==◌, Bool, true, false, ◌||◌, not, ◌⊎◌, if◌then◌else◌, List, [], ◌∷◌, ◌++◌, length}
 use Rattle.ivs_base.specs.Numbers.{distance}
 use Rattle.split_ring.specs.declared.ranges.FieldName.TheVariants as field_name
 use Rattle.split_ring.specs.declared.steps.Access.TheVariants.{Read, Write, Ring}
-use Rattle.split_ring.specs.Layout.{Sizes, has_events, size_of, data_area_start, word_offset, DescAddress, DescLength, DescFlags, AvailIndex, AvailEntry, UsedIndex, UsedId, UsedLength, AvailEvent}
-use Rattle.split_ring.specs.Spelling.{high_half, low_half, entry_half}
-use Rattle.split_ring.specs.Ranges.{IsAvailIndex, IsAvailEntry, IsDescAddress, IsDescLength, IsDescFlags}
+use Rattle.split_ring.specs.Layout.{has_events, word_offset, DescAddress, DescLength, DescFlags, AvailIndex, AvailEntry, UsedIndex, UsedId, UsedLength, AvailEvent}
+use Rattle.split_ring.specs.Spelling.{high_half, entry_half, desc_flags}
+use Rattle.split_ring.specs.Ranges.{IsAvailIndex, IsAvailEntry, IsDescAddress, IsDescLength, IsDescFlags, is_avail_index, is_avail_entry, is_desc_address, is_desc_length, is_desc_flags}
 use Rattle.call_grammar.specs.Steps.{Mark, Look, Deliver, Return, Done, Step, step_of}
 use Rattle.call_grammar.specs.Trees.{CallTree, Ended, Does, Reads}
 use Rattle.call_grammar.specs.Ticks.{EndConfig, set_state}
 use Rattle.call_grammar.specs.Words.{index_word, address_of, words_for, frame_in}
 use Rattle.call_grammar.specs.Offers.{avail_entry_of, refusal, refused_steps, write_step, doorbell_step}
 
--- The tests of the fields that a poll reads, in the order of their reads
-
-abbrev pub is_entry : Sizes → ℕ → Bool
-is_entry q entry = nat_lt entry (size_of q)
-
-abbrev pub is_address : Sizes → ℕ → Bool
-is_address q address = (address % 4 == 0) && (nat_le (data_area_start q) address && nat_lt address q.out)
-
-abbrev pub is_length : Sizes → ℕ → ℕ → Bool
-is_length q address length = nat_le 14 length && (nat_le length 65553 && nat_le (address + length) q.out)
-
--- The marks of these reads: none, or the refusal
+-- The marks of the reads of an item: none, or the refusal
 
 -- The available entry of the item with this number, from the word read.
 abbrev pub entry_in : EndConfig → (number value : ℕ) → ℕ
 entry_in config number value = entry_half (avail_entry_of config number) value
 
 abbrev pub entry_marks : EndConfig → (number value : ℕ) → List Mark
-entry_marks config number value = if is_entry config.sizes (entry_in config number value) then [] else refusal field_name.AvailEntry (entry_in config number value)
+entry_marks config number value = if is_avail_entry config.sizes (entry_in config number value) then [] else refusal field_name.AvailEntry (entry_in config number value)
 
 abbrev pub address_marks : EndConfig → (low value : ℕ) → List Mark
-address_marks config low value = if is_address config.sizes (address_of low value) then [] else refusal field_name.DescAddress (address_of low value)
+address_marks config low value = if is_desc_address config.sizes (address_of low value) then [] else refusal field_name.DescAddress (address_of low value)
 
 abbrev pub length_marks : EndConfig → (address value : ℕ) → List Mark
-length_marks config address value = if is_length config.sizes address value then [] else refusal field_name.DescLength value
+length_marks config address value = if is_desc_length config.sizes address value then [] else refusal field_name.DescLength value
 
 abbrev pub flags_marks : ℕ → List Mark
-flags_marks value = if low_half value == 0 then [] else refusal field_name.DescFlags (low_half value)
+flags_marks value = if is_desc_flags (desc_flags value) then [] else refusal field_name.DescFlags (desc_flags value)
 
 -- The tree of a poll. Each part has its continuation as its last argument. Items and frames are
 -- numbered in the session, and the entry of an item is at its number modulo the queue size.
@@ -72,19 +61,19 @@ abbrev pub read_flags : EndConfig → (number entry address bytes : ℕ) → Cal
 read_flags config number entry address bytes after =
     Reads (config.theirs + word_offset config.sizes (DescFlags entry))
     (λ value. flags_marks value)
-    (λ value. if low_half value == 0 then read_words config number entry address bytes [] (words_for bytes) after else set_state 0)
+    (λ value. if is_desc_flags (desc_flags value) then read_words config number entry address bytes [] (words_for bytes) after else set_state 0)
 
 abbrev pub read_length : EndConfig → (number entry address : ℕ) → CallTree → CallTree
 read_length config number entry address after =
     Reads (config.theirs + word_offset config.sizes (DescLength entry))
     (λ value. length_marks config address value)
-    (λ value. if is_length config.sizes address value then read_flags config number entry address value after else set_state 0)
+    (λ value. if is_desc_length config.sizes address value then read_flags config number entry address value after else set_state 0)
 
 abbrev pub read_high : EndConfig → (number entry low : ℕ) → CallTree → CallTree
 read_high config number entry low after =
     Reads (config.theirs + word_offset config.sizes (DescAddress entry) + 1)
     (λ value. address_marks config low value)
-    (λ value. if is_address config.sizes (address_of low value) then read_length config number entry (address_of low value) after else set_state 0)
+    (λ value. if is_desc_address config.sizes (address_of low value) then read_length config number entry (address_of low value) after else set_state 0)
 
 abbrev pub read_low : EndConfig → (number entry : ℕ) → CallTree → CallTree
 read_low config number entry after =
@@ -94,7 +83,7 @@ abbrev pub item : EndConfig → ℕ → CallTree → CallTree
 item config number after =
     Reads (config.theirs + word_offset config.sizes (AvailEntry (avail_entry_of config number)))
     (λ value. entry_marks config number value)
-    (λ value. if is_entry config.sizes (entry_in config number value) then read_low config number (entry_in config number value) after else set_state 0)
+    (λ value. if is_avail_entry config.sizes (entry_in config number value) then read_low config number (entry_in config number value) after else set_state 0)
 
 -- The doorbell of the other peer.
 abbrev pub ring_after_poll : EndConfig → CallTree
@@ -122,7 +111,7 @@ look_marks last count = if count == 0 then (if last then Look 0 ∷ Done ∷ [] 
 -- The marks of the read of the available index.
 abbrev pub avail_index_marks : EndConfig → ℕ → (last : Bool) → ℕ → List Mark
 avail_index_marks config taken last value =
-    if nat_le (published_by taken value) (size_of config.sizes)
+    if is_avail_index config.sizes (taken % 65536) (high_half value)
     then look_marks last (published_by taken value)
     else refusal field_name.AvailIndex (high_half value)
 
@@ -137,7 +126,7 @@ abbrev pub read_avail_index : EndConfig → ℕ → (last : Bool) → CallTree �
 read_avail_index config taken last none =
     Reads (config.theirs + word_offset config.sizes AvailIndex)
     (λ value. avail_index_marks config taken last value)
-    (λ value. if nat_le (published_by taken value) (size_of config.sizes) then after_look config taken value none else set_state 0)
+    (λ value. if is_avail_index config.sizes (taken % 65536) (high_half value) then after_look config taken value none else set_state 0)
 
 -- The write of the own avail_event, which wants a doorbell for the next frame.
 abbrev pub write_avail_event : EndConfig → ℕ → CallTree → CallTree
@@ -201,7 +190,7 @@ pub record IsValidItem (config : EndConfig) (number : ℕ) (read : Item) : Type 
   pub entry : IsAvailEntry config.sizes (item_entry config number read)
   pub address : IsDescAddress config.sizes (item_address read)
   pub bytes : IsDescLength config.sizes (item_address read) read.bytes
-  pub flags : IsDescFlags (low_half read.flags_word)
+  pub flags : IsDescFlags (desc_flags read.flags_word)
   pub words : length read.words ≡ words_for read.bytes
 
 -- The steps of a valid item: each field is read once.
@@ -240,7 +229,7 @@ length_refused config number read =
 abbrev pub flags_refused : EndConfig → ℕ → Item → List Step
 flags_refused config number read =
     entry_step config number read [] ∷ low_step config number read ∷ high_step config number read [] ∷ length_step config number read [] ∷
-    refused_steps (flags_step config number read (refusal field_name.DescFlags (low_half read.flags_word)))
+    refused_steps (flags_step config number read (refusal field_name.DescFlags (desc_flags read.flags_word)))
 
 abbrev pub IsRefusedItem : EndConfig → ℕ → Item → List Step → Type 0
 IsRefusedItem config number read steps =
@@ -250,7 +239,7 @@ IsRefusedItem config number read steps =
     ((IsAvailEntry config.sizes (item_entry config number read) × IsDescAddress config.sizes (item_address read) ×
     (¬ IsDescLength config.sizes (item_address read) read.bytes) × (steps ≡ length_refused config number read)) ⊎
     (IsAvailEntry config.sizes (item_entry config number read) × IsDescAddress config.sizes (item_address read) ×
-    IsDescLength config.sizes (item_address read) read.bytes × (¬ IsDescFlags (low_half read.flags_word)) ×
+    IsDescLength config.sizes (item_address read) read.bytes × (¬ IsDescFlags (desc_flags read.flags_word)) ×
     (steps ≡ flags_refused config number read))))
 
 -- The read of the available index, with its marks.

@@ -1,6 +1,7 @@
 -- The words that a call accesses: it writes only its own section and its own State, and rings only
 -- the other end.
 use Rattle.std.specs.Prelude.{ℕ, ◌≡◌, ◌+◌, ◌*◌, ◌<◌, ◌≤◌, ◌⊎◌, List, length, All}
+use Rattle.split_ring.specs.declared.sizes.TheConstants.{FRAME_OVERHEAD, SHORTEST_FRAME}
 use Rattle.split_ring.specs.Layout.{IsQueue}
 use Rattle.split_ring.specs.declared.steps.Access.{Access}
 use Rattle.split_ring.specs.declared.steps.Access.TheVariants as access
@@ -48,7 +49,7 @@ pub record HasSections (config : EndConfig) : Type 0 where
 
 -- A permitted call: an offered frame is an Ethernet frame of at most MTU + 18 bytes (profile).
 abbrev pub IsPermittedCall : EndConfig → Call → Type 0
-IsPermittedCall config (Offer frame) = (14 ≤ length frame) × (length frame ≤ config.sizes.mtu + 18)
+IsPermittedCall config (Offer frame) = (SHORTEST_FRAME ≤ length frame) × (length frame ≤ config.sizes.mtu + FRAME_OVERHEAD)
 IsPermittedCall config _ = Unit {0}
 
 -- Every call has permitted accesses only, and so has the rest of a call after a step. Each of its

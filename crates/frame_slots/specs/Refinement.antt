@@ -1,6 +1,7 @@
 -- The frames of a session that the allocator's numbers refine.
 use Rattle.std.specs.Prelude.{◌≡◌, ℕ, zero, suc, ◌+◌, ◌%◌, ◌<◌, ◌≤◌, ◌⊎◌, true, false}
 use Rattle.ivs_base.specs.Numbers.{up64}
+use Rattle.split_ring.specs.declared.sizes.TheConstants.{FRAME_OVERHEAD, SHORTEST_FRAME}
 use Rattle.split_ring.specs.Layout.{Sizes, IsQueue, is_byte_ring, data_area_len, limit_of}
 use Rattle.split_ring.specs.Frames.{ring_start, start_of, has_room}
 use Rattle.frame_slots.specs.Allocator.{Allocator, initial_allocator, has_room_in, next_slot, with_placed, with_freed}
@@ -58,12 +59,12 @@ pub record AllocatorRefinesSession : Type 0 where
   pub by_prefix : (t : Allocator) (length_of others : ℕ → ℕ) (freed sent : ℕ) → ((j : ℕ) → j < sent → length_of j ≡ others j) →
       RefinesSession t length_of freed sent → RefinesSession t others freed sent
   pub decides : (t : Allocator) (length_of : ℕ → ℕ) (freed sent : ℕ) → IsQueue t.sizes → RefinesSession t length_of freed sent →
-      14 ≤ length_of sent → length_of sent ≤ t.sizes.mtu + 18 → has_room_in t (length_of sent) ≡ has_room t.sizes length_of freed sent
+      SHORTEST_FRAME ≤ length_of sent → length_of sent ≤ t.sizes.mtu + FRAME_OVERHEAD → has_room_in t (length_of sent) ≡ has_room t.sizes length_of freed sent
   pub places : (t : Allocator) (length_of : ℕ → ℕ) (freed sent : ℕ) → IsQueue t.sizes → RefinesSession t length_of freed sent →
-      14 ≤ length_of sent → length_of sent ≤ t.sizes.mtu + 18 → has_room_in t (length_of sent) ≡ true →
+      SHORTEST_FRAME ≤ length_of sent → length_of sent ≤ t.sizes.mtu + FRAME_OVERHEAD → has_room_in t (length_of sent) ≡ true →
       next_slot t (length_of sent) ≡ record { descriptor = sent % limit_of t.sizes; address = start_of t.sizes length_of sent }
   pub goes_on : (t : Allocator) (length_of : ℕ → ℕ) (freed sent : ℕ) → IsQueue t.sizes → RefinesSession t length_of freed sent →
-      14 ≤ length_of sent → length_of sent ≤ t.sizes.mtu + 18 → has_room_in t (length_of sent) ≡ true →
+      SHORTEST_FRAME ≤ length_of sent → length_of sent ≤ t.sizes.mtu + FRAME_OVERHEAD → has_room_in t (length_of sent) ≡ true →
       RefinesSession (with_placed t (length_of sent)) length_of freed (sent + 1)
   pub frees : (t : Allocator) (length_of : ℕ → ℕ) (freed sent : ℕ) → RefinesSession t length_of freed sent → freed < sent →
       RefinesSession (with_freed t (length_of freed)) length_of (freed + 1) sent

@@ -1,6 +1,7 @@
 //! The descriptor and the place of each frame.
 ghost use Rattle.std.specs.Prelude.{◌≡◌, ◌+◌, ◌<◌, ◌≤◌, IfSome, MatchOption};
 ghost use Rattle.std.specs.Prelude.{◌^◌, true, false};
+ghost use Rattle.split_ring.specs.declared.sizes.TheConstants.{FRAME_OVERHEAD, SHORTEST_FRAME};
 ghost use Rattle.split_ring.specs.Layout.{limit_of, data_area_len};
 ghost use Rattle.split_ring.specs.Frames.{start_after};
 ghost use Rattle.frame_slots.specs.Allocator.{initial_allocator, IsAllocator, IsInFlight, oldest_of, ring_bytes, bytes_are_free, has_room_in, next_slot, with_placed, with_freed, SlotsAreApart, DescriptorsAreReusedInOrder};
@@ -74,8 +75,8 @@ impl Slots {
     // claim known, alone: The descriptor is one of the queue, and is not in flight.
     // claim room: A placed frame ends inside the section.
     pub fn place(&mut self, len: u32) -> Option<Slot>
-        requires least { 14 ≤ len }
-        requires most { len ≤ self.old.sizes.mtu + 18 }
+        requires least { SHORTEST_FRAME ≤ len }
+        requires most { len ≤ self.old.sizes.mtu + FRAME_OVERHEAD }
         ensures taken { MatchOption result ((has_room_in self.old len ≡ false) × (self.new ≡ self.old))
             (λ slot. (has_room_in self.old len ≡ true) × (slot ≡ next_slot self.old len) × (self.new ≡ with_placed self.old len)) }
         ensures known { IfSome result (λ slot. slot.descriptor < limit_of self.old.sizes) }
@@ -136,7 +137,7 @@ impl Slots {
 
     /// Whether another frame of `len` bytes fits.
     fn has_room(&self, len: u32) -> bool
-        requires { len ≤ self.now.sizes.mtu + 18 }
+        requires { len ≤ self.now.sizes.mtu + FRAME_OVERHEAD }
         ensures value { result ≡ has_room_in self.now len }
         ensures bounds { IsAllocator self.now }
     {
@@ -148,7 +149,7 @@ impl Slots {
 
     /// Returns the slot that the next frame of `len` bytes gets.
     fn slot_for(&self, len: u32) -> Slot
-        requires { len ≤ self.now.sizes.mtu + 18 }
+        requires { len ≤ self.now.sizes.mtu + FRAME_OVERHEAD }
         ensures value { result ≡ next_slot self.now len }
         ensures room { result.address + len ≤ self.now.sizes.out }
     {
@@ -168,7 +169,7 @@ impl Slots {
 
     /// Adds a frame of `len` bytes at that slot.
     fn add(&mut self, len: u32)
-        requires most { len ≤ self.old.sizes.mtu + 18 }
+        requires most { len ≤ self.old.sizes.mtu + FRAME_OVERHEAD }
         requires room { has_room_in self.old len ≡ true }
         ensures { self.new ≡ with_placed self.old len }
     {

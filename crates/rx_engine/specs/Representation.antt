@@ -1,5 +1,7 @@
 -- The meaning of the fields of a receiver.
-use Rattle.std.specs.Prelude.{ℕ, ◌≡◌, ◌+◌, ◌*◌, ◌^◌, ◌≤◌, min, length, take}
+use Rattle.std.specs.Prelude.{ℕ, ◌≡◌, ◌+◌, ◌*◌, ◌≤◌, min, length, take}
+use Rattle.section_map.specs.declared.limits.TheConstants.{LARGEST_REGION}
+use Rattle.split_ring.specs.declared.sizes.TheConstants.{LONGEST_FRAME}
 use Rattle.split_ring.specs.Layout.{Sizes, IsQueue, HasBounds, data_area_len}
 use Rattle.rx_engine.specs.Receiver.{Receiver, words_read, IsReached}
 use Rattle.rx_engine.specs.declared.receiver.Rx.TheInside.{Inside}
@@ -7,7 +9,7 @@ use Rattle.rx_engine.specs.declared.receiver.Rx.TheInside.{Inside}
 -- The length in bytes of the longest frame that passes the checks: 65,553, and at most the length
 -- of the data area.
 abbrev pub longest_frame : Sizes → ℕ
-longest_frame q = min 65553 (data_area_len q)
+longest_frame q = min LONGEST_FRAME (data_area_len q)
 
 abbrev pub seen : Inside → Receiver
 seen a = record {
@@ -28,8 +30,8 @@ seen a = record {
 pub record IsWellFormed (a : Inside) : Type 0 where
   pub queue : IsQueue a.queue
   pub bounds : HasBounds a.queue
-  pub own : 4 * a.own + a.queue.out ≤ 2 ^ 24
-  pub theirs : 4 * a.theirs + a.queue.out ≤ 2 ^ 24
+  pub own : 4 * a.own + a.queue.out ≤ LARGEST_REGION
+  pub theirs : 4 * a.theirs + a.queue.out ≤ LARGEST_REGION
   pub room : length a.buffer.items ≡ longest_frame a.queue
   pub last : length a.last.items ≡ longest_frame a.queue
   pub frame : a.delivered ≤ length a.last.items

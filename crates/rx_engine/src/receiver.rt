@@ -1,7 +1,7 @@
 //! The receiver of an end.
 ghost use Rattle.std.specs.Prelude.{ℕ, ◌≡◌, ◌+◌, ◌-◌, ◌*◌, ◌%◌, ◌≤◌, ◌<◌, ◌^◌, ◌⊎◌, List, [], ◌∷◌, ◌++◌, true, false, IfOk, IfSome, min, length, take, flat_map};
+ghost use Rattle.section_map.specs.declared.limits.TheConstants.{LARGEST_REGION};
 ghost use Rattle.link_handshake.specs.declared.Phase.TheVariants.{Run};
-ghost use Rattle.split_ring.specs.Spelling.{entry_half};
 ghost use Rattle.call_grammar.specs.Ends.{End};
 ghost use Rattle.call_grammar.specs.Ticks.{EndConfig};
 ghost use Rattle.call_grammar.specs.Calls.{Poll};
@@ -16,13 +16,10 @@ ghost use Rattle.rx_engine.specs.Refinement.{IsMadeFor, IsFreshSession, RefinesA
 use crate::place::Place;
 use ivs_base::NoMemory;
 use split_ring::steps::{Access, Note, Notes, WordKind, leaving};
-use split_ring::{Queue, Refused};
+use split_ring::{LONGEST_FRAME, Queue, Refused, desc_flags, entry_half, high_half, of_halves};
 use std::alloc::Global;
 use std::marker::Model;
 use std::mem::swap;
-
-/// The length in bytes of the longest frame that a descriptor may name.
-const LONGEST: u32 = 65_553;
 
 /// The receiver of one end. It stores the queue, the first words of the two sections, and the
 /// target and vector of the doorbell. It counts the frames of the session that were returned,
@@ -57,17 +54,6 @@ impl Model for Rx {
     ghost view = { seen };
 
     ghost invariant = { IsWellFormed };
-}
-
-/// Returns available entry `k` from its word.
-fn entry_half(k: u16, word: u32) -> u16
-    ensures { result ≡ entry_half k word }
-{
-    if k.is_multiple_of(2) {
-        (word & 0xffff) as u16
-    } else {
-        (word >> 16) as u16
-    }
 }
 
 /// Copies words of a frame of `bytes` bytes to their position in `buffer`, from word `at` of the
@@ -119,12 +105,12 @@ impl Rx {
         target: u32,
         vector: u32,
     ) -> Result<Rx, NoMemory>
-        requires own { 4 * own + queue.now.out ≤ 2 ^ 24 }
-        requires theirs { 4 * theirs + queue.now.out ≤ 2 ^ 24 }
+        requires own { 4 * own + queue.now.out ≤ LARGEST_REGION }
+        requires theirs { 4 * theirs + queue.now.out ≤ LARGEST_REGION }
         ensures value { IfOk result (λ rx. rx ≡ fresh_receiver queue.now own theirs target vector) }
         ensures refines { IfOk result (λ rx. (config : EndConfig) (end : End) → IsMadeFor rx config → IsFreshSession end → RefinesAt rx config end laws.Closed) }
     {
-        let longest = LONGEST.min(queue.out() - queue.payload());
+        let longest = LONGEST_FRAME.min(queue.out() - queue.payload());
         let buffer = vec![in alloc; 0u8; longest as usize]?;
         let last = vec![in alloc; 0u8; longest as usize]?;
         Ok(Rx {
@@ -209,7 +195,7 @@ impl Rx {
             Place::WritingUsedLength { .. } => Access::Write(own + queue.used_id(number) + 1, 1),
             Place::WritingUsedIndex { .. } => {
                 let index = self.returned.wrapping_add(1);
-                Access::Write(own + queue.used_word(), u32::from(index) << 16)
+                Access::Write(own + queue.used_word(), of_halves(0, index))
             }
             Place::Ringing => Access::Ring {
                 target: self.target,
@@ -469,7 +455,7 @@ impl Rx {
         ensures steps { TakesStep self.old value notes.new.items self.new }
         ensures kept { KeepsNumbers self.old self.new }
     {
-        let index = (value >> 16) as u16;
+        let index = high_half(value);
         match self.queue.check_avail(self.returned, index) {
             Err(refused) => self.refuse(refused, notes),
             Ok(0) => {
@@ -554,7 +540,7 @@ impl Rx {
         ensures steps { TakesStep self.old value notes.new.items self.new }
         ensures kept { KeepsNumbers self.old self.new }
     {
-        match self.queue.check_flags((value & 0xffff) as u16) {
+        match self.queue.check_flags(desc_flags(value)) {
             Err(refused) => self.refuse(refused, notes),
             Ok(()) => self.go_on(Place::ReadingFrameWord {
                 more,

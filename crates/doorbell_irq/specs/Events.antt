@@ -4,13 +4,15 @@ use Rattle.section_map.specs.Geometry.{Shape}
 use Rattle.pci_space.specs.declared.field.Field.{Field}
 use Rattle.pci_space.specs.declared.wiring.Wiring.{Wiring}
 use Rattle.pci_space.specs.declared.wiring.Wiring.TheVariants.{Msix, Intx}
-use Rattle.pci_space.specs.Device.{row, device_rows}
+use Rattle.pci_space.specs.declared.place.RegionPlace.{RegionPlace}
+use Rattle.pci_space.specs.Device.{row, placed_rows}
 
--- The devices of a world: the geometry of its region, with the number of peers, and how interrupts
--- are raised.
+-- The devices of a world: the geometry of its region, with the number of peers, how interrupts are
+-- raised, and where guests find the region.
 pub record Devices : Type 0 where
   pub shape : Shape
   pub wiring : Wiring
+  pub region : RegionPlace
 
 -- An event: a guest writes its configuration space, its register page or its MSI-X region, or a
 -- peer is reset, disconnected or connected. Offsets and widths are in bytes.
@@ -72,7 +74,7 @@ entry_rows =
 
 -- The rows of a peer's space. The program's protocol is 0001h.
 abbrev pub rows_of : Devices → ℕ → Part → List Field
-rows_of w peer Config = device_rows w.shape 0x0001 w.wiring
+rows_of w peer Config = placed_rows w.shape 0x0001 w.wiring w.region
 rows_of w peer Page = page_rows w.shape.peers peer
 rows_of w peer (Entry n) = entry_rows
 

@@ -3,6 +3,7 @@ ghost use Rattle.std.specs.Prelude.{◌≡◌, ◌<◌, ◌≤◌, ◌↔◌, �
 ghost use Rattle.pci_space.specs.Numbers.{number_from};
 ghost use Rattle.pci_space.specs.Fields.{is_access};
 ghost use Rattle.pci_space.specs.Wiring.{IsWiring};
+ghost use Rattle.pci_space.specs.Place.{usual_place};
 ghost use Rattle.doorbell_irq.specs.Events.{Devices, Event, ConfigWritten, RegisterWritten, MsixWritten, WasReset, WasDisconnected, WasConnected, Config, vector_count};
 ghost use Rattle.doorbell_irq.specs.DeviceRules.{bytes_after, effect_of, register_at, msix_at};
 ghost use Rattle.doorbell_irq.specs.Refinement.{Refines, peer_count};
@@ -46,7 +47,7 @@ impl Device {
     pub fn new(geometry: &Geometry, wiring: Wiring) -> Device
         requires few { geometry.now.peers ≤ 8 }
         requires wired { IsWiring wiring }
-        ensures { Refines (record { shape = geometry.now; wiring = wiring }) [] result }
+        ensures { Refines (record { shape = geometry.now; wiring = wiring; region = usual_place }) [] result }
     {
         let registers = [
             peer_at_reset(geometry, wiring, 0),
@@ -235,7 +236,7 @@ impl Device {
 /// Returns the device of one connected peer at reset, with an MSI-X table of 64 entries.
 fn peer_at_reset(geometry: &Geometry, wiring: Wiring, peer: u32) -> PeerDevice<[Space<4, 16>; 64]>
     requires { IsWiring wiring }
-    ensures { IsPeer (record { shape = geometry.now; wiring = wiring }) [] peer result }
+    ensures { IsPeer (record { shape = geometry.now; wiring = wiring; region = usual_place }) [] peer result }
 {
     PeerDevice::new(geometry, wiring, peer, [entry_at_reset(); 64])
 }

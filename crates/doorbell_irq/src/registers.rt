@@ -3,6 +3,7 @@ ghost use Rattle.std.specs.Prelude.{length, slice_get, ◌≡◌, ◌<◌, ◌�
 ghost use Rattle.pci_space.specs.Numbers.{number_from};
 ghost use Rattle.pci_space.specs.Fields.{Contents, is_access, reset_byte, table_fault};
 ghost use Rattle.pci_space.specs.Wiring.{IsWiring};
+ghost use Rattle.pci_space.specs.Place.{IsRegionPlace, usual_place};
 ghost use Rattle.pci_space.specs.Device.{row};
 ghost use Rattle.doorbell_irq.specs.Events.{Entry, page_rows, entry_rows, vector_count};
 ghost use Rattle.doorbell_irq.specs.DeviceRules.{bit, state_in, is_enabled, is_one_shot, lets_through, vector_by, register_vector, page_write, entry_write, register_at, msix_at};
@@ -14,7 +15,7 @@ use crate::doorbell::{REGISTER_DOORBELL, REGISTER_STATE};
 use crate::msix_table::MsixTable;
 use crate::route::Route;
 use crate::trigger::Trigger;
-use pci_space::{BadAccess, ConfigSpace, Field, FieldTable, Space, Wiring, device_space};
+use pci_space::{BadAccess, ConfigSpace, Field, FieldTable, RegionPlace, Space, Wiring, placed_space};
 use section_map::Geometry;
 use std::marker::Model;
 
@@ -58,18 +59,37 @@ impl<E: MsixTable + Drop> Model for PeerDevice<E> {
 }
 
 impl<E: MsixTable + Drop> PeerDevice<E> {
-    /// Returns the device of a connected peer at reset. Requires that the MSI-X table is at reset.
-    // claim with Device::peers, entry_at_reset.rows, entry_at_reset.bytes: A new peer's device, and
-    //    a new MSI-X entry, is at reset. A device has the peers of its geometry.
+    /// Returns the device of a connected peer at reset, with the region at the usual base address.
+    /// Requires that the MSI-X table is at reset.
+    // claim with PeerDevice::placed, Device::peers, entry_at_reset.rows, entry_at_reset.bytes: A new
+    //    peer's device, and a new MSI-X entry, is at reset. A device has the peers of its geometry.
     pub fn new(geometry: &Geometry, wiring: Wiring, peer: u32, entries: E) -> PeerDevice<E>
         requires wired { IsWiring wiring }
         requires count { vector_count wiring ≤ length (E.entries entries) }
         requires reset { (n : ℕ) (entry : Contents) → slice_get (E.entries entries) n ≡ Some entry → IsEntryAtReset entry }
-        ensures { IsPeer (record { shape = geometry.now; wiring = wiring }) [] peer result }
+        ensures { IsPeer (record { shape = geometry.now; wiring = wiring; region = usual_place }) [] peer result }
+    {
+        PeerDevice::placed(geometry, wiring, RegionPlace::usual(), peer, entries)
+    }
+
+    /// Returns the device of a connected peer at reset, with the region at this place. Requires that
+    /// the MSI-X table is at reset.
+    pub fn placed(
+        geometry: &Geometry,
+        wiring: Wiring,
+        region: RegionPlace,
+        peer: u32,
+        entries: E,
+    ) -> PeerDevice<E>
+        requires wired { IsWiring wiring }
+        requires placed { IsRegionPlace region }
+        requires count { vector_count wiring ≤ length (E.entries entries) }
+        requires reset { (n : ℕ) (entry : Contents) → slice_get (E.entries entries) n ≡ Some entry → IsEntryAtReset entry }
+        ensures { IsPeer (record { shape = geometry.now; wiring = wiring; region = region }) [] peer result }
     {
         PeerDevice {
             connected: true,
-            config: device_space(geometry, PROTOCOL, wiring),
+            config: placed_space(geometry, PROTOCOL, wiring, region),
             page: page_at_reset(geometry.peers(), peer),
             entries,
         }

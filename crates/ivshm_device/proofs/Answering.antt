@@ -1,5 +1,6 @@
 -- Answers with their causes.
 use Rattle.std.proofs.Common.{◌≡◌, ℕ, sym, ◌∙◌, subst, Option, Some, None}
+use Rattle.ivshm_device.specs.declared.crossing.World.{World}
 use Rattle.ivshm_device.specs.declared.device_state.DeviceState.{DeviceState}
 use Rattle.ivshm_device.specs.declared.status.Status.{Status}
 use Rattle.ivshm_device.specs.declared.status.Status.TheVariants.{Done, HasDevice}
@@ -13,12 +14,12 @@ leads step old new a b is was s = subst (λ p. Leads p step new) (sym is) (subst
 pub done : (status : Status) (step rest : Type 0) → status ≡ Done → step → IfDone status step rest
 done status step rest is s = subst (λ x. IfDone x step rest) (sym is) s
 
-module _ (peers table common out vectors : ℕ) (old new : Option DeviceState) where
-  pub holds_one : (state : DeviceState) → old ≡ Some state → new ≡ Some state → MakesAnswered old peers table common out vectors HasDevice new
-  holds_one state was is = subst (MakesAnswered old peers table common out vectors HasDevice) (was ∙ sym is) (has_device (λ e. let wrong : Some state ≡ None = sym was ∙ e in absurd cc))
+module _ (w : World) (old new : Option DeviceState) where
+  pub holds_one : (state : DeviceState) → old ≡ Some state → new ≡ Some state → MakesAnswered old w HasDevice new
+  holds_one state was is = subst (MakesAnswered old w HasDevice) (was ∙ sym is) (has_device (λ e. let wrong : Some state ≡ None = sym was ∙ e in absurd cc))
 
-  pub new_one : (state : DeviceState) → old ≡ None → IsNew peers table common out vectors state → new ≡ Some state → MakesAnswered old peers table common out vectors Done new
-  new_one state was is_new is = subst (MakesAnswered old peers table common out vectors Done) (sym is) (made state was is_new)
+  pub new_one : (state : DeviceState) → old ≡ None → IsNew w state → new ≡ Some state → MakesAnswered old w Done new
+  new_one state was is_new is = subst (MakesAnswered old w Done) (sym is) (made state was is_new)
 
-  pub none_made : (status : Status) → old ≡ None → RefusesNew peers table common out vectors status → old ≡ new → MakesAnswered old peers table common out vectors status new
-  none_made status was why is = subst (MakesAnswered old peers table common out vectors status) is (refused status was why)
+  pub none_made : (status : Status) → old ≡ None → RefusesNew w status → old ≡ new → MakesAnswered old w status new
+  none_made status was why is = subst (MakesAnswered old w status) is (refused status was why)

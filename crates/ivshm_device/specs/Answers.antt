@@ -1,10 +1,12 @@
 -- The exact status of each export, and what the export does to the devices of a handle.
-use Rattle.std.specs.Prelude.{ℕ, ◌||◌, ◌++◌, ◌≡◌, ◌≢◌, ◌≤◌, ◌==◌, nat_lt, if◌then◌else◌, Bool, List, [], ◌∷◌, Option, Some, None}
-use Rattle.section_map.specs.Geometry.{IsShape}
+use Rattle.std.specs.Prelude.{ℕ, ◌||◌, ◌++◌, ◌≡◌, ◌≢◌, ◌+◌, ◌*◌, ◌%◌, ◌^◌, ◌<◌, ◌≤◌, ◌==◌, nat_lt, if◌then◌else◌, Bool, List, [], ◌∷◌, Option, Some, None}
+use Rattle.section_map.specs.Geometry.{Shape, IsShape, word_count}
 use Rattle.section_map.specs.Faults.{shape_of, IsFirstFault}
 use Rattle.section_map.specs.declared.sizes.GeometryFault.{GeometryFault}
 use Rattle.pci_space.specs.declared.wiring.Wiring.{Wiring}
 use Rattle.pci_space.specs.declared.wiring.Wiring.TheVariants.{Msix, Intx}
+use Rattle.pci_space.specs.declared.place.RegionPlace.{RegionPlace}
+use Rattle.pci_space.specs.declared.place.RegionPlace.TheVariants.{Address, Bar2}
 use Rattle.pci_space.specs.Fields.{is_access}
 use Rattle.pci_space.specs.Numbers.{number_from}
 use Rattle.doorbell_irq.specs.Events.{Devices, Event, ConfigWritten, Config, vector_count}
@@ -16,9 +18,10 @@ use Rattle.ivshm_device.specs.declared.crossing.Access.{Access}
 use Rattle.ivshm_device.specs.declared.crossing.Effect.{Effect}
 use Rattle.ivshm_device.specs.declared.crossing.Message.{Message}
 use Rattle.ivshm_device.specs.declared.crossing.Route.{Route}
+use Rattle.ivshm_device.specs.declared.crossing.World.{World}
 use Rattle.ivshm_device.specs.declared.device_state.DeviceState.{DeviceState}
 use Rattle.ivshm_device.specs.declared.status.Status.{Status}
-use Rattle.ivshm_device.specs.declared.status.Status.TheVariants.{Done, NoDevice, HasDevice, NoMemory, BadPeer, BadPeers, BadVectors, BadVector, BadAccess, BadWindow}
+use Rattle.ivshm_device.specs.declared.status.Status.TheVariants.{Done, NoDevice, HasDevice, NoMemory, BadPeer, BadPeers, BadVectors, BadVector, BadAccess, BadWindow, BadBase}
 use Rattle.ivshm_device.specs.Statuses.{geometry_status}
 use Rattle.ivshm_device.specs.Crossing.{CrossesEffect, route_crossed, message_at}
 use Rattle.ivshm_device.specs.Windows.{window_of, read_at, events_of, effect_at}
@@ -132,27 +135,44 @@ WritesWindow peer access before after old new = IfDone (window_answer peer acces
 abbrev pub wiring_of : ℕ → Wiring
 wiring_of vectors = if vectors == 0 then Intx else Msix vectors
 
--- Arguments of which devices are made, unless memory runs out: at most 64 vectors, at most 8 peers,
--- and the sizes of a region.
-abbrev pub MayMake : (peers table common out vectors : ℕ) → Type 0
-MayMake peers table common out vectors = (vectors ≤ 64) × ((peers ≤ 8) × IsShape (shape_of peers table common out))
+-- The shape of a world's region.
+abbrev pub shape_in : World → Shape
+shape_in w = shape_of w.peers w.table w.common w.out
 
--- New devices of a world of these sizes: all peers are connected and at reset.
-abbrev pub IsNew : (peers table common out vectors : ℕ) → DeviceState → Type 0
-IsNew peers table common out vectors state =
-    MayMake peers table common out vectors
-    × Refines (record { shape = shape_of peers table common out; wiring = wiring_of vectors }) [] state.device
+-- The region of a world has an address: it is whole pages from 0 on, and the region ends within 64
+-- bits. Base 0 stands for Base Address Register 2.
+abbrev pub IsBase : World → Type 0
+IsBase w = (w.base % 4096 ≡ 0) × (w.base + 4 * word_count (shape_in w) ≤ 2 ^ 64)
+
+-- Where guests find a region of so many bytes: at its base, or with base 0 in the smallest window of
+-- BAR 2 that holds it.
+abbrev pub IsPlaceOf : (bytes base : ℕ) → RegionPlace → Type 0
+IsPlaceOf bytes base (Address a) = (a ≡ base) × (base ≢ 0)
+IsPlaceOf bytes base (Bar2 bits) = (base ≡ 0) × ((bytes ≤ 2 ^ bits) × (2 ^ bits < 2 * bytes))
+
+-- Worlds of which devices are made, unless memory runs out: at most 64 vectors, at most 8 peers, the
+-- sizes of a region, and a base.
+abbrev pub MayMake : World → Type 0
+MayMake w = (w.vectors ≤ 64) × ((w.peers ≤ 8) × (IsShape (shape_in w) × IsBase w))
+
+-- New devices of a world: all peers are connected and at reset.
+abbrev pub IsNew : World → DeviceState → Type 0
+IsNew w state =
+    MayMake w
+    × ((region : RegionPlace) × IsPlaceOf (4 * word_count (shape_in w)) w.base region
+    × Refines (record { shape = shape_in w; wiring = wiring_of w.vectors; region = region }) [] state.device)
 
 -- Why no devices are made: the first of these causes. Memory may run out at any time.
-pub data RefusesNew (peers table common out vectors : ℕ) : Status → Type 0 where
-  bad_vectors : 65 ≤ vectors → RefusesNew peers table common out vectors BadVectors
-  many_peers : vectors ≤ 64 → 9 ≤ peers → RefusesNew peers table common out vectors BadPeers
-  bad_sizes : vectors ≤ 64 → peers ≤ 8 → (fault : GeometryFault) → IsFirstFault peers table common out fault →
-      RefusesNew peers table common out vectors (geometry_status fault)
-  no_memory : MayMake peers table common out vectors → RefusesNew peers table common out vectors NoMemory
+pub data RefusesNew (w : World) : Status → Type 0 where
+  bad_vectors : 65 ≤ w.vectors → RefusesNew w BadVectors
+  many_peers : w.vectors ≤ 64 → 9 ≤ w.peers → RefusesNew w BadPeers
+  bad_sizes : w.vectors ≤ 64 → w.peers ≤ 8 → (fault : GeometryFault) → IsFirstFault w.peers w.table w.common w.out fault →
+      RefusesNew w (geometry_status fault)
+  bad_base : w.vectors ≤ 64 → w.peers ≤ 8 → IsShape (shape_in w) → (IsBase w → ⊥) → RefusesNew w BadBase
+  no_memory : MayMake w → RefusesNew w NoMemory
 
 -- The status of a call that makes devices, and the devices of the handle after the call.
-pub data MakesAnswered (old : Option DeviceState) (peers table common out vectors : ℕ) : Status → Option DeviceState → Type 0 where
-  made : (state : DeviceState) → old ≡ None → IsNew peers table common out vectors state → MakesAnswered old peers table common out vectors Done (Some state)
-  has_device : old ≢ None → MakesAnswered old peers table common out vectors HasDevice old
-  refused : (status : Status) → old ≡ None → RefusesNew peers table common out vectors status → MakesAnswered old peers table common out vectors status old
+pub data MakesAnswered (old : Option DeviceState) (w : World) : Status → Option DeviceState → Type 0 where
+  made : (state : DeviceState) → old ≡ None → IsNew w state → MakesAnswered old w Done (Some state)
+  has_device : old ≢ None → MakesAnswered old w HasDevice old
+  refused : (status : Status) → old ≡ None → RefusesNew w status → MakesAnswered old w status old

@@ -22,6 +22,7 @@ number_of status.BadVector = 29
 number_of status.BadVectors = 40
 number_of status.BadAccess = 41
 number_of status.BadWindow = 42
+number_of status.BadBase = 43
 
 -- The status of sizes that no region has.
 abbrev pub geometry_status : GeometryFault → Status

@@ -1,15 +1,18 @@
 //! The calls of the devices: each tests its arguments and returns a status.
-ghost use Rattle.std.specs.Prelude.{◌≡◌, ◌≤◌, IfOk, IfErr};
+ghost use Rattle.std.specs.Prelude.{◌≡◌, ◌≤◌, ◌^◌, IfOk, IfErr};
 ghost use Rattle.doorbell_irq.specs.Events.{RegisterWritten, MsixWritten, WasReset, WasDisconnected, WasConnected};
 ghost use Rattle.pci_space.specs.Wiring.{IsWiring};
-ghost use Rattle.ivshm_device.specs.Answers.{wiring_of, peer_answer, access_answer, WritesConfig, ReadsConfig, ReadsRegister, ReadsMsix, Changes, Acts, ReportsRoute, ReportsMessage, message_answer, is_width, window_answer, ReadsWindow, WritesWindow, IsNew, RefusesNew};
+ghost use Rattle.pci_space.specs.Place.{IsRegionPlace};
+ghost use Rattle.ivshm_device.specs.Answers.{wiring_of, peer_answer, access_answer, WritesConfig, ReadsConfig, ReadsRegister, ReadsMsix, Changes, Acts, ReportsRoute, ReportsMessage, message_answer, is_width, window_answer, ReadsWindow, WritesWindow, IsPlaceOf, IsNew, RefusesNew};
 
-use crate::crossing::{Access, Effect, Message, Route, cross_effect, message_of, route_crossed};
+use crate::crossing::{
+    Access, Effect, Message, Route, World, cross_effect, message_of, route_crossed,
+};
 use crate::device_state::DeviceState;
 use crate::peer_devices::PeerDevices;
 use crate::status::{Status, geometry_status};
 use crate::window::{read_window, window_of, write_window};
-use pci_space::Wiring;
+use pci_space::{RegionPlace, Wiring};
 use section_map::Geometry;
 use std::alloc::Global;
 
@@ -26,33 +29,45 @@ fn wiring_of(vectors: u32) -> Wiring
     }
 }
 
-/// Makes the devices of a world. Returns the status of the first argument that is refused.
-pub(crate) fn made(
-    alloc: Global,
-    peers: u32,
-    table: u32,
-    common: u64,
-    out: u64,
-    vectors: u32,
-) -> Result<Box<DeviceState>, Status>
-    ensures made { IfOk result (λ state. IsNew peers table common out vectors state.value) }
-    ensures refused { IfErr result (λ status. RefusesNew peers table common out vectors status) }
+/// Returns where guests find a region of so many bytes: at its base, or with base 0 in the smallest
+/// window that holds it.
+fn place_of(bytes: u64, base: u64) -> RegionPlace
+    requires few { bytes ≤ 2 ^ 24 }
+    requires some { 4096 ≤ bytes }
+    ensures place { IsPlaceOf bytes base result }
+    ensures kind { IsRegionPlace result }
 {
-    if vectors > 64 {
+    if base == 0 {
+        RegionPlace::Bar2((bytes - 1).ilog2() + 1)
+    } else {
+        RegionPlace::Address(base)
+    }
+}
+
+/// Makes the devices of a world. Returns the status of the first argument that is refused.
+pub(crate) fn made(alloc: Global, world: &World) -> Result<Box<DeviceState>, Status>
+    ensures made { IfOk result (λ state. IsNew world.now state.value) }
+    ensures refused { IfErr result (RefusesNew world.now) }
+{
+    if world.vectors > 64 {
         return Err(Status::BadVectors);
     }
-    if peers > 8 {
+    if world.peers > 8 {
         return Err(Status::BadPeers);
     }
-    let geometry = match Geometry::new(peers, table, common, out) {
+    let geometry = match Geometry::new(world.peers, world.table, world.common, world.out) {
         Ok(geometry) => geometry,
         Err(fault) => return Err(geometry_status(&fault)),
     };
-    let Ok(device) = PeerDevices::new(alloc, &geometry, wiring_of(vectors)) else {
+    let bytes = 4 * u64::from(geometry.words());
+    if world.base % 4096 != 0 || world.base > u64::MAX - (bytes - 1) {
+        return Err(Status::BadBase);
+    }
+    let region = place_of(bytes, world.base);
+    let Ok(device) = PeerDevices::new(alloc, &geometry, wiring_of(world.vectors), region) else {
         return Err(Status::NoMemory);
     };
-    let state = DeviceState { device };
-    match Box::new(alloc, state) {
+    match Box::new(alloc, DeviceState { device }) {
         Ok(state) => Ok(state),
         Err(_) => Err(Status::NoMemory),
     }

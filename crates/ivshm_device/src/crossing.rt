@@ -4,6 +4,25 @@ ghost use Rattle.ivshm_device.specs.Crossing.{flag, CrossesEffect, route_crossed
 
 use doorbell_irq::Delivery;
 
+/// A world of which devices are made.
+#[repr(C)]
+#[derive(Clone, Copy)]
+pub struct World {
+    /// Bytes of the common section.
+    pub common: u64,
+    /// Bytes of an output section.
+    pub out: u64,
+    /// The guest-physical address of the region in bytes, a multiple of 4,096. If it is 0 the region
+    /// is at the start of the window of Base Address Register 2.
+    pub base: u64,
+    /// The number of peers.
+    pub peers: u32,
+    /// Bytes of the State Table.
+    pub table: u32,
+    /// The MSI-X vectors of each peer; 0 is INTx.
+    pub vectors: u32,
+}
+
 /// What a call does in addition to changing registers.
 #[repr(C)]
 #[derive(Clone, Copy)]

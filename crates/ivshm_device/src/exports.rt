@@ -1,6 +1,7 @@
 //! The calls that a program in C makes. `c/ivshm_device.h` is their reference.
 ghost use Rattle.std.specs.Prelude.{◌≡◌, None, IfSome};
 ghost use Rattle.doorbell_irq.specs.Events.{RegisterWritten, MsixWritten, WasReset, WasDisconnected, WasConnected};
+ghost use Rattle.pci_space.specs.declared.place.TheConstants.{USUAL_BASE};
 ghost use Rattle.ivshm_device.specs.Statuses.{number_of};
 ghost use Rattle.ivshm_device.specs.declared.status.Status.{Status as Answer};
 ghost use Rattle.ivshm_device.specs.Answers.{answer_at, Leads, done_answer, peer_answer, access_answer, WritesConfig, ReadsConfig, ReadsRegister, ReadsMsix, Changes, Acts, ReportsRoute, ReportsMessage, message_answer, window_answer, ReadsWindow, WritesWindow, MakesAnswered};
@@ -10,16 +11,19 @@ use crate::calls::{
     register_read, register_write, reset, route, window_read, window_write,
 };
 use crate::status::Status;
-use crate::{Access, DeviceHandle, Effect, Message, Route};
+use crate::{Access, DeviceHandle, Effect, Message, Route, World};
+use pci_space::USUAL_BASE;
 use std::alloc::Global;
 
-/// Makes the devices of a world of 2 to 8 peers; all peers are connected and at reset.
+/// Makes the devices of a world of 2 to 8 peers; all peers are connected and at reset. The region is
+/// at 4 GiB.
 ///
 /// The sizes of the region are in bytes. Each peer has 1 to 64 MSI-X vectors, or INTx if `vectors`
 /// is 0.
-// claim: A device is made exactly if the handle is empty and the sizes, the number of peers and the
-//    number of vectors are right, or the answer is NO_MEMORY. Each refusal has its cause. The
-//    device is at reset.
+// claim with ivshm_device_new_at: A device is made exactly if the handle is empty and the sizes, the
+//    number of peers, the number of vectors and the base are right, or the answer is NO_MEMORY. Each
+//    refusal has its cause. The device is at reset, and its configuration space says where the
+//    region is.
 #[unsafe(no_mangle)]
 pub extern "C" fn ivshm_device_new(
     alloc: Global,
@@ -30,13 +34,29 @@ pub extern "C" fn ivshm_device_new(
     out: u64,
     vectors: u32,
 ) -> u32
-    ensures { (answer : Answer) × (result ≡ number_of answer) × MakesAnswered device.old.state peers table common out vectors answer device.new.state }
+    ensures { (answer : Answer) × (result ≡ number_of answer)
+        × MakesAnswered device.old.state (record { common = common; out = out; base = USUAL_BASE; peers = peers; table = table; vectors = vectors }) answer device.new.state }
+{
+    let base = USUAL_BASE;
+    let world = World { common, out, base, peers, table, vectors };
+    ivshm_device_new_at(alloc, device, &world)
+}
+
+/// Makes the devices of a world with the region at any base, or in the window of Base Address
+/// Register 2.
+#[unsafe(no_mangle)]
+pub extern "C" fn ivshm_device_new_at(
+    alloc: Global,
+    device: &mut DeviceHandle,
+    world: &World,
+) -> u32
+    ensures { (answer : Answer) × (result ≡ number_of answer) × MakesAnswered device.old.state world.now answer device.new.state }
 {
     if let Some(state) = device.take(alloc) {
         device.put(state);
         return Status::HasDevice.number();
     }
-    match made(alloc, peers, table, common, out, vectors) {
+    match made(alloc, world) {
         Ok(state) => {
             device.put(state);
             Status::Done.number()

@@ -24,5 +24,5 @@ mod peer_devices;
 mod status;
 mod window;
 
-pub use crossing::{Access, Effect, Message, Route};
+pub use crossing::{Access, Effect, Message, Route, World};
 pub use handle::DeviceHandle;

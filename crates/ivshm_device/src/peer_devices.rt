@@ -3,6 +3,7 @@ ghost use Rattle.std.specs.Prelude.{◌≡◌, ◌<◌, ◌≤◌, ◌↔◌, �
 ghost use Rattle.pci_space.specs.Numbers.{number_from};
 ghost use Rattle.pci_space.specs.Fields.{is_access};
 ghost use Rattle.pci_space.specs.Wiring.{IsWiring};
+ghost use Rattle.pci_space.specs.Place.{IsRegionPlace};
 ghost use Rattle.doorbell_irq.specs.Peer.{Registers};
 ghost use Rattle.doorbell_irq.specs.Events.{Devices, Event, ConfigWritten, RegisterWritten, MsixWritten, WasReset, WasDisconnected, WasConnected, Config, vector_count};
 ghost use Rattle.doorbell_irq.specs.DeviceRules.{bytes_after, effect_of, register_at, msix_at};
@@ -12,7 +13,7 @@ ghost use Rattle.doorbell_irq.specs.Routes.{IsRoute};
 
 use crate::entry_list::EntryList;
 use doorbell_irq::{Effect, PeerDevice, Route, peers};
-use pci_space::{BadAccess, Wiring};
+use pci_space::{BadAccess, RegionPlace, Wiring};
 use section_map::Geometry;
 use std::alloc::{AllocError, Global};
 use std::marker::Model;
@@ -54,17 +55,19 @@ fn peers_at_reset(
     alloc: Global,
     geometry: &Geometry,
     wiring: Wiring,
+    region: RegionPlace,
 ) -> Result<Vec<PeerDevice<EntryList>>, AllocError>
-    requires { IsWiring wiring }
+    requires wired { IsWiring wiring }
+    requires placed { IsRegionPlace region }
     ensures count { IfOk result (λ v. length v.items ≡ geometry.now.peers) }
     ensures each { IfOk result (λ v. (peer : ℕ) (r : Registers) → slice_get v.items peer ≡ Some r →
-        IsPeer (record { shape = geometry.now; wiring = wiring }) [] peer r) }
+        IsPeer (record { shape = geometry.now; wiring = wiring; region = region }) [] peer r) }
 {
     let count = geometry.peers();
     let mut registers = Vec::with_capacity(alloc, count as usize)?;
     for peer in 0..count {
         let entries = EntryList::at_reset(alloc, vector_count(wiring))?;
-        registers.push_reserved(PeerDevice::new(geometry, wiring, peer, entries));
+        registers.push_reserved(PeerDevice::placed(geometry, wiring, region, peer, entries));
     }
     Ok(registers)
 }
@@ -75,15 +78,17 @@ impl PeerDevices {
         alloc: Global,
         geometry: &Geometry,
         wiring: Wiring,
+        region: RegionPlace,
     ) -> Result<PeerDevices, AllocError>
         requires few { geometry.now.peers ≤ 8 }
         requires wired { IsWiring wiring }
-        ensures { IfOk result (λ d. Refines (record { shape = geometry.now; wiring = wiring }) [] d) }
+        requires placed { IsRegionPlace region }
+        ensures { IfOk result (λ d. Refines (record { shape = geometry.now; wiring = wiring; region = region }) [] d) }
     {
         Ok(PeerDevices {
             peers: geometry.peers(),
             wiring,
-            registers: peers_at_reset(alloc, geometry, wiring)?,
+            registers: peers_at_reset(alloc, geometry, wiring, region)?,
         })
     }
 

@@ -22,6 +22,7 @@ pub(crate) enum Status {
     BadVectors,
     BadAccess,
     BadWindow,
+    BadBase,
 }
 
 impl Status {
@@ -45,6 +46,7 @@ impl Status {
             Status::BadVectors => 40,
             Status::BadAccess => 41,
             Status::BadWindow => 42,
+            Status::BadBase => 43,
         }
     }
 }

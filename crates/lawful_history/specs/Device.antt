@@ -3,6 +3,7 @@
 -- specification, PCI 3.0): a device's state is a function of the earlier lines.
 use Rattle.std.specs.Prelude.{ℕ, ◌≡◌, ◌+◌, ◌==◌, nat_lt, if◌then◌else◌, Option, Some, None, List, [], ◌∷◌, ◌++◌, reverse}
 use Rattle.pci_space.specs.Numbers.{number_from}
+use Rattle.pci_space.specs.Place.{usual_place}
 use Rattle.doorbell_irq.specs.declared.effect.Delivery.{Delivery}
 use Rattle.doorbell_irq.specs.Events as device
 use Rattle.doorbell_irq.specs.DeviceRules.{Bytes, bytes_after, effect_of, register_at, msix_at}
@@ -15,7 +16,7 @@ use Rattle.lawful_history.specs.EventRecords.{EventRecord, access_lines, lines_o
 
 -- The devices of the scenario's world.
 abbrev pub devices_of : World → device.Devices
-devices_of world = record { shape = world.geometry; wiring = world.wiring }
+devices_of world = record { shape = world.geometry; wiring = world.wiring; region = usual_place }
 
 -- The device event of a line: a write of State, of the Doorbell, of another register, of the
 -- configuration space or of the MSI-X region, or a reset.

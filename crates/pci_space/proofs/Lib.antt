@@ -3,4 +3,5 @@ pub mod Bits
 pub mod Ends
 pub mod Walks
 pub mod OneEnd
+pub mod SoundRows
 pub mod DeviceWalk

@@ -6,10 +6,13 @@ ghost use Rattle.pci_space.specs.declared.found.CapabilityFault.{CapabilityFault
 ghost use Rattle.pci_space.specs.declared.wiring.Wiring.{Wiring};
 ghost use Rattle.pci_space.specs.Fields.{table_fault, reset_byte};
 ghost use Rattle.pci_space.specs.Wiring.{IsWiring, if_msix, last_vector};
-ghost use Rattle.pci_space.specs.Device.{device_rows, found_of};
+ghost use Rattle.pci_space.specs.declared.place.RegionPlace.{RegionPlace};
+ghost use Rattle.pci_space.specs.Place.{IsRegionPlace};
+ghost use Rattle.pci_space.specs.Device.{device_rows, placed_rows, found_of};
 ghost use Rattle.pci_space.specs.Walk.{IsWalk};
 
 use crate::field::Field;
+use crate::place::RegionPlace;
 use crate::space::Space;
 use crate::table::FieldTable;
 use crate::wiring::Wiring;
@@ -18,29 +21,55 @@ use section_map::Geometry;
 /// The configuration space of the device: 25 fields in 256 bytes.
 pub type ConfigSpace = Space<25, 256>;
 
-/// Rows of a table: place, width, reset value and mask.
+/// Rows of a table: place, width, reset value and mask; in brackets the row of the region's place.
 macro_rules! rows {
-    ($($place:literal $width:literal $reset:expr, $mask:expr;)*) => {
-        [$(Field { place: $place, width: $width, reset: $reset, mask: $mask }),*]
+    ($($place:literal $width:literal $reset:expr, $mask:expr;)* [$region:expr] $($after:literal $bytes:literal $first:expr, $bits:expr;)*) => {
+        [
+            $(Field { place: $place, width: $width, reset: $reset, mask: $mask },)*
+            $region,
+            $(Field { place: $after, width: $bytes, reset: $first, mask: $bits },)*
+        ]
     };
 }
 
-/// Returns the configuration space of a device at reset, the same for every peer of a world.
-// claim rows, bytes: The device's space is the table of 25 rows, for every geometry, protocol and
-//    wiring.
+/// Returns the configuration space of a device at reset, the same for every peer of a world. The
+/// region is at the usual base address.
+// claim rows, bytes with placed_space.rows, placed_space.bytes: The device's space is the table of
+//    25 rows, for every geometry, protocol, wiring and place of the region.
 pub fn device_space(geometry: &Geometry, protocol: u16, wiring: Wiring) -> ConfigSpace
     requires { IsWiring wiring }
     ensures rows { result.rows ≡ device_rows geometry.now protocol wiring }
     ensures bytes { (k : ℕ) → slice_index result.bytes k ≡ reset_byte (device_rows geometry.now protocol wiring) k }
 {
-    let table = table_of(rows_of(geometry, protocol, wiring));
+    placed_space(geometry, protocol, wiring, RegionPlace::usual())
+}
+
+/// Returns the configuration space of a device at reset whose region is at this place.
+pub fn placed_space(
+    geometry: &Geometry,
+    protocol: u16,
+    wiring: Wiring,
+    region: RegionPlace,
+) -> ConfigSpace
+    requires wired { IsWiring wiring }
+    requires placed { IsRegionPlace region }
+    ensures rows { result.rows ≡ placed_rows geometry.now protocol wiring region }
+    ensures bytes { (k : ℕ) → slice_index result.bytes k ≡ reset_byte (placed_rows geometry.now protocol wiring region) k }
+{
+    let table = table_of(rows_of(geometry, protocol, wiring, region));
     Space::new(table)
 }
 
 /// Returns the fields of a device.
-fn rows_of(geometry: &Geometry, protocol: u16, wiring: Wiring) -> [Field; 25]
-    requires { IsWiring wiring }
-    ensures rows { result ≡ device_rows geometry.now protocol wiring }
+fn rows_of(
+    geometry: &Geometry,
+    protocol: u16,
+    wiring: Wiring,
+    region: RegionPlace,
+) -> [Field; 25]
+    requires wired { IsWiring wiring }
+    requires placed { IsRegionPlace region }
+    ensures rows { result ≡ placed_rows geometry.now protocol wiring region }
     ensures shape { IsShape geometry.now }
 {
     rows! {
@@ -58,12 +87,12 @@ fn rows_of(geometry: &Geometry, protocol: u16, wiring: Wiring) -> [Field; 25]
         0x3D 1 wiring.choose(0, 1), 0;
         0x40 1 0x09, 0;
         0x41 1 wiring.choose(0x60, 0), 0;
-        0x42 1 0x20, 0;
+        0x42 1 region.capability_length(), 0;
         0x43 1 0, 1;
         0x44 4 4 * u64::from(geometry.table_words()), 0;
         0x48 8 4 * u64::from(geometry.common_words()), 0;
         0x50 8 4 * u64::from(geometry.out_words()), 0;
-        0x58 8 0x1_0000_0000, 0;
+        [region.row()]
         0x60 1 wiring.choose(0x11, 0), 0;
         0x61 1 0, 0;
         0x62 2 wiring.last_vector(), wiring.choose(0xC000, 0);
@@ -84,13 +113,13 @@ fn table_of<const N: usize>(rows: [Field; N]) -> FieldTable<N>
     }
 }
 
-/// A walk over a device's configuration space at reset finds the geometry, the protocol and the
-/// wiring of the device. This function is that law.
-// claim: A walk over the bytes of a device's space finds the sizes, protocol and wiring that the
-//    space was made of.
+/// A walk over a device's configuration space at reset finds the geometry, the protocol, the wiring
+/// and the base address of the device, wherever its region is. This function is that law.
+// claim: A walk over the bytes of a device's space finds the sizes, protocol, wiring and base
+//    address that the space was made of, or no base if the region is behind BAR 2.
 pub fn walk_finds_the_device()
-    ensures { (shape : Shape) (protocol : ℕ) (wiring : Wiring) (bytes : List ℕ) (answer : _) →
-        IsShape shape → protocol < 2 ^ 16 → IsWiring wiring →
-        ((k : ℕ) → k < 256 → slice_index bytes k ≡ reset_byte (device_rows shape protocol wiring) k) →
-        IsWalk bytes answer → answer ≡ Ok (found_of shape protocol wiring) }
+    ensures { (shape : Shape) (protocol : ℕ) (wiring : Wiring) (region : RegionPlace) (bytes : List ℕ) (answer : _) →
+        IsShape shape → protocol < 2 ^ 16 → IsWiring wiring → IsRegionPlace region →
+        ((k : ℕ) → k < 256 → slice_index bytes k ≡ reset_byte (placed_rows shape protocol wiring region) k) →
+        IsWalk bytes answer → answer ≡ Ok (found_of shape protocol wiring region) }
 {}

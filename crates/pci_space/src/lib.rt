@@ -23,14 +23,16 @@ mod device;
 mod field;
 mod found;
 mod number;
+mod place;
 mod space;
 mod table;
 mod wiring;
 
 pub use capabilities::{one_walk, walk};
-pub use device::{ConfigSpace, device_space, walk_finds_the_device};
+pub use device::{ConfigSpace, device_space, placed_space, walk_finds_the_device};
 pub use field::{Field, FieldFault};
 pub use found::{CapabilityFault, Found, MsixFound};
+pub use place::{RegionPlace, USUAL_BASE};
 pub use space::{BadAccess, Space};
 pub use table::FieldTable;
 pub use wiring::Wiring;

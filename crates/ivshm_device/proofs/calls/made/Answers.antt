@@ -1,33 +1,50 @@
-use Rattle.std.proofs.Common.{subst, sym, arith, []}
-use Rattle.section_map.specs.Geometry.{Shape, IsShape}
-use Rattle.section_map.specs.Faults.{shape_of}
+use Rattle.std.proofs.Common.{subst, sym, arith, [], ap, ◌∙◌, ◌*◌, ◌+◌, ◌≡◌, ◌≤◌, ◌<◌, ◌^◌, ◌%◌, ℕ}
+use Rattle.section_map.specs.Geometry.{Shape, IsShape, word_count}
 use Rattle.doorbell_irq.specs.Refinement.{Refines}
 use Rattle.pci_space.specs.declared.wiring.Wiring.{Wiring}
 use Rattle.ivshm_device.specs.declared.device_state.DeviceState.{DeviceState}
-use Rattle.ivshm_device.specs.Answers.{wiring_of, RefusesNew, bad_vectors, many_peers, bad_sizes, no_memory}
+use Rattle.ivshm_device.specs.Answers.{shape_in, wiring_of, IsBase, IsPlaceOf, MayMake, RefusesNew, bad_vectors, many_peers, bad_sizes, bad_base, no_memory}
 use Rattle.ivshm_device.proofs.calls.made.Goals as goal
+use Rattle.ivshm_device.proofs.calls.made.Goals.{then-world-ne0-via-then-world-ne0, then-world-ne0-via-else-world-ne0+then-world-bytes}
 
-pub returns-then-vectors-gt64-clause-refused : goal.returns-then-vectors-gt64-clause-refused
-returns-then-vectors-gt64-clause-refused c = bad_vectors c.if-vectors-gt64.true
+pub returns-then-world-gt64-clause-refused : goal.returns-then-world-gt64-clause-refused
+returns-then-world-gt64-clause-refused c = bad_vectors c.if-world-gt64.true
 
-pub returns-then-peers-gt8-clause-refused : goal.returns-then-peers-gt8-clause-refused
-returns-then-peers-gt8-clause-refused c = many_peers (omega (arith, c.if-vectors-gt64.false)) c.if-peers-gt8.true
+pub returns-then-world-gt8-clause-refused : goal.returns-then-world-gt8-clause-refused
+returns-then-world-gt8-clause-refused c = many_peers c.if-world-gt64.false c.if-world-gt8.true
 
 pub returns-in-Err-clause-refused : goal.returns-in-Err-clause-refused
-returns-in-Err-clause-refused c = subst (RefusesNew c.args.peers c.args.table c.args.common c.args.out c.args.vectors) (sym c.geometry_status.ensures)
-    (bad_sizes (omega (arith, c.if-vectors-gt64.false)) (omega (arith, c.if-peers-gt8.false)) c.in-Err.fault c.in-Err.ensures.fault)
+returns-in-Err-clause-refused c = subst (RefusesNew c.args.world.now) (sym c.geometry_status.ensures)
+    (bad_sizes c.if-world-gt64.false c.if-world-gt8.false c.in-Err.fault c.in-Err.ensures.fault)
 
-pub returns-in-Ok-new-2-clause-made : goal.returns-in-Ok-new-2-clause-made
-returns-in-Ok-new-2-clause-made c =
-    let shape : Shape = shape_of c.args.peers c.args.table c.args.common c.args.out in (
-      (omega (arith, c.if-vectors-gt64.false), (omega (arith, c.if-peers-gt8.false), subst IsShape c.in-Ok.ensures.made c.in-Ok.ensures.shape)),
-      subst (λ (g : Shape). Refines (record { shape = g; wiring = wiring_of c.args.vectors }) [] c.in-Ok-new-2.state.value.device) c.in-Ok.ensures.made
-          (subst (λ (state : DeviceState). Refines (record { shape = c.in-Ok.geometry; wiring = wiring_of c.args.vectors }) [] state.device) (sym c.in-Ok-new-2.ensures.ok)
-          (subst (λ (wiring : Wiring). Refines (record { shape = c.in-Ok.geometry; wiring = wiring }) [] c.in-Ok-new.device) c.wiring_of.ensures.wiring c.in-Ok-new.ensures)),
-    )
+pub returns-then-world-ne0-clause-refused : goal.returns-then-world-ne0-clause-refused
+returns-then-world-ne0-clause-refused c =
+    let shaped : IsShape (shape_in c.args.world.now) = subst IsShape c.in-Ok.ensures.made c.in-Ok.ensures.shape in
+    let words = ap word_count c.in-Ok.ensures.made in
+    bad_base c.if-world-gt64.false c.if-world-gt8.false shaped (λ base. elim c.then-world-ne0.branch [
+      then-world-ne0-via-then-world-ne0 w ↦ absurd (omega (arith, base.0, w.if-world-ne0.true))
+      | then-world-ne0-via-else-world-ne0+then-world-bytes w ↦
+          absurd (omega (arith, base.1, w.if-world-bytes.true, c.from-bytes.ensures, c.words.ensures.value, words, shaped.table_page))
+    ])
 
 pub returns-in_default-clause-refused : goal.returns-in_default-clause-refused
-returns-in_default-clause-refused c = no_memory (omega (arith, c.if-vectors-gt64.false), (omega (arith, c.if-peers-gt8.false), subst IsShape c.in-Ok.ensures.made c.in-Ok.ensures.shape))
+returns-in_default-clause-refused c =
+    let shaped : IsShape (shape_in c.args.world.now) = subst IsShape c.in-Ok.ensures.made c.in-Ok.ensures.shape in
+    no_memory (
+      c.if-world-gt64.false,
+      (c.if-world-gt8.false, (shaped, (
+        omega (arith, c.if-world-ne0.false),
+        omega (arith, c.if-world-bytes.false, c.from-bytes.ensures, c.words.ensures.value, ap word_count c.in-Ok.ensures.made, shaped.table_page),
+      ))),
+    )
 
 pub returns-clause-refused : goal.returns-clause-refused
-returns-clause-refused c = no_memory (omega (arith, c.if-vectors-gt64.false), (omega (arith, c.if-peers-gt8.false), subst IsShape c.in-Ok.ensures.made c.in-Ok.ensures.shape))
+returns-clause-refused c =
+    let shaped : IsShape (shape_in c.args.world.now) = subst IsShape c.in-Ok.ensures.made c.in-Ok.ensures.shape in
+    no_memory (
+      c.if-world-gt64.false,
+      (c.if-world-gt8.false, (shaped, (
+        omega (arith, c.if-world-ne0.false),
+        omega (arith, c.if-world-bytes.false, c.from-bytes.ensures, c.words.ensures.value, ap word_count c.in-Ok.ensures.made, shaped.table_page),
+      ))),
+    )

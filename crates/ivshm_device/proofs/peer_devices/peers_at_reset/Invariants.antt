@@ -10,5 +10,5 @@ invariant-loop-peer l = record {
   long : length l.registers.items ≡ l.peer;
   len : l.registers.len ≡ l.peer;
   room : l.registers.cap ≡ l.count;
-  each : (peer : ℕ) (r : Registers) → slice_get l.registers.items peer ≡ Some r → IsPeer (record { shape = l.geometry; wiring = l.wiring }) [] peer r;
+  each : (peer : ℕ) (r : Registers) → slice_get l.registers.items peer ≡ Some r → IsPeer (record { shape = l.geometry; wiring = l.wiring; region = l.region }) [] peer r;
 }

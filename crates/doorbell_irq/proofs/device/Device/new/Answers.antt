@@ -1,5 +1,6 @@
 use Rattle.std.proofs.Common.{ℕ, zero, suc, ◌≡◌, List, [], ◌∷◌, Some, refl, subst}
 use Rattle.std.specs.Prelude.{slice_get}
+use Rattle.pci_space.specs.Place.{usual_place}
 use Rattle.doorbell_irq.specs.Peer.{Registers}
 use Rattle.doorbell_irq.specs.Registers.{IsPeer}
 use Rattle.doorbell_irq.proofs.device.Device.new.Goals as goal
@@ -17,7 +18,7 @@ none P (suc i) y at = absurd cc
 
 pub returns : goal.returns
 returns c =
-    let P : ℕ → Registers → Type 0 = λ peer r. IsPeer (record { shape = c.args.geometry.now; wiring = c.args.wiring }) [] peer r in
+    let P : ℕ → Registers → Type 0 = λ peer r. IsPeer (record { shape = c.args.geometry.now; wiring = c.args.wiring; region = usual_place }) [] peer r in
     record {
       peers = c.peers.ensures.value;
       wiring = refl;

@@ -129,6 +129,46 @@ static void sizes(void) {
     }
 }
 
+/* Where the region is: at a base, or behind Base Address Register 2. */
+static void places(void) {
+    static const struct {
+        uint64_t out, base;
+        uint32_t status, length, low, high; /* of the capability, and of its Base Address */
+        uint32_t window_low, window_high;   /* Base Address Register 2 after all ones */
+    } rows[] = {
+        {16384, 0x100000000, IVSHM_DEVICE_DONE, 0x20, 0, 1, 0, 0},
+        {16384, 0xFC000000, IVSHM_DEVICE_DONE, 0x20, 0xFC000000, 0, 0, 0},
+        {16384, 0x7FFFFFF000, IVSHM_DEVICE_DONE, 0x20, 0xFFFFF000, 0x7F, 0, 0},
+        {16384, 0, IVSHM_DEVICE_DONE, 0x18, 0, 0, 0xFFFF000C, 0xFFFFFFFF}, /* 36,864 bytes: 65,536 */
+        {2 * 4096, 0, IVSHM_DEVICE_DONE, 0x18, 0, 0, 0xFFFF800C, 0xFFFFFFFF}, /* 20,480 bytes: 32,768 */
+        {8384512, 0, IVSHM_DEVICE_DONE, 0x18, 0, 0, 0xFF00000C, 0xFFFFFFFF}, /* the largest */
+        {16384, 0x100000800, IVSHM_DEVICE_BAD_BASE, 0, 0, 0, 0, 0},
+        {16384, 1, IVSHM_DEVICE_BAD_BASE, 0, 0, 0, 0, 0},
+        {16384, UINT64_MAX - 36863, IVSHM_DEVICE_DONE, 0x20, 0xFFFF7000, 0xFFFFFFFF, 0, 0}, /* ends at 2^64 */
+        {16384, UINT64_MAX - 32767, IVSHM_DEVICE_BAD_BASE, 0, 0, 0, 0, 0},
+        {100, 1, IVSHM_DEVICE_BAD_OUT, 0, 0, 0, 0, 0},
+    };
+    ivshm_device device = IVSHM_DEVICE_NONE;
+    size_t i;
+    for (i = 0; i < sizeof rows / sizeof *rows; i++) {
+        ivshm_device_world world = {.out = rows[i].out, .base = rows[i].base, .peers = 2, .table = 4096, .vectors = 2};
+        uint32_t length, low, high, window_low, window_high;
+        EXPECT(ivshm_device_new_at(&device, &world) == rows[i].status);
+        EXPECT((device.at != NULL) == (rows[i].status == IVSHM_DEVICE_DONE));
+        if (device.at == NULL) continue;
+        EXPECT(ivshm_device_new_at(&device, &world) == IVSHM_DEVICE_FULL);
+        EXPECT(ivshm_device_config_read(&device, 1, 0x42, 1, &length) == IVSHM_DEVICE_DONE && length == rows[i].length);
+        EXPECT(ivshm_device_config_read(&device, 1, 0x58, 4, &low) == IVSHM_DEVICE_DONE && low == rows[i].low);
+        EXPECT(ivshm_device_config_read(&device, 1, 0x5C, 4, &high) == IVSHM_DEVICE_DONE && high == rows[i].high);
+        EXPECT(ivshm_device_config_read(&device, 1, 0x18, 4, &window_low) == IVSHM_DEVICE_DONE && window_low == (rows[i].window_low & 15));
+        EXPECT(ivshm_device_config_write(&device, 1, 0x18, 4, 0xFFFFFFFF) == IVSHM_DEVICE_DONE);
+        EXPECT(ivshm_device_config_write(&device, 1, 0x1C, 4, 0xFFFFFFFF) == IVSHM_DEVICE_DONE);
+        EXPECT(ivshm_device_config_read(&device, 1, 0x18, 4, &window_low) == IVSHM_DEVICE_DONE && window_low == rows[i].window_low);
+        EXPECT(ivshm_device_config_read(&device, 1, 0x1C, 4, &window_high) == IVSHM_DEVICE_DONE && window_high == rows[i].window_high);
+        EXPECT(ivshm_device_free(&device) == IVSHM_DEVICE_DONE && blocks == 0);
+    }
+}
+
 /* The bytes and the blocks of a world. */
 static size_t memory_of(uint32_t peers, uint32_t vectors) {
     ivshm_device device = IVSHM_DEVICE_NONE;
@@ -402,6 +442,7 @@ static void stack(void) {
 
 int main(void) {
     sizes();
+    places();
     memory();
     empty_handle();
     refusals();

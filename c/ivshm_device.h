@@ -34,8 +34,9 @@
  *     call. In particular no struct of a call is in memory that a guest can write.
  *  3. The hypervisor maps the region: the State Table read-only for every guest, the common section
  *     writable for every guest, and each output section writable for its own peer and read-only for
- *     the others. The region is at guest-physical address 4 GiB, the Base Address in the vendor
- *     capability. The library never touches the region.
+ *     the others. ivshm_device_new says that the region is at guest-physical address 4 GiB,
+ *     ivshm_device_new_at that it is at another address, or at the start of the window of Base
+ *     Address Register 2, wherever the guest puts that. The library never touches the region.
  *  4. Only the hypervisor writes the State Table. After a call with `writes_state` 1 it stores
  *     `state` to the word of the calling peer, before it injects the deliveries of this call, and
  *     before it makes another call. At the start all words are 0.
@@ -59,16 +60,17 @@
  * STACK. A call uses at most IVSHM_DEVICE_STACK bytes of stack, without what memcpy, memmove,
  * memset, rattle_alloc and rattle_dealloc use. checks/c_device measures each call.
  *
- * MEMORY. ivshm_device_new asks for one block for the peers, one for the MSI-X table of each peer
- * if `vectors` is not 0, and one small block. No other call asks for memory.
+ * MEMORY. ivshm_device_new and ivshm_device_new_at ask for one block for the peers, one for the
+ * MSI-X table of each peer if `vectors` is not 0, and one small block. No other call asks for
+ * memory.
  *
  * WHAT IS PROVED, for all arguments, if the duties are kept:
  *
  *  - Each status has exactly the cause that is written here. The exception is
- *    IVSHM_DEVICE_NO_MEMORY, which any ivshm_device_new may return.
+ *    IVSHM_DEVICE_NO_MEMORY, which any call that makes devices may return.
  *  - A status other than IVSHM_DEVICE_DONE changes neither the devices nor what a pointer leads to.
  *  - Every value that is read, every effect and every state of the devices is that of the device's
- *    rules after all calls since ivshm_device_new.
+ *    rules after all calls since that one.
  *  - Every call ends.
  *
  * WHAT IS TRUSTED: this header's match with the library, what the hypervisor does with an effect,
@@ -125,7 +127,8 @@ enum {
     IVSHM_DEVICE_BAD_VECTOR = 29,   /* ivshm_device_message: vector not below the number of vectors */
     IVSHM_DEVICE_BAD_VECTORS = 40,  /* the vectors are more than IVSHM_DEVICE_VECTORS */
     IVSHM_DEVICE_BAD_ACCESS = 41,   /* the width or the offset is none of such an access */
-    IVSHM_DEVICE_BAD_WINDOW = 42    /* the window is none of the three */
+    IVSHM_DEVICE_BAD_WINDOW = 42,   /* the window is none of the three */
+    IVSHM_DEVICE_BAD_BASE = 43      /* the base is not whole pages, or the region ends after 64 bits */
 };
 
 /* ---- memory ---- */
@@ -159,6 +162,23 @@ void rattle_dealloc(void *at);
  *   _NO_MEMORY */
 uint32_t ivshm_device_new(ivshm_device *device, uint32_t peers, uint32_t table, uint64_t common, uint64_t out,
                           uint32_t vectors);
+
+/* A world of which devices are made. Sizes are in bytes. */
+typedef struct ivshm_device_world {
+    uint64_t common;
+    uint64_t out;
+    uint64_t base; /* the guest-physical address of the region, or 0: behind Base Address Register 2 */
+    uint32_t peers;
+    uint32_t table;
+    uint32_t vectors;
+} ivshm_device_world;
+
+/* As ivshm_device_new, with the region at `base`, a multiple of 4,096. With base 0 the vendor
+ * capability has its short form, without a Base Address, and Base Address Register 2 is a
+ * prefetchable register of 64 bits. Its window has the smallest power of two of bytes that holds
+ * the region, which is at its start; the hypervisor reads the register at offset 18h to place it.
+ * The statuses of ivshm_device_new; IVSHM_DEVICE_BAD_BASE comes after those of the sizes. */
+uint32_t ivshm_device_new_at(ivshm_device *device, const ivshm_device_world *world);
 
 /* Frees the devices. The handle is empty then. IVSHM_DEVICE_DONE, IVSHM_DEVICE_EMPTY. */
 uint32_t ivshm_device_free(ivshm_device *device);

@@ -15,7 +15,9 @@ use crate::doorbell::{REGISTER_DOORBELL, REGISTER_STATE};
 use crate::msix_table::MsixTable;
 use crate::route::Route;
 use crate::trigger::Trigger;
-use pci_space::{BadAccess, ConfigSpace, Field, FieldTable, RegionPlace, Space, Wiring, placed_space};
+use pci_space::{
+    BadAccess, ConfigSpace, Field, FieldTable, RegionPlace, Space, Wiring, placed_space,
+};
 use section_map::Geometry;
 use std::marker::Model;
 

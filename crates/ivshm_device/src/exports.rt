@@ -38,7 +38,14 @@ pub extern "C" fn ivshm_device_new(
         × MakesAnswered device.old.state (record { common = common; out = out; base = USUAL_BASE; peers = peers; table = table; vectors = vectors }) answer device.new.state }
 {
     let base = USUAL_BASE;
-    let world = World { common, out, base, peers, table, vectors };
+    let world = World {
+        common,
+        out,
+        base,
+        peers,
+        table,
+        vectors,
+    };
     ivshm_device_new_at(alloc, device, &world)
 }
 

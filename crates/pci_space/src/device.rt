@@ -34,7 +34,7 @@ macro_rules! rows {
 
 /// Returns the configuration space of a device at reset, the same for every peer of a world. The
 /// region is at the usual base address.
-// claim rows, bytes with placed_space.rows, placed_space.bytes: The device's space is the table of
+// claim rows, bytes with placed_space.rows, placed_space.bytes, RegionPlace::usual: The device's space is the table of
 //    25 rows, for every geometry, protocol, wiring and place of the region.
 pub fn device_space(geometry: &Geometry, protocol: u16, wiring: Wiring) -> ConfigSpace
     requires { IsWiring wiring }
@@ -61,12 +61,7 @@ pub fn placed_space(
 }
 
 /// Returns the fields of a device.
-fn rows_of(
-    geometry: &Geometry,
-    protocol: u16,
-    wiring: Wiring,
-    region: RegionPlace,
-) -> [Field; 25]
+fn rows_of(geometry: &Geometry, protocol: u16, wiring: Wiring, region: RegionPlace) -> [Field; 25]
     requires wired { IsWiring wiring }
     requires placed { IsRegionPlace region }
     ensures rows { result ≡ placed_rows geometry.now protocol wiring region }

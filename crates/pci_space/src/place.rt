@@ -45,7 +45,12 @@ impl RegionPlace {
         ensures { result ≡ place_row self }
     {
         match self {
-            RegionPlace::Address(base) => Field { place: 0x58, width: 8, reset: base, mask: 0 },
+            RegionPlace::Address(base) => Field {
+                place: 0x58,
+                width: 8,
+                reset: base,
+                mask: 0,
+            },
             RegionPlace::Bar2(bits) => Field {
                 place: 0x18,
                 width: 8,

@@ -22,7 +22,7 @@ returns-then-world-ne0-clause-refused c =
     let shaped : IsShape (shape_in c.args.world.now) = subst IsShape c.in-Ok.ensures.made c.in-Ok.ensures.shape in
     let words = ap word_count c.in-Ok.ensures.made in
     bad_base c.if-world-gt64.false c.if-world-gt8.false shaped (λ base. elim c.then-world-ne0.branch [
-      then-world-ne0-via-then-world-ne0 w ↦ absurd (omega (arith, base.0, w.if-world-ne0.true))
+      | then-world-ne0-via-then-world-ne0 w ↦ absurd (omega (arith, base.0, w.if-world-ne0.true))
       | then-world-ne0-via-else-world-ne0+then-world-bytes w ↦
           absurd (omega (arith, base.1, w.if-world-bytes.true, c.from-bytes.ensures, c.words.ensures.value, words, shaped.table_page))
     ])
@@ -32,10 +32,16 @@ returns-in_default-clause-refused c =
     let shaped : IsShape (shape_in c.args.world.now) = subst IsShape c.in-Ok.ensures.made c.in-Ok.ensures.shape in
     no_memory (
       c.if-world-gt64.false,
-      (c.if-world-gt8.false, (shaped, (
-        omega (arith, c.if-world-ne0.false),
-        omega (arith, c.if-world-bytes.false, c.from-bytes.ensures, c.words.ensures.value, ap word_count c.in-Ok.ensures.made, shaped.table_page),
-      ))),
+      (
+        c.if-world-gt8.false,
+        (
+          shaped,
+          (
+            omega (arith, c.if-world-ne0.false),
+            omega (arith, c.if-world-bytes.false, c.from-bytes.ensures, c.words.ensures.value, ap word_count c.in-Ok.ensures.made, shaped.table_page),
+          ),
+        ),
+      ),
     )
 
 pub returns-clause-refused : goal.returns-clause-refused
@@ -43,8 +49,14 @@ returns-clause-refused c =
     let shaped : IsShape (shape_in c.args.world.now) = subst IsShape c.in-Ok.ensures.made c.in-Ok.ensures.shape in
     no_memory (
       c.if-world-gt64.false,
-      (c.if-world-gt8.false, (shaped, (
-        omega (arith, c.if-world-ne0.false),
-        omega (arith, c.if-world-bytes.false, c.from-bytes.ensures, c.words.ensures.value, ap word_count c.in-Ok.ensures.made, shaped.table_page),
-      ))),
+      (
+        c.if-world-gt8.false,
+        (
+          shaped,
+          (
+            omega (arith, c.if-world-ne0.false),
+            omega (arith, c.if-world-bytes.false, c.from-bytes.ensures, c.words.ensures.value, ap word_count c.in-Ok.ensures.made, shaped.table_page),
+          ),
+        ),
+      ),
     )

@@ -1,6 +1,6 @@
 //! The common part of all texts: reading a text line by line, cutting bytes into lines and lines
 //! into fields, numbers in decimal and bytes as hex digits. Forms of lines are tables of pieces.
-//! Short lines are built from their end, without a table.
+//! Short lines are built from their end, without a table. What was read is kept in lists.
 //!
 //! The crate uses `ivs_base`, `arrayvec`, `hex`, `itoa` and `memchr`. Its contracts promise for
 //! every table of forms that reading a form's fields and writing them are one relation, so each
@@ -12,6 +12,7 @@ mod cuts;
 mod forms;
 mod hex_digits;
 mod line_tail;
+mod list;
 mod numbers;
 mod reading;
 mod short_lines;
@@ -21,6 +22,7 @@ pub use cuts::cut;
 pub use forms::{FieldKind, fields, has_form, hex_field, is_printable, number_at, numbers_in};
 pub use hex_digits::read_hex;
 pub use line_tail::LineTail;
+pub use list::List;
 pub use numbers::number;
 pub use reading::{LineFault, TakeLines, TextFault, read_text};
 pub use short_lines::{put_four, put_named, put_one, put_three, put_two, put_with_bytes};

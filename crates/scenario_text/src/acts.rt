@@ -1,10 +1,9 @@
 //! The acts of a scenario: the lines after `begin`.
-ghost use Rattle.std.specs.Prelude.{◌≡◌, ◌++◌, [], ◌∷◌, OnOk, OnErr};
+ghost use Rattle.std.specs.Prelude.{◌≡◌};
 ghost use Rattle.scenario_text.specs.Acts.{cost, peer_of};
 
-use ivs_base::{Frame, NoMemory};
-use std::alloc::Global;
-use std::marker::Model;
+use ivs_base::Frame;
+use line_format::List;
 
 /// One line after `begin`: the next act in the world. `peer` is the peer that the line names.
 #[derive(Debug, Drop)]
@@ -156,88 +155,7 @@ impl Act {
 }
 
 /// One flag for each peer, from peer 0.
-#[derive(Debug, Drop)]
-pub struct Flags {
-    items: Vec<bool>,
-}
-
-impl Model for Flags {
-    ghost use Rattle.std.specs.Prelude.{List, Bool};
-
-    ghost Value = { List Bool };
-
-    ghost view = { λ flags. flags.items.items };
-}
-
-impl Flags {
-    /// Returns the empty list.
-    pub fn new(alloc: Global) -> Self
-        ensures { result ≡ [] }
-    {
-        Flags {
-            items: Vec::new(alloc),
-        }
-    }
-
-    /// Appends the flag. After `NoMemory` the list is unchanged.
-    pub fn push(&mut self, item: bool) -> Result<(), NoMemory>
-        ensures ok { OnOk result (self.new ≡ self.old ++ item ∷ []) }
-        ensures err { OnErr result (self.new ≡ self.old) }
-    {
-        self.items.push(item)?;
-        Ok(())
-    }
-
-    /// Returns the whole list.
-    pub fn items(&self) -> &[bool]
-        ensures { result.now ≡ self.now }
-    {
-        self.items.as_slice()
-    }
-}
+pub type Flags = List<bool>;
 
 /// Acts in their order.
-#[derive(Debug, Drop)]
-pub struct Acts {
-    items: Vec<Act>,
-}
-
-impl Model for Acts {
-    ghost use Rattle.std.specs.Prelude.{List};
-    ghost use Rattle.scenario_text.specs.declared.acts.Act.{Act};
-
-    ghost Value = { List Act };
-
-    ghost view = { λ acts. acts.items.items };
-}
-
-impl Acts {
-    /// Returns the empty list.
-    pub fn new(alloc: Global) -> Self
-        ensures { result ≡ [] }
-    {
-        Acts {
-            items: Vec::new(alloc),
-        }
-    }
-
-    /// Appends the act. After `NoMemory` the list is unchanged and the act is dropped.
-    // claim ok, err with Acts::new, Acts::items, Flags::new, Flags::push.ok, Flags::push.err,
-    //    Flags::items, Draft::new, Draft::finish: A list has the items that were appended, in
-    //    order; a failed call changes nothing. A draft becomes the scenario of what was read so
-    //    far.
-    pub fn push(&mut self, item: Act) -> Result<(), NoMemory>
-        ensures ok { OnOk result (self.new ≡ self.old ++ item ∷ []) }
-        ensures err { OnErr result (self.new ≡ self.old) }
-    {
-        self.items.push(item)?;
-        Ok(())
-    }
-
-    /// Returns the whole list.
-    pub fn items(&self) -> &[Act]
-        ensures { result.now ≡ self.now }
-    {
-        self.items.as_slice()
-    }
-}
+pub type Acts = List<Act>;

@@ -41,6 +41,7 @@ impl Draft {
     }
 
     /// Returns the scenario of the lines up to the end.
+    // claim with Draft::new: A draft becomes the scenario of what was read so far.
     pub fn finish(self) -> Scenario
         requires ended { has_ended (so_far self) ≡ true }
         requires world { IsWorld (world_so_far (so_far self)) }

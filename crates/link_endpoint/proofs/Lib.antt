@@ -11,3 +11,4 @@ pub mod Away
 pub mod Running
 pub mod Stretching
 pub mod InOrder
+pub mod Counting

@@ -13,7 +13,7 @@ use Rattle.tx_engine.specs.Refinement as tx
 use Rattle.rx_engine.specs.Refinement as rx
 use Rattle.link_endpoint.specs.declared.place.Place.{Place}
 use Rattle.link_endpoint.specs.declared.place.Place.TheVariants.{Closed, ReadingOtherState, Clearing, WritingState, Refusing, NotInRun, Offering, Polling}
-use Rattle.link_endpoint.specs.Engine.{Engine, is_busy, is_down, standing_of, offered, delivered, refused_after, IsNoteAt}
+use Rattle.link_endpoint.specs.Engine.{Engine, is_down, standing_of, offered, delivered, refused_after, IsNoteAt}
 
 -- The ends that it refines
 
@@ -67,6 +67,10 @@ pub record RefinesAt (e : Engine) (config : EndConfig) (end : End) (place : plac
   pub few : HasFewInFlight config end
   pub at : IsAt e.place e config end place
 
+-- `Holds` holds of each end that the endpoint refines.
+abbrev pub AtEachEnd : Engine → (EndConfig → End → places.Place → Type 0) → Type 0
+AtEachEnd e Holds = (config : EndConfig) (end : End) (place : places.Place) → RefinesAt e config end place → Holds config end place
+
 -- An end without an open call waits armed. It is in RUN in a link with events, and its session's
 -- last read of the available index found no new frame. Its avail_event wants a doorbell for the
 -- next one.
@@ -91,15 +95,11 @@ in_hand _ offered delivered = offered
 -- For every end that it refines, the endpoint makes the step of its place that meets `value`, with
 -- these notes, and then is `new`.
 pub record Takes (old : Engine) (value : ℕ) (notes : List Note) (new : Engine) : Type 0 where
-  pub marks : (config : EndConfig) (end : End) (place : places.Place) → RefinesAt old config end place →
-      marks_of (in_hand old.place (offered old) (delivered new)) notes ≡ places.marks_at config place value
-  pub marked : (config : EndConfig) (end : End) (place : places.Place) → RefinesAt old config end place →
-      marks_between (offered old) (delivered new) notes ≡ places.marks_at config place value
+  pub marks : AtEachEnd old (λ config _ place. marks_of (in_hand old.place (offered old) (delivered new)) notes ≡ places.marks_at config place value)
+  pub marked : AtEachEnd old (λ config _ place. marks_between (offered old) (delivered new) notes ≡ places.marks_at config place value)
   pub frames : All (IsNoteAt old.place) notes
-  pub refines : (config : EndConfig) (end : End) (place : places.Place) → RefinesAt old config end place →
-      RefinesAt new config (end_after end (places.step_at config place value)) (places.next_place config place value)
-  pub delivered : (config : EndConfig) (end : End) (place : places.Place) → RefinesAt old config end place →
-      delivered new ≡ rx.frame_after place value (delivered old)
+  pub refines : AtEachEnd old (λ config end place. RefinesAt new config (end_after end (places.step_at config place value)) (places.next_place config place value))
+  pub delivered : AtEachEnd old (λ _ _ place. delivered new ≡ rx.frame_after place value (delivered old))
   pub config : new.config ≡ old.config
   pub refused : new.refused ≡ refused_after notes old.refused
   pub offered : offered new ≡ offered old

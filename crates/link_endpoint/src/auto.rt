@@ -1,10 +1,18 @@
 //! The automatic end, which chooses its own calls.
-ghost use Rattle.std.specs.Prelude.{ℕ, List, ◌≡◌, ◌≢◌, ◌+◌, ◌++◌, ◌≤◌, ◌↔◌, ◌∷◌, [], min, IsTrue, MatchOption, OnOk, IfErr};
+ghost use Rattle.std.specs.Prelude.{ℕ, List, ◌≡◌, ◌≢◌, ◌+◌, ◌++◌, ◌≤◌, ◌↔◌, ◌∷◌, [], Some, false, not, min, IsTrue, MatchOption, OnOk, IfErr};
+ghost use Rattle.call_grammar.specs.Ends.{End};
+ghost use Rattle.call_grammar.specs.Calls.{EndConfig};
+ghost use Rattle.call_grammar.specs.Places.{Closed};
 ghost use Rattle.call_grammar.specs.Automatic.{choice_of, Anew};
-ghost use Rattle.link_endpoint.specs.Plan.{fresh_plan, HasCounted, IsChoice, head_of, round_after};
+ghost use Rattle.link_endpoint.specs.Engine.{is_busy};
+ghost use Rattle.link_endpoint.specs.Refinement.{RefinesAt, Opens, mark_between, marks_between};
+ghost use Rattle.link_endpoint.specs.Plan.{fresh_plan, HasCounted, IsChoice, head_of, round_after, MayOpen, place_for, call_of, is_end_choice, Counts};
 
+use crate::endpoint::Endpoint;
+use crate::place::Call;
 use ivs_base::{Frame, NoMemory};
 use link_handshake::Phase;
+use split_ring::steps::Note;
 use std::alloc::Global;
 use std::collections::VecDeque;
 use std::marker::Model;
@@ -102,6 +110,63 @@ impl Auto {
             Choice::Finished => {}
         }
         choice
+    }
+
+    /// Opens the call of this choice at `end`. An offer is of the head, and `Finished` opens no
+    /// call.
+    // claim refines, open, kept: The call that an automatic end chose opens at its first place. An
+    //    offer is of the first frame that isn't accepted yet.
+    pub fn open(&self, end: &mut Endpoint, choice: Choice)
+        requires closed { is_busy end.old ≡ false }
+        requires fits { MayOpen end.old.config.sizes.mtu choice self.now.frames }
+        ensures refines { (config : EndConfig) (at : End) → RefinesAt end.old config at Closed →
+            RefinesAt end.new config at (place_for config at Closed (call_of choice self.now.frames)) }
+        ensures open { is_busy end.new ≡ not (is_end_choice (Some choice)) }
+        ensures kept { Opens end.old end.new }
+    {
+        match choice {
+            Choice::Tick => end.begin(Call::Tick),
+            Choice::Poll => end.begin(Call::Poll),
+            Choice::Offer => match self.head() {
+                Some(frame) => end.offer(frame),
+                None => unreachable!(),
+            },
+            Choice::Finished => {}
+        }
+    }
+
+    /// Counts the frames that a step accepted and delivered.
+    // claim: Each accepted frame is removed from the frames of an automatic end, and each delivery
+    //    is counted.
+    pub fn count(&mut self, notes: &[Note])
+        ensures { (one other : List ℕ) → Counts self.old (marks_between one other notes.now) self.new }
+    {
+        for note in notes {
+            self.count_one(note);
+        }
+    }
+
+    /// Counts one note.
+    fn count_one(&mut self, note: &Note)
+        ensures { (one other : List ℕ) → Counts self.old (mark_between one other note.now ∷ []) self.new }
+    {
+        match note {
+            Note::Accept => {
+                if self.head().is_some() {
+                    self.accepted();
+                }
+            }
+            Note::Deliver => self.delivered(),
+            Note::Saw(_)
+            | Note::Reclaim(_)
+            | Note::Full
+            | Note::Look(_)
+            | Note::Return
+            | Note::Done
+            | Note::Down
+            | Note::Refuse(_)
+            | Note::Over => {}
+        }
     }
 
     /// Removes the head after its offer was accepted.

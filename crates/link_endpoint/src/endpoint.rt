@@ -10,7 +10,7 @@ ghost use Rattle.call_grammar.specs.Words.{word_bytes};
 ghost use Rattle.call_grammar.specs.StepBounds.{HasFewInFlight};
 ghost use Rattle.tx_engine.specs.Ahead.{words_of, listed, last_words, WritesAll};
 ghost use Rattle.link_endpoint.specs.Engine.{config_of, fresh_engine, engine_after_reset, is_busy, is_down, is_refusing, is_reading_state, is_tick, offered, delivered, call_of, comes_down, refused_after, reads_ahead, frame_ahead, writes_ahead, bursts_of};
-ghost use Rattle.link_endpoint.specs.Refinement.{RefinesAt, is_armed, Takes, Opens};
+ghost use Rattle.link_endpoint.specs.Refinement.{RefinesAt, AtEachEnd, is_armed, Takes, Opens};
 ghost use Rattle.link_endpoint.specs.Leaving.{Refuses, Leaves, KeepsRefused, Stays, KeepsAway};
 ghost use Rattle.link_endpoint.specs.Bursts.{IsTaken};
 ghost use Rattle.link_endpoint.specs.Orders.{order_at, order_of};
@@ -96,7 +96,7 @@ impl Endpoint {
     /// Whether a call is open.
     pub fn busy(&self) -> bool
         ensures value { result ≡ is_busy self.now }
-        ensures open { (config : EndConfig) (end : End) (place : places.Place) → RefinesAt self.now config end place → result ≡ places.is_open place }
+        ensures open { AtEachEnd self.now (λ _ _ place. result ≡ places.is_open place) }
     {
         !matches!(self.place, Place::Closed)
     }
@@ -107,7 +107,7 @@ impl Endpoint {
     //    of the end.
     pub fn phase(&self) -> Phase
         ensures value { result ≡ self.now.phase }
-        ensures end { (config : EndConfig) (end : End) (place : places.Place) → RefinesAt self.now config end place → result ≡ end.handshake.phase }
+        ensures end { AtEachEnd self.now (λ _ end _. result ≡ end.handshake.phase) }
         ensures left { is_some self.now.refused ≡ true → is_refusing self.now ≡ false → result ≡ Phase.Reset }
     {
         self.handshake.phase()
@@ -128,7 +128,7 @@ impl Endpoint {
     /// until the next reset. A Stop or a Tick doesn't change it.
     pub fn refused(&self) -> Option<Refused>
         ensures value { result ≡ self.now.refused }
-        ensures end { (config : EndConfig) (end : End) (place : places.Place) → RefinesAt self.now config end place → is_some result ≡ end.handshake.mark }
+        ensures end { AtEachEnd self.now (λ _ end _. is_some result ≡ end.handshake.mark) }
     {
         self.refused
     }
@@ -210,7 +210,7 @@ impl Endpoint {
         requires frame { (14 ≤ length frame.now) × (length frame.now ≤ self.old.config.sizes.mtu + 18) }
         ensures refines { (config : EndConfig) (end : End) → RefinesAt self.old config end places.Closed →
             RefinesAt self.new config end (places.first_place config end (Offer frame.now)) }
-        ensures few { (config : EndConfig) (end : End) (place : places.Place) → RefinesAt self.old config end place → HasFewInFlight config end }
+        ensures few { AtEachEnd self.old (λ config end _. HasFewInFlight config end) }
         ensures open { is_busy self.new ≡ true }
         ensures down { is_down self.new ≡ not (in_run self.old.phase) }
         ensures frame { offered self.new ≡ frame.now }
@@ -234,7 +234,7 @@ impl Endpoint {
         requires some { 14 ≤ length (offered self.old) }
         ensures refines { (config : EndConfig) (end : End) → RefinesAt self.old config end places.Closed →
             RefinesAt self.new config end (places.first_place config end (Offer (offered self.old))) }
-        ensures few { (config : EndConfig) (end : End) (place : places.Place) → RefinesAt self.old config end place → HasFewInFlight config end }
+        ensures few { AtEachEnd self.old (λ config end _. HasFewInFlight config end) }
         ensures open { is_busy self.new ≡ true }
         ensures down { is_down self.new ≡ not (in_run self.old.phase) }
         ensures frame { offered self.new ≡ offered self.old }
@@ -255,7 +255,7 @@ impl Endpoint {
     //    was read. It is none exactly if the call is down.
     pub fn next(&self) -> Access
         requires { is_busy self.now ≡ true }
-        ensures access { (config : EndConfig) (end : End) (place : places.Place) → RefinesAt self.now config end place → result ≡ places.access_at config place }
+        ensures access { AtEachEnd self.now (λ config _ place. result ≡ places.access_at config place) }
         ensures reach { IsPermittedAccess self.now.config result }
         ensures nothing { (result ≡ Access.Nothing) ↔ IsTrue (is_down self.now) }
         ensures leaves { is_refusing self.now ≡ true → result ≡ Access.State 0 }
@@ -330,7 +330,7 @@ impl Endpoint {
     //    State is released, with a full fence after it. An index is acquired at a read and released
     //    at a write. A doorbell is released. All other accesses are relaxed.
     pub fn order(&self) -> Ordering
-        ensures { (config : EndConfig) (end : End) (place : places.Place) → RefinesAt self.now config end place → result ≡ order_at place }
+        ensures { AtEachEnd self.now (λ _ _ place. result ≡ order_at place) }
     {
         match self.place {
             Place::ReadingOtherState => plain(Order::Acquire),
@@ -458,8 +458,8 @@ impl Endpoint {
     /// Writes all words of `bursts` into `into`, four bytes each, the lowest byte first.
     pub fn burst_words(&self, into: &mut [u8])
         requires sized { length into.old ≡ 4 * words_of (bursts_of self.now) }
-        ensures writes { (config : EndConfig) (end : End) (place : places.Place) → RefinesAt self.now config end place →
-            IfSome (bursts_of self.now) (λ bursts. WritesAll config place (listed bursts) into.new) }
+        ensures writes { AtEachEnd self.now (λ config _ place.
+            IfSome (bursts_of self.now) (λ bursts. WritesAll config place (listed bursts) into.new)) }
         ensures sized { length into.new ≡ length into.old }
     {
         if let Place::Offering = self.place {
@@ -476,8 +476,8 @@ impl Endpoint {
     //    of the frame are the last ones of the frame offered.
     pub fn tail_words(&self, into: &mut [u8])
         requires sized { length into.old ≡ 20 }
-        ensures writes { (config : EndConfig) (end : End) (place : places.Place) → RefinesAt self.now config end place →
-            IfSome (bursts_of self.now) (λ bursts. WritesAll config place (listed bursts) (last_words (offered self.now) bursts.frame.count ++ into.new)) }
+        ensures writes { AtEachEnd self.now (λ config _ place.
+            IfSome (bursts_of self.now) (λ bursts. WritesAll config place (listed bursts) (last_words (offered self.now) bursts.frame.count ++ into.new))) }
         ensures untouched { bursts_of self.now ≡ None → into.new ≡ into.old }
         ensures sized { length into.new ≡ length into.old }
     {
@@ -503,8 +503,7 @@ impl Endpoint {
     /// value. The frame offered last and the frame delivered last stay.
     pub fn reset(&mut self)
         ensures value { self.new ≡ engine_after_reset self.old }
-        ensures refines { (config : EndConfig) (end : End) (place : places.Place) → RefinesAt self.old config end place →
-            RefinesAt self.new config (after_reset end) places.Closed }
+        ensures refines { AtEachEnd self.old (λ config end _. RefinesAt self.new config (after_reset end) places.Closed) }
         ensures delivered { delivered self.new ≡ delivered self.old }
         ensures offered { offered self.new ≡ offered self.old }
     {

@@ -12,6 +12,9 @@
 //! - `Endpoint::offered` returns the frame offered last, from the endpoint's own copy. A caller
 //!   that writes a history needs it at the Accept mark without a copy of its own, and `offer_again`
 //!   offers it once more. It stays until another frame is offered.
+//! - An `AutoEndpoint` is an end with its automatic choice, for the code that drives one over a
+//!   memory. An end that may also be driven by queued calls has both apart, and uses `Auto::open`
+//!   and `Auto::count`.
 //! - `Auto::cut` restarts the round of an automatic end. A reset cuts the call that the end chose,
 //!   and only the caller knows of the reset.
 //! - An access is permitted without a condition, even if nothing is known of the values read: the
@@ -28,12 +31,14 @@
 #![tactic(auto)]
 
 mod auto;
+mod auto_endpoint;
 mod endpoint;
 pub mod laws;
 mod order;
 mod place;
 
 pub use auto::{Auto, Choice};
+pub use auto_endpoint::AutoEndpoint;
 pub use endpoint::{Endpoint, endpoints_make_calls};
 pub use order::{Order, Ordering};
 pub use place::Call;

@@ -23,7 +23,8 @@ use Rattle.link_invariant.specs.Steps.{Stored, ReadsMemory, MemoryAfter, OnlyEnd
 use Rattle.link_invariant.specs.Sides.{CallIs, SideIs, SawFor}
 use Rattle.pair_sessions.specs.Once.{CalmRuns, begins, steps}
 use Rattle.pair_sessions.proofs.Calm.{deliver_lem}
-use Rattle.frame_bridge.specs.Links.{link_config, expected, AutoEnd, Link, choice, with_choice, opened, left_after, delivered_by, stepped, value_in, words_after, with_end, step_of_link, turned}
+use Rattle.link_endpoint.specs.Plan.{left_after, delivered_by}
+use Rattle.frame_bridge.specs.Links.{link_config, expected, AutoEnd, Link, choice, with_choice, opened, stepped, value_in, words_after, with_end, step_of_link, turned}
 use Rattle.frame_bridge.specs.Keeps.{job_frame, HeadIs, ends_in, places_in, Sound}
 use Rattle.frame_bridge.proofs.Steps.{accepted_by, heads_on, counts_on, noted_accepted, noted_delivered, SameLists, stated_lists}
 

@@ -5,7 +5,7 @@ use Rattle.std.proofs.lemmas.List.{map-append}
 use Rattle.std.proofs.lemmas.List.Concat.{flat_map-append, flat_map-cons}
 use Rattle.line_format.specs.Rows.{Row, line_of_row, text_of}
 use Rattle.frame_bridge.specs.declared.output.Line.{Line}
-use Rattle.frame_bridge.specs.declared.auto_ends.AutoEnd as held
+use Rattle.link_endpoint.specs.declared.auto_endpoint.AutoEndpoint.{AutoEndpoint}
 use Rattle.frame_bridge.specs.declared.ports.Port.{Port}
 use Rattle.frame_bridge.specs.Links.{AutoEnd, Link, turned, observed_by}
 use Rattle.frame_bridge.specs.Output.{pieces_of, out_row}
@@ -31,7 +31,7 @@ own_turned link forwarded old new refines region own station outs delivered coun
     let same : link.parties 0 ≡ (turned 1 link).parties 0 = sym (turned_other link 1 0 (λ e. cc)) in
     record {
       region = region;
-      station = subst (λ (h : held.AutoEnd). AutoEndRefines 0 ((turned 1 link).parties 0) h) (sym station) (subst (λ (p : AutoEnd). AutoEndRefines 0 p old.station) same refines.station);
+      station = subst (λ (h : AutoEndpoint). AutoEndRefines 0 ((turned 1 link).parties 0) h) (sym station) (subst (λ (p : AutoEnd). AutoEndRefines 0 p old.station) same refines.station);
       own = own;
       outs = ap (λ v. v.items) outs ∙ (refines.outs ∙ ap (λ (p : AutoEnd). text_of pieces_of (map out_row p.delivered)) same);
       delivered = delivered ∙ (refines.delivered ∙ ap (λ (p : AutoEnd). min (length p.delivered) most_counted) same);
@@ -54,7 +54,7 @@ station_told link forwarded old new frame refines region station told own outs d
     record {
       region = region;
       station = station;
-      own = subst (λ (h : held.AutoEnd). AutoEndRefines 1 ((turned 0 link).parties 1) h) (sym own) (subst (λ (p : AutoEnd). AutoEndRefines 1 p old.own) same refines.own);
+      own = subst (λ (h : AutoEndpoint). AutoEndRefines 1 ((turned 0 link).parties 1) h) (sym own) (subst (λ (p : AutoEnd). AutoEndRefines 1 p old.own) same refines.own);
       outs = outs ∙ (ap (λ (t : List ℕ). t ++ line_of_row pieces_of (out_row frame)) refines.outs ∙ (sym (outs_more (link.parties 0).delivered frame) ∙
           ap (λ (fs : List (List ℕ)). text_of pieces_of (map out_row fs)) (sym frames)));
       delivered = count_more (length (link.parties 0).delivered) old.delivered new.delivered refines.delivered delivered ∙
@@ -71,7 +71,7 @@ station_quiet link forwarded old new frame refines region station told own outs 
     record {
       region = region;
       station = station;
-      own = subst (λ (h : held.AutoEnd). AutoEndRefines 1 ((turned 0 link).parties 1) h) (sym own) (subst (λ (p : AutoEnd). AutoEndRefines 1 p old.own) same refines.own);
+      own = subst (λ (h : AutoEndpoint). AutoEndRefines 1 ((turned 0 link).parties 1) h) (sym own) (subst (λ (p : AutoEnd). AutoEndRefines 1 p old.own) same refines.own);
       outs = ap (λ v. v.items) outs ∙ (refines.outs ∙ ap (λ (fs : List (List ℕ)). text_of pieces_of (map out_row fs)) (sym frames));
       delivered = delivered ∙ (refines.delivered ∙ ap (λ (fs : List (List ℕ)). min (length fs) most_counted) (sym frames));
       forwarded_is = counted ∙ refines.forwarded_is;

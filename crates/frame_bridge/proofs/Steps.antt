@@ -16,7 +16,7 @@ use Rattle.call_grammar.specs.Ticks.{tick_marks}
 use Rattle.call_grammar.specs.Offers.{PendingOffer, frame_fits, descriptor_of, wants_doorbell, full_marks, reclaim_marks, returned_by}
 use Rattle.call_grammar.specs.Polls.{is_entry, is_address, is_length, entry_in, look_marks, published_by}
 use Rattle.call_grammar.specs.Places.{Place, Closed, ReadingOtherState, Clearing, WritingState, Refusing, NotInRun, ReadingUsedIndex, ReadingUsedId, WritingFrameWord, WritingDescAddressLow, WritingDescAddressHigh, WritingDescLength, WritingDescFlags, WritingAvailEntry, WritingAvailIndex, ReadingAvailEvent, RingingOffer, ReadingAvailIndex, WritingAvailEvent, ReadingAvailEntry, ReadingDescAddressLow, ReadingDescAddressHigh, ReadingDescLength, ReadingDescFlags, ReadingFrameWord, WritingUsedId, WritingUsedLength, WritingUsedIndex, RingingPoll, clear_place, tick_place, fill_place, ids_place, notify_place, none_place, items_place, words_place, access_at, marks_at, next_place}
-use Rattle.frame_bridge.specs.Links.{left_after, delivered_by}
+use Rattle.link_endpoint.specs.Plan.{left_after, delivered_by}
 use Rattle.frame_bridge.specs.Keeps.{job_frame, HeadIs}
 
 -- Accepted frames

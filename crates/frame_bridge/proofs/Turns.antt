@@ -1,8 +1,8 @@
 -- A turn of an end, by the steps of its endpoint and its plan.
-use Rattle.std.proofs.Common.{◌≡◌, ℕ, ◌+◌, ◌-◌, ◌<◌, ◌≤◌, Bool, true, false, List, [], ◌∷◌, ◌++◌, length, get_or, take, drop, refl, sym, ap, ◌∙◌, subst, arith, append_assoc, append-nil}
-use Rattle.std.specs.Prelude.{◌==◌, nat_le, if◌then◌else◌}
+use Rattle.std.proofs.Common.{◌≡◌, ℕ, ◌+◌, ◌-◌, ◌≤◌, Bool, true, false, List, [], ◌∷◌, length, refl, sym, ap, ◌∙◌, subst, arith, All, length-append}
+use Rattle.std.specs.Prelude.{◌==◌, nat_le, if◌then◌else◌, Option, Some, None}
 use Rattle.std.specs.List.{list_any}
-use Rattle.std.proofs.lemmas.List.{map-append, take_more}
+use Rattle.std.proofs.lemmas.List.Elements.{recursion_from_All}
 use Rattle.split_ring.specs.declared.steps.Access.{Access}
 use Rattle.split_ring.specs.declared.steps.Note.{Note}
 use Rattle.split_ring.specs.declared.steps.Note.TheVariants as note
@@ -11,8 +11,8 @@ use Rattle.split_ring.specs.Spelling.{low_half}
 use Rattle.link_handshake.specs.declared.Move.{Move}
 use Rattle.link_handshake.specs.declared.Move.TheVariants.{Stay, Set, ClearThenSet}
 use Rattle.link_handshake.specs.HandshakeState.{move_of}
-use Rattle.call_grammar.specs.Steps.{Mark, Accept, Deliver}
-use Rattle.call_grammar.specs.Ends.{end_after}
+use Rattle.call_grammar.specs.Steps.{Mark, Deliver}
+use Rattle.call_grammar.specs.Ends.{End, end_after}
 use Rattle.call_grammar.specs.Words.{address_of}
 use Rattle.call_grammar.specs.Calls.{EndConfig, in_run}
 use Rattle.call_grammar.specs.Ticks.{tick_marks}
@@ -20,45 +20,17 @@ use Rattle.call_grammar.specs.Offers.{frame_fits, descriptor_of, wants_doorbell,
 use Rattle.call_grammar.specs.Polls.{is_entry, is_address, is_length, entry_in, published_by}
 use Rattle.call_grammar.specs.Places.{Place, ReadingOtherState, ReadingUsedIndex, ReadingUsedId, ReadingAvailEvent, ReadingAvailIndex, ReadingAvailEntry, ReadingDescAddressHigh, ReadingDescLength, ReadingDescFlags, ReadingFrameWord, access_at, marks_at, next_place, step_at, is_open}
 use Rattle.call_grammar.specs.Automatic.{Choice, ChoosesTick, ChoosesOffer, ChoosesPoll, IsFinished}
-use Rattle.link_invariant.specs.LinkConfig.{config_of}
+use Rattle.link_invariant.specs.LinkConfig.{config_of, IsOffered}
 use Rattle.link_endpoint.specs.Engine.{offered, delivered}
-use Rattle.link_endpoint.specs.Refinement.{RefinesAt, Takes, mark_between, marks_between}
-use Rattle.link_endpoint.specs.Plan.{Plan}
+use Rattle.link_endpoint.specs.Refinement.{RefinesAt, Takes, marks_between}
+use Rattle.link_endpoint.specs.Plan.{Plan, HasCounted, IsChoice, choice_at, Matches, round_after, round_since, call_of, call_chosen_by, place_for, MayOpenIf, left_after, delivered_by, Counts}
+use Rattle.link_endpoint.specs.declared.auto.Choice as answers
+use Rattle.link_endpoint.specs.declared.auto.Choice.TheVariants as answer
+use Rattle.link_endpoint.specs.declared.auto_endpoint.AutoEndpoint.{AutoEndpoint}
 use Rattle.section_map.specs.Geometry.{Words}
-use Rattle.frame_bridge.specs.declared.auto_ends.AutoEnd as held
-use Rattle.frame_bridge.specs.Links.{link_config, AutoEnd, Link, choice, with_choice, opened, left_after, delivered_by, counted, stepped, value_in, words_after, step_of_link, turned, observed_by}
+use Rattle.frame_bridge.specs.Links.{link_config, AutoEnd, Link, choice, with_choice, opened, stepped, value_in, words_after, step_of_link, turned, observed_by}
 use Rattle.frame_bridge.specs.Refinement.{IsPlanOf, AutoEndRefines, RegionRefines, is_delivery, delivered_if}
 use Rattle.frame_bridge.proofs.Keeping.{put_here}
-
--- Notes, one by one
-
-left_snoc : (frames : List (List ℕ)) (marks : List Mark) (mark : Mark) → left_after frames (marks ++ mark ∷ []) ≡ left_after (left_after frames marks) (mark ∷ [])
-left_snoc frames [] mark = refl
-left_snoc frames (Accept frame ∷ marks) mark = left_snoc (drop 1 frames) marks mark
-left_snoc frames (_ ∷ marks) mark = left_snoc frames marks mark
-
-delivered_snoc : (marks : List Mark) (mark : Mark) → delivered_by (marks ++ mark ∷ []) ≡ delivered_by marks ++ delivered_by (mark ∷ [])
-delivered_snoc [] mark = refl
-delivered_snoc (Deliver frame ∷ marks) mark = ap (λ (l : List (List ℕ)). frame ∷ l) (delivered_snoc marks mark)
-delivered_snoc (_ ∷ marks) mark = delivered_snoc marks mark
-
-pub no_count : (party : AutoEnd) → counted party [] ≡ party
-no_count party = ap (λ (l : List (List ℕ)). record party { delivered = l }) (append-nil party.delivered)
-
-counted_snoc : (party : AutoEnd) (marks : List Mark) (mark : Mark) → counted party (marks ++ mark ∷ []) ≡ counted (counted party marks) (mark ∷ [])
-counted_snoc party marks mark =
-    ap (λ (l : List (List ℕ)). record party { frames = l; delivered = party.delivered ++ delivered_by (marks ++ mark ∷ []) }) (left_snoc party.frames marks mark) ∙
-    ap (λ (l : List (List ℕ)). record party { frames = left_after (left_after party.frames marks) (mark ∷ []); delivered = l })
-    (ap (λ (l : List (List ℕ)). party.delivered ++ l) (delivered_snoc marks mark) ∙ sym (append_assoc party.delivered (delivered_by marks) (delivered_by (mark ∷ []))))
-
--- One more count.
-pub one_count : (party : AutoEnd) (one other : List ℕ) (notes : List Note) (i : ℕ) (note : Note) → i < length notes → note ≡ get_or notes i note →
-    counted party (marks_between one other (take (i + 1) notes)) ≡ counted (counted party (marks_between one other (take i notes))) (mark_between one other note ∷ [])
-one_count party one other notes i note inside is =
-    let taken : take (i + 1) notes ≡ take i notes ++ note ∷ [] = take_more notes i note inside ∙ ap (λ (n : Note). take i notes ++ n ∷ []) (sym is) in
-    ap (λ (ns : List Note). counted party (marks_between one other ns)) taken ∙
-    (ap (λ (ms : List Mark). counted party ms) (map-append (mark_between one other) (take i notes) (note ∷ [])) ∙
-    counted_snoc party (marks_between one other (take i notes)) (mark_between one other note))
 
 -- The frame that a turn delivers
 
@@ -148,6 +120,70 @@ still_if config party false closed = still_at config party (choice party) closed
 pub still : (config : EndConfig) (party : AutoEnd) → is_open (opened config party).place ≡ false → opened config party ≡ party
 still config party closed = still_if config party (is_open party.place) closed
 
+-- The call chosen is opened
+
+opens_choice : (config : EndConfig) (party : AutoEnd) (c : Choice) (a : answers.Choice) (frames : List (List ℕ)) → IsChoice a frames c →
+    with_choice config party c ≡ record party { place = place_for config party.end party.place (call_of a frames); round = round_after a party.round }
+opens_choice config party c answer.Tick frames is = ap (with_choice config party) is
+opens_choice config party c answer.Offer [] is = absurd is
+opens_choice config party c answer.Offer (frame ∷ frames) is = ap (with_choice config party) is
+opens_choice config party c answer.Poll frames is = ap (with_choice config party) is
+opens_choice config party c answer.Finished frames is = ap (with_choice config party) is
+
+opens_if : (config : EndConfig) (party : AutoEnd) (b : Bool) (c : Choice) (a : Option answers.Choice) (frames : List (List ℕ)) → Matches a frames (if b then None else Some c) →
+    (if b then party else with_choice config party c) ≡ record party { place = place_for config party.end party.place (call_chosen_by a frames); round = round_since a party.round }
+opens_if config party true c None frames is = refl
+opens_if config party true c (Some a) frames is = absurd is
+opens_if config party false c None frames is = absurd is
+opens_if config party false c (Some a) frames is = opens_choice config party c a frames is
+
+-- The choice of the plan is that of the end that it is a plan of.
+matches_plan : (party : AutoEnd) (plan : Plan) (a : Option answers.Choice) → IsPlanOf plan party →
+    Matches a plan.frames (choice_at party.end party.place plan (length party.delivered)) → Matches a party.frames (if is_open party.place then None else Some (choice party))
+matches_plan party plan a is matches = rw (is.frames, is.expected_is, is.round) at matches
+
+pub opens_as : (me : ℕ) (party : AutoEnd) (old mid new : AutoEndpoint) (a : Option answers.Choice) → AutoEndRefines me party old →
+    ((config : EndConfig) (end : End) (place : Place) (count : ℕ) → RefinesAt old.end config end place → HasCounted old.auto count → Matches a old.auto.frames (choice_at end place old.auto count)) →
+    mid ≡ record old { auto = record (old.auto) { round = round_since a old.auto.round } } →
+    ((config : EndConfig) (end : End) (place : Place) → RefinesAt mid.end config end place → RefinesAt new.end config end (place_for config end place (call_chosen_by a mid.auto.frames))) →
+    new.auto ≡ mid.auto → AutoEndRefines me (opened (config_of link_config me) party) new
+opens_as me party old mid new a refines chooses mid_is opens auto_is =
+    let config : EndConfig = config_of link_config me in
+    let matches = matches_plan party old.auto a refines.plan (chooses config party.end party.place (length party.delivered) refines.end refines.plan.delivered) in
+    let same = opens_if config party (is_open party.place) (choice party) a party.frames matches in
+    let frames : mid.auto.frames ≡ party.frames = ap (λ (h : AutoEndpoint). h.auto.frames) mid_is ∙ refines.plan.frames in
+    let there : RefinesAt mid.end config party.end party.place = subst (λ (h : AutoEndpoint). RefinesAt h.end config party.end party.place) (sym mid_is) refines.end in
+    let plan : IsPlanOf (record (old.auto) { round = round_since a old.auto.round }) (record party { place = place_for config party.end party.place (call_chosen_by a party.frames); round = round_since a party.round }) =
+    record { frames = refines.plan.frames; expected_is = refines.plan.expected_is; delivered = refines.plan.delivered; round = ap (round_since a) refines.plan.round } in
+    subst (λ (p : AutoEnd). AutoEndRefines me p new) (sym same) (record {
+      end = subst (λ (fs : List (List ℕ)). RefinesAt new.end config party.end (place_for config party.end party.place (call_chosen_by a fs))) frames (opens config party.end party.place there);
+      plan = subst (λ (p : Plan). IsPlanOf p (record party { place = place_for config party.end party.place (call_chosen_by a party.frames); round = round_since a party.round }))
+          (sym (auto_is ∙ ap (λ (h : AutoEndpoint). h.auto) mid_is)) plan;
+    })
+
+may_open : (a : answers.Choice) (frames : List (List ℕ)) (c : Choice) → All (IsOffered link_config) frames → IsChoice a frames c → MayOpenIf link_config.sizes.mtu (Some a) frames
+may_open answer.Tick frames c all is = tt
+may_open answer.Offer [] c all is = is
+may_open answer.Offer (frame ∷ frames) c all is = let first = (recursion_from_All (IsOffered link_config) (frame ∷ frames) all).0 in (first.least, first.most)
+may_open answer.Poll frames c all is = tt
+may_open answer.Finished frames c all is = tt
+
+may_open_if : (a : Option answers.Choice) (frames : List (List ℕ)) (c : Option Choice) → All (IsOffered link_config) frames → Matches a frames c → MayOpenIf link_config.sizes.mtu a frames
+may_open_if None frames c all is = tt
+may_open_if (Some a) frames None all is = absurd is
+may_open_if (Some a) frames (Some c) all is = may_open a frames c all is
+
+-- A frame that is chosen may be offered.
+pub fits_chosen : (me : ℕ) (party : AutoEnd) (old new : AutoEndpoint) (a : Option answers.Choice) → AutoEndRefines me party old → All (IsOffered link_config) party.frames →
+    ((config : EndConfig) (end : End) (place : Place) (count : ℕ) → RefinesAt old.end config end place → HasCounted old.auto count → Matches a old.auto.frames (choice_at end place old.auto count)) →
+    new ≡ record old { auto = record (old.auto) { round = round_since a old.auto.round } } → MayOpenIf new.end.config.sizes.mtu a new.auto.frames
+fits_chosen me party old new a refines all chooses is =
+    let frames : All (IsOffered link_config) old.auto.frames = subst (All (IsOffered link_config)) (sym refines.plan.frames) all in
+    let fits : MayOpenIf link_config.sizes.mtu a old.auto.frames =
+    may_open_if a old.auto.frames _ frames (chooses (config_of link_config me) party.end party.place (length party.delivered) refines.end refines.plan.delivered) in
+    subst (λ (h : AutoEndpoint). MayOpenIf h.end.config.sizes.mtu a h.auto.frames) (sym is)
+    (subst (λ (w : EndConfig). MayOpenIf w.sizes.mtu a old.auto.frames) refines.end.made fits)
+
 -- The turn
 
 -- A turn at an open place is the step there.
@@ -158,25 +194,34 @@ turned_open me link opens = ap (λ (b : Bool). if b then step_of_link me link (o
 pub turned_closed : (me : ℕ) (link : Link) → is_open (opened (config_of link_config me) (link.parties me)).place ≡ false → turned me link ≡ link
 turned_closed me link closed = ap (λ (b : Bool). if b then step_of_link me link (opened (config_of link_config me) (link.parties me)) else link) closed
 
-plan_stepped : (config : EndConfig) (value : ℕ) (party : AutoEnd) (plan : Plan) → IsPlanOf plan (counted party (marks_at config party.place value)) → IsPlanOf plan (stepped config value party)
-plan_stepped config value party plan is = record { frames = is.frames; expected_is = is.expected_is; delivered = is.delivered; round = is.round }
+-- The plan of an end that completed a step counted the marks of the step.
+plan_stepped : (config : EndConfig) (value : ℕ) (party : AutoEnd) (plan new : Plan) → Counts plan (marks_at config party.place value) new → IsPlanOf plan party →
+    IsPlanOf new (stepped config value party)
+plan_stepped config value party plan new counts is =
+    let marks : List Mark = marks_at config party.place value in
+    record {
+      frames = counts.frames ∙ ap (λ (fs : List (List ℕ)). left_after fs marks) is.frames;
+      expected_is = counts.expected ∙ is.expected_is;
+      delivered = subst (λ (n : ℕ). HasCounted new n) (sym (length-append party.delivered (delivered_by marks))) (counts.delivered (length party.delivered) is.delivered);
+      round = counts.round ∙ is.round;
+    }
 
 -- The endpoint completed the step of this value, and the plan counted its notes.
-pub record Took (me : ℕ) (link : Link) (before : held.AutoEnd) (value : ℕ) (notes : List Note) (after : held.AutoEnd) : Type 0 where
+pub record Took (me : ℕ) (link : Link) (before : AutoEndpoint) (value : ℕ) (notes : List Note) (after : AutoEndpoint) : Type 0 where
   pub refines : AutoEndRefines me (opened (config_of link_config me) (link.parties me)) before
   pub opens : is_open (opened (config_of link_config me) (link.parties me)).place ≡ true
   pub takes : Takes before.end value notes after.end
   pub reads : value ≡ value_in link.memory (access_at (config_of link_config me) (opened (config_of link_config me) (link.parties me)).place)
-  pub counts : (party : AutoEnd) (one other : List ℕ) → IsPlanOf before.auto party → IsPlanOf after.auto (counted party (marks_between one other notes))
+  pub counts : (one other : List ℕ) → Counts before.auto (marks_between one other notes) after.auto
 
-marks_taken : (me : ℕ) (link : Link) (before : held.AutoEnd) (value : ℕ) (notes : List Note) (after : held.AutoEnd) → Took me link before value notes after →
+marks_taken : (me : ℕ) (link : Link) (before : AutoEndpoint) (value : ℕ) (notes : List Note) (after : AutoEndpoint) → Took me link before value notes after →
     marks_between (offered before.end) (delivered after.end) notes ≡
     marks_at (config_of link_config me) (opened (config_of link_config me) (link.parties me)).place (value_in link.memory (access_at (config_of link_config me) (opened (config_of link_config me) (link.parties me)).place))
 marks_taken me link before value notes after took =
     let party : AutoEnd = opened (config_of link_config me) (link.parties me) in
     took.takes.marked (config_of link_config me) party.end party.place took.refines.end ∙ ap (marks_at (config_of link_config me) party.place) took.reads
 
-pub party_turned : (me : ℕ) (link : Link) (before : held.AutoEnd) (value : ℕ) (notes : List Note) (after : held.AutoEnd) → Took me link before value notes after →
+pub party_turned : (me : ℕ) (link : Link) (before : AutoEndpoint) (value : ℕ) (notes : List Note) (after : AutoEndpoint) → Took me link before value notes after →
     AutoEndRefines me ((turned me link).parties me) after
 party_turned me link before value notes after took =
     let config : EndConfig = config_of link_config me in
@@ -185,14 +230,13 @@ party_turned me link before value notes after took =
     let end : RefinesAt after.end config (end_after party.end (step_at config party.place v)) (next_place config party.place v) =
     subst (λ (n : ℕ). RefinesAt after.end config (end_after party.end (step_at config party.place n)) (next_place config party.place n)) took.reads
     (took.takes.refines config party.end party.place took.refines.end) in
-    let told : IsPlanOf after.auto (counted party (marks_at config party.place v)) =
-    subst (λ (ms : List Mark). IsPlanOf after.auto (counted party ms)) (marks_taken me link before value notes after took)
-    (took.counts party (offered before.end) (delivered after.end) took.refines.plan) in
+    let counts : Counts before.auto (marks_at config party.place v) after.auto =
+    subst (λ (ms : List Mark). Counts before.auto ms after.auto) (marks_taken me link before value notes after took) (took.counts (offered before.end) (delivered after.end)) in
     let here : (turned me link).parties me ≡ stepped config v party =
     ap (λ (l : Link). l.parties me) (turned_open me link took.opens) ∙ put_here link.parties me (stepped config v party) in
-    subst (λ (p : AutoEnd). AutoEndRefines me p after) (sym here) (record { end = end; plan = plan_stepped config v party after.auto told })
+    subst (λ (p : AutoEnd). AutoEndRefines me p after) (sym here) (record { end = end; plan = plan_stepped config v party before.auto after.auto counts took.refines.plan })
 
-pub told_turned : (me : ℕ) (link : Link) (before : held.AutoEnd) (value : ℕ) (notes : List Note) (after : held.AutoEnd) (told : Bool) → Took me link before value notes after →
+pub told_turned : (me : ℕ) (link : Link) (before : AutoEndpoint) (value : ℕ) (notes : List Note) (after : AutoEndpoint) (told : Bool) → Took me link before value notes after →
     list_any is_delivery notes ≡ told → observed_by me link ≡ delivered_if told (delivered after.end)
 told_turned me link before value notes after told took any =
     let config : EndConfig = config_of link_config me in

@@ -19,7 +19,8 @@ use Rattle.bridge_text.specs.declared.scripts.Sent.{Sent}
 use Rattle.bridge_text.specs.Spelling as text
 use Rattle.frame_bridge.specs.Forwarding.{Arrival, is_forwarded, forwarded_after, forward}
 use Rattle.frame_bridge.specs.BridgeView.{arrival}
-use Rattle.frame_bridge.specs.Links.{link_config, AutoEnd, Link, starting, choice, with_choice, opened, delivered_by, stepped, value_in, step_of_link, turned, observed_by, with_copies}
+use Rattle.link_endpoint.specs.Plan.{delivered_by}
+use Rattle.frame_bridge.specs.Links.{link_config, AutoEnd, Link, starting, choice, with_choice, opened, stepped, value_in, step_of_link, turned, observed_by, with_copies}
 use Rattle.frame_bridge.specs.Run.{World, Turn, frames_of, started, arriving, world_after}
 use Rattle.frame_bridge.specs.Output.{outs, arrived_at, Delivers}
 use Rattle.frame_bridge.specs.Keeps.{HeadIs, ends_in, places_in, Sound, given_to, Going}

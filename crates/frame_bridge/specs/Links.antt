@@ -1,14 +1,14 @@
 -- The link of a port: its words, a station as end 0 and the bridge's end as end 1. Each end chooses
 -- its own calls (profile).
-use Rattle.std.specs.Prelude.{ℕ, ◌==◌, if◌then◌else◌, List, [], ◌∷◌, ◌++◌, length, drop}
+use Rattle.std.specs.Prelude.{ℕ, ◌==◌, if◌then◌else◌, List, [], ◌++◌, length}
 use Rattle.split_ring.specs.declared.steps.Access.{Access}
 use Rattle.split_ring.specs.declared.steps.Access.TheVariants as access
-use Rattle.call_grammar.specs.Steps.{Mark, Accept, Deliver}
 use Rattle.call_grammar.specs.Ends.{End, fresh, end_after}
 use Rattle.call_grammar.specs.Calls.{EndConfig, Tick, Offer, Poll}
 use Rattle.call_grammar.specs.Places.{Place, Closed, first_place, access_at, marks_at, next_place, step_at, is_open}
 use Rattle.call_grammar.specs.Automatic.{Round, Anew, AfterOffer, AfterPoll, Choice, ChoosesTick, ChoosesOffer, ChoosesPoll, IsFinished, choice_of}
 use Rattle.link_invariant.specs.LinkConfig.{LinkConfig, config_of}
+use Rattle.link_endpoint.specs.Plan.{left_after, delivered_by}
 
 -- A region of two peers: a State Table of 4,096 bytes, no common section, and sections of 16,384
 -- bytes with a queue of version 1 for an MTU of 256. Doorbells have vector 1.
@@ -46,22 +46,6 @@ with_choice config party IsFinished = party
 -- The end with its open call, or with the call that it chooses.
 abbrev pub opened : EndConfig → AutoEnd → AutoEnd
 opened config party = if is_open party.place then party else with_choice config party (choice party)
-
--- The frames to come after these marks: each accepted frame was the first of them.
-abbrev pub left_after : List (List ℕ) → List Mark → List (List ℕ)
-left_after frames [] = frames
-left_after frames (Accept frame ∷ marks) = left_after (drop 1 frames) marks
-left_after frames (_ ∷ marks) = left_after frames marks
-
--- The frames that these marks deliver.
-abbrev pub delivered_by : List Mark → List (List ℕ)
-delivered_by [] = []
-delivered_by (Deliver frame ∷ marks) = frame ∷ delivered_by marks
-delivered_by (_ ∷ marks) = delivered_by marks
-
--- The end after it counted these marks.
-abbrev pub counted : AutoEnd → List Mark → AutoEnd
-counted party marks = record party { frames = left_after party.frames marks; delivered = party.delivered ++ delivered_by marks }
 
 -- The end after the step of its open call that reads this value.
 abbrev pub stepped : EndConfig → ℕ → AutoEnd → AutoEnd

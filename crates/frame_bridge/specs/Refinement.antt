@@ -8,7 +8,7 @@ use Rattle.split_ring.specs.declared.steps.Note.TheVariants as note
 use Rattle.link_invariant.specs.LinkConfig.{config_of}
 use Rattle.link_endpoint.specs.Refinement.{RefinesAt}
 use Rattle.link_endpoint.specs.Plan.{Plan, HasCounted}
-use Rattle.frame_bridge.specs.declared.auto_ends.AutoEnd.{AutoEnd}
+use Rattle.link_endpoint.specs.declared.auto_endpoint.AutoEndpoint.{AutoEndpoint}
 use Rattle.bridge_text.specs.declared.scripts.Sent.{Sent}
 use Rattle.frame_bridge.specs.declared.ports.Port.{Port}
 use Rattle.frame_bridge.specs.declared.run.Run.{Run}
@@ -32,7 +32,7 @@ pub record IsPlanOf (plan : Plan) (party : links.AutoEnd) : Type 0 where
   pub round : plan.round ≡ party.round
 
 -- The code's end `me` refines this one.
-pub record AutoEndRefines (me : ℕ) (party : links.AutoEnd) (held : AutoEnd) : Type 0 where
+pub record AutoEndRefines (me : ℕ) (party : links.AutoEnd) (held : AutoEndpoint) : Type 0 where
   pub end : RefinesAt held.end (config_of link_config me) party.end party.place
   pub plan : IsPlanOf held.auto party
 

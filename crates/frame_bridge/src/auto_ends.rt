@@ -1,18 +1,15 @@
 //! One end of a port's link over the words of its region. It chooses its own calls.
-ghost use Rattle.std.specs.Prelude.{◌≡◌, ℕ, List, ◌++◌, ◌∷◌, [], ◌+◌, ◌<◌, ◌≤◌, All, IfOk, true};
+ghost use Rattle.std.specs.Prelude.{◌≡◌, ℕ, [], ◌<◌, All, IfOk};
 ghost use Rattle.std.specs.List.{list_any};
-ghost use Rattle.call_grammar.specs.Steps.{Mark};
 ghost use Rattle.call_grammar.specs.Reach.{IsPermittedAccess};
 ghost use Rattle.link_invariant.specs.LinkConfig.{config_of, IsOffered};
-ghost use Rattle.link_endpoint.specs.Engine.{is_busy, delivered};
-ghost use Rattle.link_endpoint.specs.Refinement.{mark_between, marks_between};
-ghost use Rattle.section_map.specs.Geometry.{IsRegion};
+ghost use Rattle.link_endpoint.specs.Engine.{delivered};
 ghost use Rattle.frame_bridge.specs.Links as links;
-ghost use Rattle.frame_bridge.specs.Links.{link_config, opened, turned, observed_by, value_in, words_after, counted, starting};
-ghost use Rattle.frame_bridge.specs.Refinement.{shape, IsPlanOf, AutoEndRefines, RegionRefines, is_delivery, delivered_if};
+ghost use Rattle.frame_bridge.specs.Links.{link_config, opened, turned, observed_by, value_in, words_after, starting};
+ghost use Rattle.frame_bridge.specs.Refinement.{shape, AutoEndRefines, RegionRefines, is_delivery, delivered_if};
 
 use ivs_base::NoMemory;
-use link_endpoint::{Auto, Call, Choice, Endpoint};
+use link_endpoint::{Auto, AutoEndpoint, Endpoint};
 use section_map::{Geometry, Region};
 use split_ring::Queue;
 use split_ring::steps::{Access, Note};
@@ -23,13 +20,6 @@ const EXPECTED: u64 = u64::MAX;
 
 /// The vector of an end's doorbells.
 const TRAFFIC: u32 = 1;
-
-/// An end of a link and its automatic peer.
-#[derive(Debug, Drop)]
-pub struct AutoEnd {
-    pub end: Endpoint,
-    pub auto: Auto,
-}
 
 /// Performs an access. Returns the value of a read, or 0.
 fn perform(region: &mut Region, me: u32, access: Access) -> u32
@@ -57,38 +47,6 @@ fn perform(region: &mut Region, me: u32, access: Access) -> u32
     }
 }
 
-/// Counts one note in the automatic peer: a frame accepted or delivered.
-fn count_note(auto: &mut Auto, note: &Note)
-    ensures { (party : links.AutoEnd) (one other : List ℕ) → IsPlanOf auto.old party → IsPlanOf auto.new (counted party (mark_between one other note.now ∷ [])) }
-{
-    match note {
-        Note::Accept => {
-            if auto.head().is_some() {
-                auto.accepted();
-            }
-        }
-        Note::Deliver => auto.delivered(),
-        Note::Saw(_)
-        | Note::Reclaim(_)
-        | Note::Full
-        | Note::Look(_)
-        | Note::Return
-        | Note::Done
-        | Note::Down
-        | Note::Refuse(_)
-        | Note::Over => {}
-    }
-}
-
-/// Counts the notes in the automatic peer: the frames accepted and delivered.
-fn count_notes(auto: &mut Auto, notes: &[Note])
-    ensures { (party : links.AutoEnd) (one other : List ℕ) → IsPlanOf auto.old party → IsPlanOf auto.new (counted party (marks_between one other notes.now)) }
-{
-    for note in notes {
-        count_note(auto, note);
-    }
-}
-
 /// Whether the notes deliver a frame.
 fn delivers(notes: &[Note]) -> bool
     ensures { result ≡ list_any is_delivery notes.now }
@@ -96,66 +54,53 @@ fn delivers(notes: &[Note]) -> bool
     notes.iter().any(|note| matches!(note, Note::Deliver))
 }
 
-impl AutoEnd {
-    /// Returns the initial end `me` of a link of this geometry and queue, without frames to send.
-    pub fn new(
-        alloc: Global,
-        me: u32,
-        geometry: &Geometry,
-        queue: &Queue,
-    ) -> Result<AutoEnd, NoMemory>
-        requires me { me < 2 }
-        requires geometry { geometry.now ≡ shape }
-        requires queue { queue.now ≡ link_config.sizes }
-        ensures { IfOk result (λ party. AutoEndRefines me (starting []) party) }
-    {
-        Ok(AutoEnd {
-            end: Endpoint::new(alloc, me, geometry, queue, TRAFFIC)?,
-            auto: Auto::new(alloc, EXPECTED),
-        })
-    }
+/// Returns the initial end `me` of a link of this geometry and queue, without frames to send.
+pub fn initial_end(
+    alloc: Global,
+    me: u32,
+    geometry: &Geometry,
+    queue: &Queue,
+) -> Result<AutoEndpoint, NoMemory>
+    requires me { me < 2 }
+    requires geometry { geometry.now ≡ shape }
+    requires queue { queue.now ≡ link_config.sizes }
+    ensures { IfOk result (λ party. AutoEndRefines me (starting []) party) }
+{
+    Ok(AutoEndpoint {
+        end: Endpoint::new(alloc, me, geometry, queue, TRAFFIC)?,
+        auto: Auto::new(alloc, EXPECTED),
+    })
+}
 
-    /// Opens the next call, if no call is open.
-    fn open(&mut self, me: u32)
-        requires refines { (party : links.AutoEnd) × AutoEndRefines me party self.old × All (IsOffered link_config) party.frames }
-        ensures { (party : links.AutoEnd) → AutoEndRefines me party self.old → AutoEndRefines me (opened (config_of link_config me) party) self.new }
-    {
-        if self.end.busy() {
-            return;
-        }
-        match self.auto.choose(self.end.phase()) {
-            Choice::Tick => self.end.begin(Call::Tick),
-            Choice::Poll => self.end.begin(Call::Poll),
-            Choice::Offer => match self.auto.head() {
-                Some(frame) => self.end.offer(frame),
-                None => unreachable!(),
-            },
-            Choice::Finished => {}
-        }
-    }
+/// Opens the next call, if no call is open.
+fn open_next(party: &mut AutoEndpoint, me: u32)
+    requires refines { (is : links.AutoEnd) × AutoEndRefines me is party.old × All (IsOffered link_config) is.frames }
+    ensures { (is : links.AutoEnd) → AutoEndRefines me is party.old → AutoEndRefines me (opened (config_of link_config me) is) party.new }
+{
+    let choice = party.choose();
+    party.open(choice);
+}
 
-    /// Takes a turn: the next step of the open call, or the first step of the call that the end
-    /// chooses. Returns whether the step delivers a frame.
-    pub fn take_turn(&mut self, region: &mut Region, me: u32) -> bool
-        requires me { me < 2 }
-        requires shape { region.old.shape ≡ shape }
-        requires refines { (party : links.AutoEnd) × AutoEndRefines me party self.old × All (IsOffered link_config) party.frames }
-        ensures party { (link : links.Link) → AutoEndRefines me (link.parties me) self.old → RegionRefines link.memory region.old →
-            AutoEndRefines me ((turned me link).parties me) self.new }
-        ensures words { (link : links.Link) → AutoEndRefines me (link.parties me) self.old → RegionRefines link.memory region.old →
-            RegionRefines (turned me link).memory region.new }
-        ensures told { (link : links.Link) → AutoEndRefines me (link.parties me) self.old → RegionRefines link.memory region.old →
-            observed_by me link ≡ delivered_if result (delivered self.new.end) }
-        ensures shape { region.new.shape ≡ shape }
-    {
-        self.open(me);
-        if !self.end.busy() {
-            return false;
-        }
-        let access = self.end.next();
-        let value = perform(region, me, access);
-        let notes = self.end.took(value);
-        count_notes(&mut self.auto, notes.as_slice());
-        delivers(notes.as_slice())
+/// Takes a turn: the next step of the open call, or the first step of the call that the end
+/// chooses. Returns whether the step delivers a frame.
+pub fn take_turn(party: &mut AutoEndpoint, region: &mut Region, me: u32) -> bool
+    requires me { me < 2 }
+    requires shape { region.old.shape ≡ shape }
+    requires refines { (is : links.AutoEnd) × AutoEndRefines me is party.old × All (IsOffered link_config) is.frames }
+    ensures party { (link : links.Link) → AutoEndRefines me (link.parties me) party.old → RegionRefines link.memory region.old →
+        AutoEndRefines me ((turned me link).parties me) party.new }
+    ensures words { (link : links.Link) → AutoEndRefines me (link.parties me) party.old → RegionRefines link.memory region.old →
+        RegionRefines (turned me link).memory region.new }
+    ensures told { (link : links.Link) → AutoEndRefines me (link.parties me) party.old → RegionRefines link.memory region.old →
+        observed_by me link ≡ delivered_if result (delivered party.new.end) }
+    ensures shape { region.new.shape ≡ shape }
+{
+    open_next(party, me);
+    if !party.end.busy() {
+        return false;
     }
+    let access = party.end.next();
+    let value = perform(region, me, access);
+    let notes = party.took(value);
+    delivers(notes.as_slice())
 }

@@ -6,9 +6,10 @@ ghost use Rattle.frame_bridge.specs.Links as links;
 ghost use Rattle.frame_bridge.specs.Links.{link_config, turned, observed_by};
 ghost use Rattle.frame_bridge.specs.Refinement.{shape, PortRefines, start_link, with_copy, delivered_if};
 
-use crate::auto_ends::AutoEnd;
+use crate::auto_ends::{initial_end, take_turn};
 use crate::output::{Line, put};
 use ivs_base::{Frame, NoMemory};
+use link_endpoint::AutoEndpoint;
 use section_map::{Geometry, Region};
 use split_ring::Queue;
 use std::alloc::Global;
@@ -18,8 +19,8 @@ use std::alloc::Global;
 #[derive(Debug, Drop)]
 pub struct Port {
     pub region: Region,
-    pub station: AutoEnd,
-    pub own: AutoEnd,
+    pub station: AutoEndpoint,
+    pub own: AutoEndpoint,
     pub outs: Vec<u8>,
     pub delivered: u64,
     pub forwarded: u64,
@@ -34,8 +35,8 @@ impl Port {
     {
         Ok(Port {
             region: Region::new(alloc, geometry)?,
-            station: AutoEnd::new(alloc, 0, geometry, queue)?,
-            own: AutoEnd::new(alloc, 1, geometry, queue)?,
+            station: initial_end(alloc, 0, geometry, queue)?,
+            own: initial_end(alloc, 1, geometry, queue)?,
             outs: Vec::new(alloc),
             delivered: 0,
             forwarded: 0,
@@ -56,7 +57,7 @@ impl Port {
         ensures { (link : links.Link) (forwarded : List (List ℕ)) → PortRefines link forwarded self.old →
             OnOk result (PortRefines (turned 0 link) forwarded self.new) }
     {
-        if self.station.take_turn(&mut self.region, 0) {
+        if take_turn(&mut self.station, &mut self.region, 0) {
             put(&mut self.outs, Line::Out, &[], self.station.end.delivered())?;
             self.delivered = self.delivered.saturating_add(1);
         }
@@ -70,7 +71,7 @@ impl Port {
         ensures told { (link : links.Link) (forwarded : List (List ℕ)) → PortRefines link forwarded self.old →
             observed_by 1 link ≡ delivered_if result (delivered self.new.own.end) }
     {
-        self.own.take_turn(&mut self.region, 1)
+        take_turn(&mut self.own, &mut self.region, 1)
     }
 
     /// Appends a frame that goes to this port to the frames of the bridge's end.

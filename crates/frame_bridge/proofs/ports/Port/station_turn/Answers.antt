@@ -8,14 +8,14 @@ use Rattle.frame_bridge.proofs.ports.Port.station_turn.Goals as goal
 
 pub returns-in_ok-put : goal.returns-in_ok-put
 returns-in_ok-put c = λ link forwarded refines.
-    station_told link forwarded c.args.self.now _ (delivered c.take_turn.new.self.end) refines (c.take_turn.ensures.words link refines.station refines.region)
+    station_told link forwarded c.args.self.now _ (delivered c.take_turn.new.party.end) refines (c.take_turn.ensures.words link refines.station refines.region)
     (c.take_turn.ensures.party link refines.station refines.region)
-    (c.take_turn.ensures.told link refines.station refines.region ∙ ap (λ b. delivered_if b (delivered c.take_turn.new.self.end)) c.if-take_turn.true)
+    (c.take_turn.ensures.told link refines.station refines.region ∙ ap (λ b. delivered_if b (delivered c.take_turn.new.party.end)) c.if-take_turn.true)
     refl (c.in_ok-put.ensures ∙ ap (λ (frame : List ℕ). c.args.self.now.outs.items ++ line_of_row pieces_of (out_row frame)) c.delivered.ensures) c.saturating_add-self.ensures refl
 
 pub returns-else-take_turn : goal.returns-else-take_turn
 returns-else-take_turn c = λ link forwarded refines.
-    station_quiet link forwarded c.args.self.now _ (delivered c.take_turn.new.self.end) refines (c.take_turn.ensures.words link refines.station refines.region)
+    station_quiet link forwarded c.args.self.now _ (delivered c.take_turn.new.party.end) refines (c.take_turn.ensures.words link refines.station refines.region)
     (c.take_turn.ensures.party link refines.station refines.region)
-    (c.take_turn.ensures.told link refines.station refines.region ∙ ap (λ b. delivered_if b (delivered c.take_turn.new.self.end)) c.if-take_turn.false)
+    (c.take_turn.ensures.told link refines.station refines.region ∙ ap (λ b. delivered_if b (delivered c.take_turn.new.party.end)) c.if-take_turn.false)
     refl refl refl refl

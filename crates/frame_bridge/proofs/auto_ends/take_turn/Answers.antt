@@ -5,34 +5,34 @@ use Rattle.link_invariant.specs.LinkConfig.{config_of}
 use Rattle.frame_bridge.specs.Links.{link_config, AutoEnd, Link, opened, value_in}
 use Rattle.frame_bridge.specs.Refinement.{AutoEndRefines, RegionRefines, is_delivery}
 use Rattle.frame_bridge.proofs.Turns.{Took, still, turned_closed, party_turned, told_turned, words_turned}
-use Rattle.frame_bridge.proofs.auto_ends.AutoEnd.take_turn.Goals as goal
+use Rattle.frame_bridge.proofs.auto_ends.take_turn.Goals as goal
 
 pub returns-then-not-busy-clause-party : goal.returns-then-not-busy-clause-party
 returns-then-not-busy-clause-party c = λ link refines region.
     let config = config_of link_config c.args.me in
     let party : AutoEnd = opened config (link.parties c.args.me) in
-    let next : AutoEndRefines c.args.me party c.open.new.self = c.open.ensures (link.parties c.args.me) refines in
+    let next : AutoEndRefines c.args.me party c.open_next.new.party = c.open_next.ensures (link.parties c.args.me) refines in
     let closed : is_open party.place ≡ false = sym (c.busy.ensures.open config party.end party.place next.end) ∙ c.if-not-busy.true in
-    subst (λ (p : AutoEnd). AutoEndRefines c.args.me p c.open.new.self)
+    subst (λ (p : AutoEnd). AutoEndRefines c.args.me p c.open_next.new.party)
     (still config (link.parties c.args.me) closed ∙ ap (λ (l : Link). l.parties c.args.me) (sym (turned_closed c.args.me link closed))) next
 
-taken : (c : goal.After-delivers) (link : Link) → AutoEndRefines c.args.me (link.parties c.args.me) c.args.self.now → RegionRefines link.memory c.args.region.now →
-    Took c.args.me link c.open.new.self c.perform-value.result c.took-notes.result.items (record { end = c.took-notes.new.self; auto = c.count_notes.new.auto })
+taken : (c : goal.After-delivers) (link : Link) → AutoEndRefines c.args.me (link.parties c.args.me) c.args.party.now → RegionRefines link.memory c.args.region.now →
+    Took c.args.me link c.open_next.new.party c.perform-value.result c.took-notes.result.items c.took-notes.new.self
 taken c link refines region =
     let config = config_of link_config c.args.me in
     let party : AutoEnd = opened config (link.parties c.args.me) in
-    let next : AutoEndRefines c.args.me party c.open.new.self = c.open.ensures (link.parties c.args.me) refines in
+    let next : AutoEndRefines c.args.me party c.open_next.new.party = c.open_next.ensures (link.parties c.args.me) refines in
     record {
       refines = next;
       opens = sym (c.busy.ensures.open config party.end party.place next.end) ∙ c.if-not-busy.false;
       takes = c.took-notes.ensures.steps;
       reads = c.perform-value.ensures.value link.memory region ∙ ap (value_in link.memory) (c.next-access.ensures.access config party.end party.place next.end);
-      counts = λ p one other is. rw c.as_slice.ensures.value at (c.count_notes.ensures p one other is);
+      counts = c.took-notes.ensures.counts;
     }
 
 pub returns-clause-party : goal.returns-clause-party
 returns-clause-party c = λ link refines region.
-    party_turned c.args.me link c.open.new.self c.perform-value.result c.took-notes.result.items (record { end = c.took-notes.new.self; auto = c.count_notes.new.auto }) (taken c link refines region)
+    party_turned c.args.me link c.open_next.new.party c.perform-value.result c.took-notes.result.items c.took-notes.new.self (taken c link refines region)
 
 pub returns-clause-words : goal.returns-clause-words
 returns-clause-words c = λ link refines region.
@@ -43,5 +43,5 @@ returns-clause-words c = λ link refines region.
 
 pub returns-clause-told : goal.returns-clause-told
 returns-clause-told c = λ link refines region.
-    told_turned c.args.me link c.open.new.self c.perform-value.result c.took-notes.result.items (record { end = c.took-notes.new.self; auto = c.count_notes.new.auto }) c.delivers.result
-    (taken c link refines region) (ap (list_any is_delivery) (sym c.as_slice-2.ensures.value) ∙ sym c.delivers.ensures)
+    told_turned c.args.me link c.open_next.new.party c.perform-value.result c.took-notes.result.items c.took-notes.new.self c.delivers.result
+    (taken c link refines region) (ap (list_any is_delivery) (sym c.as_slice.ensures.value) ∙ sym c.delivers.ensures)

@@ -13,10 +13,10 @@ _ivshm() {
   esac
 }
 
-_ivshm_explain() {
-  if [ "$COMP_CWORD" = 1 ]; then COMPREPLY=($(compgen -W sim -- "${COMP_WORDS[1]}")); fi
+_ivshm_chart() {
+  if [ "$COMP_CWORD" = 1 ]; then COMPREPLY=($(compgen -W --text -- "${COMP_WORDS[1]}")); fi
 }
 
 # a word after < or > is a file
-complete -o bashdefault -o default -F _ivshm ivshm ./ivshm tools/try
-complete -o bashdefault -o default -F _ivshm_explain ivshm_explain ./ivshm_explain
+complete -o bashdefault -o default -F _ivshm ivshm ./ivshm tools/try ivshm_explain ./ivshm_explain
+complete -o bashdefault -o default -F _ivshm_chart ivshm_chart ./ivshm_chart

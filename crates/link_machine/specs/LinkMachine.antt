@@ -7,7 +7,8 @@ use Rattle.split_ring.specs.declared.ranges.FieldName.TheVariants as field_name
 use Rattle.split_ring.specs.Layout.{Sizes, size_of, limit_of}
 use Rattle.split_ring.specs.Frames.{has_room}
 use Rattle.ivs_base.specs.Numbers.{distance}
-use Rattle.split_ring.specs.Spelling.{low_half, high_half, entry_half}
+use Rattle.split_ring.specs.declared.sizes.TheConstants.{FRAME_OVERHEAD, LONGEST_FRAME, SHORTEST_FRAME}
+use Rattle.split_ring.specs.Spelling.{high_half, entry_half, desc_flags}
 use Rattle.split_ring.specs.Ranges.{IsAvailIndex, IsAvailEntry, IsDescAddress, IsDescLength, IsDescFlags, IsUsedIndex, IsUsedId}
 use Rattle.call_grammar.specs.Steps.{Mark, Saw, Reclaim, Full, Accept, Look, Deliver, Return, Done, Down, Refuse, Over}
 use Rattle.call_grammar.specs.Words.{address_of, lengths_of}
@@ -82,7 +83,7 @@ MayLook sizes false side other count = count ≤ size_of sizes
 -- The next frame that an honest other accepted, or any Ethernet frame.
 abbrev pub MayDeliver : Bool → Side → Side → List ℕ → Type 0
 MayDeliver true side other frame = slice_get other.accepted (length side.delivered) ≡ Some frame
-MayDeliver false side other frame = (14 ≤ length frame) × (length frame ≤ 65553)
+MayDeliver false side other frame = (SHORTEST_FRAME ≤ length frame) × (length frame ≤ LONGEST_FRAME)
 
 -- The value is in the values that the side read last, and is outside the range of its field,
 -- relative to the side's own counts. For a field of an item, the values read before are the item's,
@@ -99,7 +100,7 @@ IsBeyond sizes side field_name.DescLength value =
     (word low high : ℕ) × (side.read ≡ word ∷ low ∷ high ∷ value ∷ []) × IsDescAddress sizes (address_of low high) ×
     (¬ IsDescLength sizes (address_of low high) value)
 IsBeyond sizes side field_name.DescFlags value =
-    (word low high bytes flags : ℕ) × (side.read ≡ word ∷ low ∷ high ∷ bytes ∷ flags ∷ []) × (value ≡ low_half flags) × (¬ IsDescFlags value)
+    (word low high bytes flags : ℕ) × (side.read ≡ word ∷ low ∷ high ∷ bytes ∷ flags ∷ []) × (value ≡ desc_flags flags) × (¬ IsDescFlags value)
 IsBeyond sizes side field_name.UsedIndex value =
     (word : ℕ) × (side.read ≡ word ∷ []) × (value ≡ high_half word) × (¬ IsUsedIndex (side.freed % 65536) value (length side.accepted - side.freed))
 IsBeyond sizes side field_name.UsedId value =
@@ -116,8 +117,8 @@ frame_fits sizes side frame = has_room sizes (lengths_of (side.accepted ++ frame
 -- that of each offer, by `frame_fits`.
 pub record IsFull (sizes : Sizes) (side : Side) : Type 0 where
   pub frame : List ℕ
-  pub least : 14 ≤ length frame
-  pub most : length frame ≤ sizes.mtu + 18
+  pub least : SHORTEST_FRAME ≤ length frame
+  pub most : length frame ≤ sizes.mtu + FRAME_OVERHEAD
   pub none : frame_fits sizes side frame ≡ false
   pub in_flight : length side.accepted ≤ side.freed + limit_of sizes
 

@@ -5,6 +5,7 @@ use native.Mathlib.Decide.{ℕ_discrete, dec_lt}
 use Rattle.std.specs.Prelude.{◌==◌, nat_lt, nat_le, ◌&&◌, if◌then◌else◌}
 use Rattle.std.proofs.lemmas.Bool.Decides.{nat_tests}
 use Rattle.std.proofs.Math.Nat.{mul-le-mul_left}
+use Rattle.split_ring.specs.declared.sizes.TheConstants.{FRAME_OVERHEAD}
 use Rattle.split_ring.specs.Layout.{Sizes, HasBounds, size_of, limit_of, data_area_start}
 use Rattle.split_ring.specs.Frames.{start_of}
 use Rattle.split_ring.proofs.Bounds.{bounds}
@@ -74,7 +75,7 @@ pub record IsGood (link_config : LinkConfig) (start bytes : ℕ) : Type 0 where
   pub inside : start + 4 * words_for bytes ≤ link_config.sizes.out
 
 -- Each frame of a session is in range.
-pub start_good : (link_config : LinkConfig) → IsLinkConfig link_config → (length_of : ℕ → ℕ) (k : ℕ) → length_of k ≤ link_config.sizes.mtu + 18 → IsGood link_config (start_of link_config.sizes length_of k) (length_of k)
+pub start_good : (link_config : LinkConfig) → IsLinkConfig link_config → (length_of : ℕ → ℕ) (k : ℕ) → length_of k ≤ link_config.sizes.mtu + FRAME_OVERHEAD → IsGood link_config (start_of link_config.sizes length_of k) (length_of k)
 start_good link_config is length_of k short =
     let placed = frames_lem.placed link_config.sizes length_of k is.queue in
     let holds = placed.holds short in

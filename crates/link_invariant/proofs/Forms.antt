@@ -1,6 +1,7 @@
 -- The proof obligations of a step for the invariant of one end.
 use Rattle.std.proofs.Common.{◌≡◌, ◌≢◌, ℕ, zero, ◌+◌, ◌*◌, ◌/◌, ◌%◌, ◌<◌, ◌≤◌, inl, inr, Bool, true, false, List, [], ◌∷◌, ◌++◌, length, refl, sym, ap, ◌∙◌, subst, arith}
 use Rattle.std.specs.Prelude.{◌==◌, if◌then◌else◌}
+use Rattle.split_ring.specs.declared.sizes.TheConstants.{FRAME_OVERHEAD}
 use Rattle.split_ring.specs.Layout.{size_of, limit_of}
 use Rattle.split_ring.specs.Frames.{footprint_of, start_of, AreApart}
 use Rattle.split_ring.proofs.Frames.{frames_lem}
@@ -104,7 +105,7 @@ long_of accepted pending number lengths = ap (λ (l : ℕ → ℕ). l pending.nu
 job_length : {link_config : LinkConfig} {field : Field → ℕ} {accepted : List (List ℕ)} {pending : PendingOffer} → IsNext link_config field accepted pending → pending.lengths pending.number ≡ length pending.frame
 job_length {link_config} {field} {accepted} {pending} next = long_of accepted pending next.number next.lengths
 
-pub job_good_at : (link_config : LinkConfig) → IsLinkConfig link_config → (accepted : List (List ℕ)) (pending : PendingOffer) → pending.number ≡ length accepted → pending.lengths ≡ lengths_of (accepted ++ pending.frame ∷ []) → length pending.frame ≤ link_config.sizes.mtu + 18 →
+pub job_good_at : (link_config : LinkConfig) → IsLinkConfig link_config → (accepted : List (List ℕ)) (pending : PendingOffer) → pending.number ≡ length accepted → pending.lengths ≡ lengths_of (accepted ++ pending.frame ∷ []) → length pending.frame ≤ link_config.sizes.mtu + FRAME_OVERHEAD →
     IsGood link_config (start_for link_config pending) (length pending.frame)
 job_good_at link_config is accepted pending number lengths most =
     let long : pending.lengths pending.number ≡ length pending.frame = long_of accepted pending number lengths in

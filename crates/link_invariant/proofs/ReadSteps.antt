@@ -1,23 +1,25 @@
 -- The reads of an offer and of a poll: the invariant of one end.
-use Rattle.std.proofs.Common.{◌≡◌, ℕ, zero, suc, ◌+◌, ◌-◌, ◌%◌, ◌<◌, ◌≤◌, Bool, true, false, List, [], ◌∷◌, ◌++◌, length, refl, sym, ap, ◌∙◌, subst, arith, ne_eqb, length-append}
-use Rattle.std.specs.Prelude.{◌==◌, nat_le, if◌then◌else◌}
+use Rattle.std.proofs.Common.{◌≡◌, ℕ, zero, suc, ◌+◌, ◌-◌, ◌%◌, ◌≤◌, Bool, true, false, List, [], ◌∷◌, ◌++◌, length, refl, sym, ap, ◌∙◌, subst, arith, ne_eqb, length-append}
+use Rattle.std.specs.Prelude.{◌==◌, if◌then◌else◌}
 use Rattle.std.proofs.lemmas.Bool.Decides.{nat_tests}
-use Rattle.split_ring.specs.Layout.{Sizes, size_of, limit_of}
+use Rattle.split_ring.specs.declared.sizes.TheConstants.{SHORTEST_FRAME}
+use Rattle.split_ring.specs.Layout.{size_of, limit_of}
 use Rattle.split_ring.specs.Frames.{has_room}
-use Rattle.split_ring.specs.Ranges.{IsDescAddress, IsDescLength}
+use Rattle.split_ring.specs.Ranges.{is_avail_entry, is_desc_address, is_desc_length, is_desc_flags, is_used_id, is_avail_index, is_used_index}
 use Rattle.split_ring.specs.declared.ranges.FieldName.TheVariants as field_name
-use Rattle.split_ring.specs.Spelling.{low_half, high_half, entry_half}
+use Rattle.split_ring.specs.Spelling.{low_half, high_half, entry_half, desc_flags}
 use Rattle.link_handshake.specs.declared.Phase.TheVariants.{Run}
 use Rattle.call_grammar.specs.Steps.{Mark, Reclaim, Full, Look, Over, Deliver}
 use Rattle.call_grammar.specs.Ends.{End, with_marks, end_after}
 use Rattle.call_grammar.specs.Words.{words_for, frame_in, address_of}
 use Rattle.call_grammar.specs.Offers.{PendingOffer, frame_fits, refusal, full_marks, returned_by, reclaim_marks, descriptor_of, wants_doorbell}
-use Rattle.call_grammar.specs.Polls.{is_entry, is_address, is_length, published_by, look_marks}
+use Rattle.call_grammar.specs.Polls.{published_by, look_marks}
 use Rattle.call_grammar.specs.Places.{Place, Closed, Refusing, ReadingUsedIndex, ReadingUsedId, ReadingAvailEvent, RingingOffer, ReadingAvailIndex, ReadingAvailEntry, ReadingDescAddressLow, ReadingDescAddressHigh, ReadingDescLength, ReadingDescFlags, ReadingFrameWord, fill_place, ids_place, none_place, items_place, words_place, next_place, step_at}
 use Rattle.call_grammar.proofs.OfferLists.{no}
 use Rattle.link_invariant.specs.LinkConfig.{LinkConfig, config_of, fields}
 use Rattle.link_invariant.specs.EndInvariant.{IsNext, Filled, PlaceInvariant, counts, EndInvariant}
 use Rattle.link_invariant.proofs.Forms.{by_test, run_ready, opened, free, moves, refuses}
+use Rattle.split_ring.proofs.Tests.{entry_tells, address_tells, length_tells}
 
 -- The invariant of an end at the place after its step.
 abbrev pub StepsTo : LinkConfig → ℕ → (ℕ → ℕ) → End → Place → ℕ → Type 0
@@ -74,7 +76,7 @@ none_holds link_config memory p end taken false run is = ((run, is), refl)
 module _ (link_config : LinkConfig) (p : ℕ) (memory : ℕ → ℕ) (end : End) where
   pub reads_used_index : (pending : PendingOffer) (freed value : ℕ) → EndInvariant link_config memory p end (ReadingUsedIndex pending freed) → StepsTo link_config p memory end (ReadingUsedIndex pending freed) value
   reads_used_index pending freed value a = let h = a.holds in let run = h.0 in let d = returned_by freed value in
-      by_test (λ m x. EndInvariant link_config memory p (with_marks end m) x) (nat_le d (pending.number - freed)) (reclaim_marks (config_of link_config p) pending freed d) (refusal field_name.UsedIndex (high_half value)) (ids_place (config_of link_config p) pending freed d) Refusing
+      by_test (λ m x. EndInvariant link_config memory p (with_marks end m) x) (is_used_index (freed % 65536) (high_half value) (pending.number - freed)) (reclaim_marks (config_of link_config p) pending freed d) (refusal field_name.UsedIndex (high_half value)) (ids_place (config_of link_config p) pending freed d) Refusing
       (λ test. let within : d ≤ pending.number - freed = grind (arith, nat_tests) in let number = h.1.number in let same = h.2 in let f = a.freed in let room = a.room in
       let now : End = record end { freed = end.freed + d } in
       let x = ids_holds link_config memory p now pending freed d run h.1 (omega arith) (omega arith) in
@@ -93,7 +95,7 @@ module _ (link_config : LinkConfig) (p : ℕ) (memory : ℕ → ℕ) (end : End)
 
   pub reads_id : (pending : PendingOffer) (freed more value : ℕ) → EndInvariant link_config memory p end (ReadingUsedId pending freed more) → StepsTo link_config p memory end (ReadingUsedId pending freed more) value
   reads_id pending freed more value a = let h = a.holds in
-      by_test (λ m x. EndInvariant link_config memory p (with_marks end m) x) (value == descriptor_of (config_of link_config p) freed) (if more == 0 then full_marks (config_of link_config p) pending (freed + 1) else []) (refusal field_name.UsedId value) (ids_place (config_of link_config p) pending (freed + 1) more) Refusing
+      by_test (λ m x. EndInvariant link_config memory p (with_marks end m) x) (is_used_id (descriptor_of (config_of link_config p) freed) value) (if more == 0 then full_marks (config_of link_config p) pending (freed + 1) else []) (refusal field_name.UsedId value) (ids_place (config_of link_config p) pending (freed + 1) more) Refusing
       (λ test. let all = h.2 in let room = h.3 in let x = ids_holds link_config memory p end pending (freed + 1) more h.0 h.1 (omega arith) (omega arith) in
       subst (λ (e : End). EndInvariant link_config memory p e (ids_place (config_of link_config p) pending (freed + 1) more)) (sym (ids_quiet end (more == 0) (frame_fits (config_of link_config p) pending (freed + 1)))) (moves _ x.0 x.1 a.rests a))
       (λ test. refuses h.0 refl a)
@@ -106,7 +108,7 @@ module _ (link_config : LinkConfig) (p : ℕ) (memory : ℕ → ℕ) (end : End)
 
   pub reads_avail_index : (taken : ℕ) (last : Bool) (value : ℕ) → EndInvariant link_config memory p end (ReadingAvailIndex taken last) → StepsTo link_config p memory end (ReadingAvailIndex taken last) value
   reads_avail_index taken last value a = let h = a.holds in let d = published_by taken value in let now : End = record end { found_none = d == 0 } in let b = look_alone (d == 0) a in
-      by_test (λ m x. EndInvariant link_config memory p (with_marks end m) x) (nat_le d (size_of link_config.sizes)) (look_marks last d) (refusal field_name.AvailIndex (high_half value)) (if d == 0 then none_place taken last else items_place taken d) Refusing
+      by_test (λ m x. EndInvariant link_config memory p (with_marks end m) x) (is_avail_index link_config.sizes (taken % 65536) (high_half value)) (look_marks last d) (refusal field_name.AvailIndex (high_half value)) (if d == 0 then none_place taken last else items_place taken d) Refusing
       (λ test. subst (λ (e : End). EndInvariant link_config memory p e (if d == 0 then none_place taken last else items_place taken d)) (sym (looked end last d))
       (by_test (λ m x. EndInvariant link_config memory p now x) (d == 0) [] [] (none_place taken last) (items_place taken d)
       (λ t. let x = none_holds link_config memory p now taken last h.0 h.1 in moves _ x.0 x.1 b.rests b)
@@ -115,42 +117,33 @@ module _ (link_config : LinkConfig) (p : ℕ) (memory : ℕ → ℕ) (end : End)
 
   pub reads_entry : (number more value : ℕ) → EndInvariant link_config memory p end (ReadingAvailEntry number more) → StepsTo link_config p memory end (ReadingAvailEntry number more) value
   reads_entry number more value a = let h = a.holds in let e = entry_half (number % size_of link_config.sizes) value in
-      by_test (λ m x. EndInvariant link_config memory p (with_marks end m) x) (is_entry link_config.sizes e) [] (refusal field_name.AvailEntry e) (ReadingDescAddressLow number more e) Refusing
+      by_test (λ m x. EndInvariant link_config memory p (with_marks end m) x) (is_avail_entry link_config.sizes e) [] (refusal field_name.AvailEntry e) (ReadingDescAddressLow number more e) Refusing
       (λ test. moves (ReadingDescAddressLow number more e) (h.0, h.1, entry_tells link_config.sizes e test, h.2) refl a.rests a)
       (λ test. refuses h.0 refl a)
-    where
-      entry_tells : (q : Sizes) (e : ℕ) → is_entry q e ≡ true → e < size_of q
-      entry_tells q e test = grind (arith, nat_tests)
 
   pub reads_low : (number more entry value : ℕ) → EndInvariant link_config memory p end (ReadingDescAddressLow number more entry) → StepsTo link_config p memory end (ReadingDescAddressLow number more entry) value
   reads_low number more entry value a = moves (ReadingDescAddressHigh number more entry value) a.holds refl a.rests a
 
   pub reads_high : (number more entry low value : ℕ) → EndInvariant link_config memory p end (ReadingDescAddressHigh number more entry low) → StepsTo link_config p memory end (ReadingDescAddressHigh number more entry low) value
   reads_high number more entry low value a = let h = a.holds in let address = address_of low value in
-      by_test (λ m x. EndInvariant link_config memory p (with_marks end m) x) (is_address link_config.sizes address) [] (refusal field_name.DescAddress address) (ReadingDescLength number more entry address) Refusing
+      by_test (λ m x. EndInvariant link_config memory p (with_marks end m) x) (is_desc_address link_config.sizes address) [] (refusal field_name.DescAddress address) (ReadingDescLength number more entry address) Refusing
       (λ test. moves (ReadingDescLength number more entry address) (h.0, h.1, h.2, address_tells link_config.sizes address test, h.3) refl a.rests a)
       (λ test. refuses h.0 refl a)
-    where
-      address_tells : (q : Sizes) (address : ℕ) → is_address q address ≡ true → IsDescAddress q address
-      address_tells q address test = (grind (arith, nat_tests), grind (arith, nat_tests), grind (arith, nat_tests))
 
   pub reads_length : (number more entry address value : ℕ) → EndInvariant link_config memory p end (ReadingDescLength number more entry address) → StepsTo link_config p memory end (ReadingDescLength number more entry address) value
   reads_length number more entry address value a = let h = a.holds in
-      by_test (λ m x. EndInvariant link_config memory p (with_marks end m) x) (is_length link_config.sizes address value) [] (refusal field_name.DescLength value) (ReadingDescFlags number more entry address value) Refusing
+      by_test (λ m x. EndInvariant link_config memory p (with_marks end m) x) (is_desc_length link_config.sizes address value) [] (refusal field_name.DescLength value) (ReadingDescFlags number more entry address value) Refusing
       (λ test. moves (ReadingDescFlags number more entry address value) (h.0, h.1, h.2, h.3, length_tells link_config.sizes address value test, h.4) refl a.rests a)
       (λ test. refuses h.0 refl a)
-    where
-      length_tells : (q : Sizes) (address bytes : ℕ) → is_length q address bytes ≡ true → IsDescLength q address bytes
-      length_tells q address bytes test = (grind (arith, nat_tests), grind (arith, nat_tests), grind (arith, nat_tests))
 
-  first_word : (number more entry address bytes count : ℕ) → 14 ≤ bytes → count ≡ words_for bytes → PlaceInvariant link_config memory p end (ReadingDescFlags number more entry address bytes) → EndInvariant link_config memory p end (ReadingDescFlags number more entry address bytes) →
+  first_word : (number more entry address bytes count : ℕ) → SHORTEST_FRAME ≤ bytes → count ≡ words_for bytes → PlaceInvariant link_config memory p end (ReadingDescFlags number more entry address bytes) → EndInvariant link_config memory p end (ReadingDescFlags number more entry address bytes) →
       EndInvariant link_config memory p end (words_place number more entry address bytes [] count)
   first_word number more entry address bytes zero some is h a = absurd (omega arith)
   first_word number more entry address bytes (suc words) some is h a = moves (ReadingFrameWord number more entry address bytes [] words) (h.0, h.1, h.2, h.3, h.4, omega arith, h.5) refl a.rests a
 
   pub reads_flags : (number more entry address bytes value : ℕ) → EndInvariant link_config memory p end (ReadingDescFlags number more entry address bytes) → StepsTo link_config p memory end (ReadingDescFlags number more entry address bytes) value
   reads_flags number more entry address bytes value a = let h = a.holds in
-      by_test (λ m x. EndInvariant link_config memory p (with_marks end m) x) (low_half value == 0) [] (refusal field_name.DescFlags (low_half value)) (words_place number more entry address bytes [] (words_for bytes)) Refusing
+      by_test (λ m x. EndInvariant link_config memory p (with_marks end m) x) (is_desc_flags (desc_flags value)) [] (refusal field_name.DescFlags (desc_flags value)) (words_place number more entry address bytes [] (words_for bytes)) Refusing
       (λ test. first_word number more entry address bytes (words_for bytes) h.4.0 refl h a)
       (λ test. refuses h.0 refl a)
 

@@ -10,9 +10,10 @@ use Rattle.split_ring.specs.declared.ranges.FieldName.TheVariants as field_name
 use Rattle.split_ring.specs.Layout.{has_events, size_of, limit_of, word_offset, AvailIndex, UsedIndex}
 use Rattle.split_ring.specs.Frames.{has_room}
 use Rattle.link_invariant.specs.Fields.{Field}
-use Rattle.split_ring.specs.Ranges.{IsDescAddress, IsDescLength}
+use Rattle.split_ring.specs.Ranges.{IsDescAddress, IsDescLength, is_avail_entry, is_desc_address, is_desc_length, is_desc_flags, is_avail_index, is_used_index}
 use Rattle.call_grammar.proofs.OfferLists.{no}
-use Rattle.split_ring.specs.Spelling.{high_half, low_half, entry_half}
+use Rattle.split_ring.specs.Spelling.{high_half, low_half, entry_half, desc_flags}
+use Rattle.split_ring.proofs.Tests.{address_denies, length_denies}
 use Rattle.link_handshake.specs.declared.Phase.{Phase}
 use Rattle.link_handshake.specs.declared.Phase.TheVariants.{Reset, Init, Ready, Run}
 use Rattle.link_handshake.specs.PhaseTable.{state_of}
@@ -21,11 +22,10 @@ use Rattle.call_grammar.specs.Steps.{Mark, Deliver, Over}
 use Rattle.call_grammar.specs.Ends.{End, with_marks, end_after}
 use Rattle.call_grammar.specs.Words.{words_for, lengths_of, frame_in, address_of}
 use Rattle.call_grammar.specs.Offers.{PendingOffer, refusal, full_marks, returned_by, reclaim_marks, wants_doorbell}
-use Rattle.call_grammar.specs.Polls.{is_entry, is_address, is_length, published_by, look_marks}
+use Rattle.call_grammar.specs.Polls.{published_by, look_marks}
 use Rattle.call_grammar.specs.Places.{Place, Closed, ReadingOtherState, Clearing, WritingState, Refusing, NotInRun, ReadingUsedIndex, ReadingUsedId, WritingFrameWord, WritingDescAddressLow, WritingDescAddressHigh, WritingDescLength, WritingDescFlags, WritingAvailEntry, WritingAvailIndex, ReadingAvailEvent, RingingOffer, ReadingAvailIndex, WritingAvailEvent, ReadingAvailEntry, ReadingDescAddressLow, ReadingDescAddressHigh, ReadingDescLength, ReadingDescFlags, ReadingFrameWord, WritingUsedId, WritingUsedLength, WritingUsedIndex, RingingPoll, ids_place, none_place, items_place, words_place, access_at, next_place, step_at, is_open}
 use Rattle.link_machine.specs.LinkMachine.{Side, Gave, Marked, IsBeyond, MayReclaim, MayLook, MayDeliver}
 use Rattle.call_grammar.proofs.Bounding.{frame_length}
-use Rattle.call_grammar.proofs.PollLists.{address_denies, length_denies}
 use Rattle.link_invariant.specs.LinkConfig.{LinkConfig, IsLinkConfig, section_of, config_of}
 use Rattle.link_invariant.specs.Steps.{ReadsMemory, MemoryAfter}
 use Rattle.link_invariant.proofs.StateRows.{Follows, Same, same_of, side_is, silent, heard, anew, same_heard, same_anew, wrote, hears, clear_call, saw, wrote_state}
@@ -84,7 +84,7 @@ module _ (link_config : LinkConfig) (is : IsLinkConfig link_config) (p : ℕ) (p
   reclaims : (pending : PendingOffer) (freed value : ℕ) → value ≡ memory (section_of link_config (1 - p) + word_offset link_config.sizes UsedIndex) → EndInvariant link_config memory p end (ReadingUsedIndex pending freed) → (theirs ≡ true → Other (ReadingUsedIndex pending freed)) → SideIs end (ReadingUsedIndex pending freed) side → Goes (ReadingUsedIndex pending freed) value
   reclaims pending freed value met a known si = let h = a.holds in let d = returned_by freed value in let run = in_run (ReadingUsedIndex pending freed) si h.0 in let number = h.1.number in let count = ap length si.accepted in let read = read_on [] value side.read si.call in
       let freed_is : side.freed ≡ freed = si.freed ∙ sym h.2 in
-      judged (ReadingUsedIndex pending freed) value (ids_place (config_of link_config p) pending freed d) (nat_le d (pending.number - freed)) (reclaim_marks (config_of link_config p) pending freed d) field_name.UsedIndex (high_half value) (calm (ReadingUsedIndex pending freed) value refl (λ e. cc) met refl a known) si h.0
+      judged (ReadingUsedIndex pending freed) value (ids_place (config_of link_config p) pending freed d) (is_used_index (freed % 65536) (high_half value) (pending.number - freed)) (reclaim_marks (config_of link_config p) pending freed d) field_name.UsedIndex (high_half value) (calm (ReadingUsedIndex pending freed) value refl (λ e. cc) met refl a known) si h.0
       (λ test. reclaim_rows link_config theirs other (heard side value) end (config_of link_config p) pending freed d (has_room link_config.sizes pending.lengths freed pending.number) refl (same_heard value (same_of si)) run (value, read, ap (λ k. (high_half value + 65536 - k % 65536) % 65536) (sym freed_is)) (may theirs known (grind (arith, nat_tests))) (next_of si.accepted h.1) (let room = a.room in let same = h.2 in omega arith) freed_is)
       (λ test. (value, read, refl, λ within. let beyond : pending.number - freed < d = grind (arith, nat_tests) in let near : d ≤ length side.accepted - side.freed = subst (λ k. (high_half value + 65536 - k % 65536) % 65536 ≤ length side.accepted - side.freed) freed_is within in omega arith))
     where
@@ -101,7 +101,7 @@ module _ (link_config : LinkConfig) (is : IsLinkConfig link_config) (p : ℕ) (p
   looks : (taken : ℕ) (last : Bool) (value : ℕ) → value ≡ memory (section_of link_config (1 - p) + word_offset link_config.sizes AvailIndex) → EndInvariant link_config memory p end (ReadingAvailIndex taken last) → (theirs ≡ true → Other (ReadingAvailIndex taken last)) → SideIs end (ReadingAvailIndex taken last) side → Goes (ReadingAvailIndex taken last) value
   looks taken last value met a known si = let h = a.holds in let d = published_by taken value in let run = in_run (ReadingAvailIndex taken last) si h.0 in let read = read_on [] value side.read si.call in
       let taken_is : length side.delivered ≡ taken = ap length si.delivered ∙ sym h.1 in
-      judged (ReadingAvailIndex taken last) value (if d == 0 then none_place taken last else items_place taken d) (nat_le d (size_of link_config.sizes)) (look_marks last d) field_name.AvailIndex (high_half value) (calm (ReadingAvailIndex taken last) value refl (λ e. cc) met refl a known) si h.0
+      judged (ReadingAvailIndex taken last) value (if d == 0 then none_place taken last else items_place taken d) (is_avail_index link_config.sizes (taken % 65536) (high_half value)) (look_marks last d) field_name.AvailIndex (high_half value) (calm (ReadingAvailIndex taken last) value refl (λ e. cc) met refl a known) si h.0
       (λ test. look_rows link_config theirs other (heard side value) end taken last d (same_heard value (same_of si)) run (value, read, ap (λ k. (high_half value + 65536 - k % 65536) % 65536) (sym taken_is)) (may theirs known (grind (arith, nat_tests))))
       (λ test. (value, read, refl, λ within. let beyond : size_of link_config.sizes < d = grind (arith, nat_tests) in let near : d ≤ size_of link_config.sizes = subst (λ k. (high_half value + 65536 - k % 65536) % 65536 ≤ size_of link_config.sizes) taken_is within in omega arith))
     where
@@ -112,25 +112,25 @@ module _ (link_config : LinkConfig) (is : IsLinkConfig link_config) (p : ℕ) (p
   enters : (number more value : ℕ) → ReadsMemory memory (access_at (config_of link_config p) (ReadingAvailEntry number more)) value → EndInvariant link_config memory p end (ReadingAvailEntry number more) → (theirs ≡ true → Other (ReadingAvailEntry number more)) → SideIs end (ReadingAvailEntry number more) side → Goes (ReadingAvailEntry number more) value
   enters number more value met a known si = let e = entry_half (number % size_of link_config.sizes) value in let read = read_on [] value side.read si.call.1 in
       let number_is : number ≡ length side.delivered = a.holds.1 ∙ sym (ap length si.delivered) in
-      judged (ReadingAvailEntry number more) value (ReadingDescAddressLow number more e) (is_entry link_config.sizes e) [] field_name.AvailEntry e (calm (ReadingAvailEntry number more) value refl (λ e. cc) met refl a known) si a.holds.0
+      judged (ReadingAvailEntry number more) value (ReadingDescAddressLow number more e) (is_avail_entry link_config.sizes e) [] field_name.AvailEntry e (calm (ReadingAvailEntry number more) value refl (λ e. cc) met refl a known) si a.holds.0
       (λ test. silent link_config theirs other (heard side value) (same_heard value (same_of si)) (si.call.0, (value, read)))
       (λ test. (value, read, ap (λ k. entry_half (k % size_of link_config.sizes) value) number_is, entry_beyond (size_of link_config.sizes) e test))
 
   addresses : (number more e lo value : ℕ) → ReadsMemory memory (access_at (config_of link_config p) (ReadingDescAddressHigh number more e lo)) value → EndInvariant link_config memory p end (ReadingDescAddressHigh number more e lo) → (theirs ≡ true → Other (ReadingDescAddressHigh number more e lo)) → SideIs end (ReadingDescAddressHigh number more e lo) side → Goes (ReadingDescAddressHigh number more e lo) value
   addresses number more e lo value met a known si = let x = address_of lo value in let word = si.call.1.0 in let read = read_on (word ∷ lo ∷ []) value side.read si.call.1.1 in
-      judged (ReadingDescAddressHigh number more e lo) value (ReadingDescLength number more e x) (is_address link_config.sizes x) [] field_name.DescAddress x (calm (ReadingDescAddressHigh number more e lo) value refl (λ e. cc) met refl a known) si a.holds.0
+      judged (ReadingDescAddressHigh number more e lo) value (ReadingDescLength number more e x) (is_desc_address link_config.sizes x) [] field_name.DescAddress x (calm (ReadingDescAddressHigh number more e lo) value refl (λ e. cc) met refl a known) si a.holds.0
       (λ test. silent link_config theirs other (heard side value) (same_heard value (same_of si)) (si.call.0, (word, lo, value, read, refl)))
       (λ test. (word, lo, value, read, refl, address_denies link_config.sizes x test))
 
   measures : (number more e x value : ℕ) → ReadsMemory memory (access_at (config_of link_config p) (ReadingDescLength number more e x)) value → EndInvariant link_config memory p end (ReadingDescLength number more e x) → (theirs ≡ true → Other (ReadingDescLength number more e x)) → SideIs end (ReadingDescLength number more e x) side → Goes (ReadingDescLength number more e x) value
   measures number more e x value met a known si = let c = si.call.1 in let read = read_on (c.0 ∷ c.1 ∷ c.2 ∷ []) value side.read c.3 in
-      judged (ReadingDescLength number more e x) value (ReadingDescFlags number more e x value) (is_length link_config.sizes x value) [] field_name.DescLength value (calm (ReadingDescLength number more e x) value refl (λ e. cc) met refl a known) si a.holds.0
+      judged (ReadingDescLength number more e x) value (ReadingDescFlags number more e x value) (is_desc_length link_config.sizes x value) [] field_name.DescLength value (calm (ReadingDescLength number more e x) value refl (λ e. cc) met refl a known) si a.holds.0
       (λ test. silent link_config theirs other (heard side value) (same_heard value (same_of si)) (si.call.0, (c.0, c.1, c.2, read)))
       (λ test. (c.0, c.1, c.2, read, subst (IsDescAddress link_config.sizes) c.4 a.holds.3, subst (λ k. ¬ IsDescLength link_config.sizes k value) c.4 (length_denies link_config.sizes x value test)))
 
   flags : (number more e x l value : ℕ) → ReadsMemory memory (access_at (config_of link_config p) (ReadingDescFlags number more e x l)) value → EndInvariant link_config memory p end (ReadingDescFlags number more e x l) → (theirs ≡ true → Other (ReadingDescFlags number more e x l)) → SideIs end (ReadingDescFlags number more e x l) side → Goes (ReadingDescFlags number more e x l) value
   flags number more e x l value met a known si = let c = si.call.1 in let read = read_on (c.0 ∷ c.1 ∷ c.2 ∷ l ∷ []) value side.read c.3 in let least = a.holds.4.0 in
-      judged (ReadingDescFlags number more e x l) value (words_place number more e x l [] (words_for l)) (low_half value == 0) [] field_name.DescFlags (low_half value) (calm (ReadingDescFlags number more e x l) value refl (λ e. cc) met refl a known) si a.holds.0
+      judged (ReadingDescFlags number more e x l) value (words_place number more e x l [] (words_for l)) (is_desc_flags (desc_flags value)) [] field_name.DescFlags (desc_flags value) (calm (ReadingDescFlags number more e x l) value refl (λ e. cc) met refl a known) si a.holds.0
       (λ test. silent link_config theirs other (heard side value) (same_heard value (same_of si)) (words_call end number more e x l (words_for l) (heard side value) (omega arith) si.call.0))
       (λ test. (c.0, c.1, c.2, l, value, read, refl, λ none. grind (arith, nat_tests)))
 

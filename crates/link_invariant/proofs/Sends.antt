@@ -1,11 +1,12 @@
 -- The steps of an offer, between two honest ends.
 use Rattle.std.proofs.Common.{◌≡◌, ◌≢◌, ℕ, zero, suc, ◌+◌, ◌-◌, ◌%◌, ◌≤◌, Bool, true, false, List, [], ◌∷◌, ◌++◌, length, refl, sym, ap, ◌∙◌, subst, arith, append_assoc, length-append}
-use Rattle.std.specs.Prelude.{◌==◌, nat_le, if◌then◌else◌}
+use Rattle.std.specs.Prelude.{◌==◌, if◌then◌else◌}
 use Rattle.std.proofs.lemmas.Bool.Decides.{nat_tests}
 use Rattle.std.proofs.lemmas.Nat.{mod_below}
 use Rattle.split_ring.specs.declared.ranges.FieldName.TheVariants as field_name
 use Rattle.split_ring.specs.Layout.{has_events, size_of, limit_of, word_offset, UsedIndex, UsedId}
 use Rattle.split_ring.specs.Spelling.{high_half}
+use Rattle.split_ring.specs.Ranges.{is_used_id, is_used_index}
 use Rattle.link_handshake.specs.declared.Phase.TheVariants.{Run}
 use Rattle.call_grammar.specs.Ends.{End, with_marks, end_after}
 use Rattle.call_grammar.specs.Words.{words_for}
@@ -65,7 +66,7 @@ module _ (link_config : LinkConfig) (is : IsLinkConfig link_config) (p : ℕ) (m
   pub sends_used_index : (pending : PendingOffer) (freed value : ℕ) → value ≡ memory (section_of link_config (1 - p) + word_offset link_config.sizes UsedIndex) → EndInvariant link_config memory p end (ReadingUsedIndex pending freed) → Facing link_config memory p end (ReadingUsedIndex pending freed) u w → Goes (ReadingUsedIndex pending freed) value
   sends_used_index pending freed value met a f = let h = a.holds in let l = f.sends in let d = returned_by freed value in let number = h.1.number in let same = h.2 in let r = l.returns in let v = l.delivers in let room = a.room in let b = numbers link_config is in let few = b.size_most in let lim = b.limit_most in
       let fact = returned_is pending freed value met a f in let exact = fact.0 in let most = fact.1 in
-      by_test (λ m x. Works link_config memory memory p u w (with_marks end m) x) (nat_le d (pending.number - freed)) (reclaim_marks (config_of link_config p) pending freed d) (refusal field_name.UsedIndex (high_half value)) (ids_place (config_of link_config p) pending freed d) Refusing
+      by_test (λ m x. Works link_config memory memory p u w (with_marks end m) x) (is_used_index (freed % 65536) (high_half value) (pending.number - freed)) (reclaim_marks (config_of link_config p) pending freed d) (refusal field_name.UsedIndex (high_half value)) (ids_place (config_of link_config p) pending freed d) Refusing
       (λ test. let x = ids_at link_config p (fields link_config memory p) u.accepted (end.freed + d) freed pending d (omega arith) in
       subst (λ (e : End). Works link_config memory memory p u w e (ids_place (config_of link_config p) pending freed d)) (sym (freed_by end d (full_marks (config_of link_config p) pending freed) (λ e. full_quiet e (frame_fits (config_of link_config p) pending freed)))) record {
         run = h.0;
@@ -79,7 +80,7 @@ module _ (link_config : LinkConfig) (is : IsLinkConfig link_config) (p : ℕ) (m
   pub sends_id : (pending : PendingOffer) (freed more value : ℕ) → value ≡ memory (section_of link_config (1 - p) + word_offset link_config.sizes (UsedId (freed % size_of link_config.sizes))) → EndInvariant link_config memory p end (ReadingUsedId pending freed more) → Facing link_config memory p end (ReadingUsedId pending freed more) u w → Goes (ReadingUsedId pending freed more) value
   sends_id pending freed more value met a f = let h = a.holds in let l = f.sends in let all = h.2 in let r = l.returns in let least = (numbers link_config is).size_least in let k = freed % size_of link_config.sizes in
       let good : value ≡ freed % limit_of link_config.sizes = field_read link_config memory (1 - p) (field.UsedId k) value (one_test _ _ (mod_below freed (size_of link_config.sizes) (omega arith))) met ∙ l.named freed (omega arith) (omega arith) in
-      by_test (λ m x. Works link_config memory memory p u w (with_marks end m) x) (value == descriptor_of (config_of link_config p) freed) (if more == 0 then full_marks (config_of link_config p) pending (freed + 1) else []) (refusal field_name.UsedId value) (ids_place (config_of link_config p) pending (freed + 1) more) Refusing
+      by_test (λ m x. Works link_config memory memory p u w (with_marks end m) x) (is_used_id (descriptor_of (config_of link_config p) freed) value) (if more == 0 then full_marks (config_of link_config p) pending (freed + 1) else []) (refusal field_name.UsedId value) (ids_place (config_of link_config p) pending (freed + 1) more) Refusing
       (λ test. let x = ids_at link_config p (fields link_config memory p) u.accepted end.freed (freed + 1) pending more (omega arith) in
       subst (λ (e : End). Works link_config memory memory p u w e (ids_place (config_of link_config p) pending (freed + 1) more)) (sym (ids_quiet end (more == 0) (frame_fits (config_of link_config p) pending (freed + 1)))) record {
         run = h.0;

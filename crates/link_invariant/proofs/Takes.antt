@@ -2,20 +2,21 @@
 use Rattle.std.proofs.Common.{◌≡◌, ℕ, zero, suc, ◌+◌, ◌-◌, ◌/◌, ◌%◌, ◌<◌, ◌≤◌, Bool, true, false, List, [], ◌∷◌, ◌++◌, length, refl, sym, ap, ◌∙◌, subst, arith, ne_eqb, append_assoc, length-append}
 use mathlib.Core.Logic.{dite}
 use native.Mathlib.Decide.{ℕ_discrete}
-use Rattle.std.specs.Prelude.{◌==◌, nat_le, if◌then◌else◌}
+use Rattle.std.specs.Prelude.{◌==◌, if◌then◌else◌}
 use Rattle.std.proofs.lemmas.Bool.Decides.{nat_tests}
 use Rattle.std.proofs.lemmas.Nat.{mod_below}
 use Rattle.std.proofs.Math.Seq.{get_or-append_seam}
+use Rattle.split_ring.specs.declared.sizes.TheConstants.{SHORTEST_FRAME}
 use Rattle.split_ring.specs.declared.ranges.FieldName.TheVariants as field_name
-use Rattle.split_ring.specs.Layout.{Sizes, size_of, limit_of, word_offset, DescAddress, DescLength, DescFlags, AvailIndex, AvailEntry}
-use Rattle.split_ring.specs.Ranges.{IsDescAddress, IsDescLength}
-use Rattle.split_ring.specs.Spelling.{high_half, low_half, entry_half}
+use Rattle.split_ring.specs.Layout.{size_of, limit_of, word_offset, DescAddress, DescLength, DescFlags, AvailIndex, AvailEntry}
+use Rattle.split_ring.specs.Ranges.{IsDescAddress, is_avail_entry, is_desc_address, is_desc_length, is_desc_flags, IsDescFlags, is_avail_index}
+use Rattle.split_ring.specs.Spelling.{high_half, entry_half, desc_flags}
 use Rattle.link_handshake.specs.declared.Phase.TheVariants.{Run}
 use Rattle.call_grammar.specs.Steps.{Mark, Deliver}
 use Rattle.call_grammar.specs.Ends.{End, with_marks, end_after}
 use Rattle.call_grammar.specs.Words.{words_for, lengths_of, frame_word, frame_in, address_of}
 use Rattle.call_grammar.specs.Offers.{refusal}
-use Rattle.call_grammar.specs.Polls.{is_entry, is_address, is_length, published_by, look_marks}
+use Rattle.call_grammar.specs.Polls.{published_by, look_marks}
 use Rattle.call_grammar.specs.Places.{Place, Refusing, ReadingAvailIndex, ReadingAvailEntry, ReadingDescAddressLow, ReadingDescAddressHigh, ReadingDescLength, ReadingDescFlags, ReadingFrameWord, WritingUsedId, WritingUsedLength, WritingUsedIndex, none_place, items_place, words_place, next_place, step_at}
 use Rattle.call_grammar.proofs.OfferLists.{no}
 use Rattle.link_invariant.specs.Fields.{Field, is_field, field_word, part_of}
@@ -28,19 +29,7 @@ use Rattle.link_invariant.proofs.Forms.{by_test, opened, Puts}
 use Rattle.link_invariant.proofs.ReadSteps.{looked}
 use Rattle.link_invariant.proofs.Frames.{frames_lem}
 use Rattle.link_invariant.proofs.PairForms.{Facing, IsCalm, Works, takes_on, room_at}
-
--- The tests of the values of an honest end.
-entry_denies : (q : Sizes) (e : ℕ) → is_entry q e ≡ false → e < size_of q → ⊥
-entry_denies q e test lt = grind (arith, nat_tests)
-
-address_denies : (q : Sizes) (a : ℕ) → is_address q a ≡ false → IsDescAddress q a → ⊥
-address_denies q a test h = let x = h.0 in let y = h.1 in let z = h.2 in grind (arith, nat_tests)
-
-length_denies : (q : Sizes) (a l : ℕ) → is_length q a l ≡ false → IsDescLength q a l → ⊥
-length_denies q a l test h = let x = h.0 in let y = h.1 in let z = h.2 in grind (arith, nat_tests)
-
-zero_denies : (n : ℕ) → (n == 0) ≡ false → n ≡ 0 → ⊥
-zero_denies n test e = grind (arith, nat_tests)
+use Rattle.split_ring.proofs.Tests.{entry_denies, address_denies, length_denies, flags_denies}
 
 next_frame : (frames done rest : List (List ℕ)) → frames ≡ done ++ rest → length done < length frames → (more : List (List ℕ)) × (frames ≡ (done ++ frame_at frames (length done) ∷ []) ++ more)
 next_frame frames done [] e lt = absurd (let h = ap length e in let k = length-append done [] in omega arith)
@@ -106,7 +95,7 @@ module _ (link_config : LinkConfig) (is : IsLinkConfig link_config) (p : ℕ) (m
   pub takes_avail_index : (taken : ℕ) (last : Bool) (value : ℕ) → value ≡ memory (section_of link_config (1 - p) + word_offset link_config.sizes AvailIndex) → EndInvariant link_config memory (1 - p) u w → EndInvariant link_config memory p end (ReadingAvailIndex taken last) → Facing link_config memory p end (ReadingAvailIndex taken last) u w → Goes (ReadingAvailIndex taken last) value
   takes_avail_index taken last value met b a f = let h = a.holds in let d = published_by taken value in let t = f.takes in let r = t.returns in let v = t.delivers in let room = b.room in let n = numbers link_config is in let few = n.limit_most in let most = n.size_most in let same = h.1 in
       let exact = published_is taken last value met b a f in
-      by_test (λ m x. Works link_config memory memory p u w (with_marks end m) x) (nat_le d (size_of link_config.sizes)) (look_marks last d) (refusal field_name.AvailIndex (high_half value)) (if d == 0 then none_place taken last else items_place taken d) Refusing
+      by_test (λ m x. Works link_config memory memory p u w (with_marks end m) x) (is_avail_index link_config.sizes (taken % 65536) (high_half value)) (look_marks last d) (refusal field_name.AvailIndex (high_half value)) (if d == 0 then none_place taken last else items_place taken d) Refusing
       (λ test. subst (λ (e : End). Works link_config memory memory p u w e (if d == 0 then none_place taken last else items_place taken d)) (sym (looked end last d))
       (same_works (d == 0) (by_test (λ m x. Works link_config memory memory p u w end x) (d == 0) [] [] (none_place taken last) (items_place taken d)
       (λ t. onward (ReadingAvailIndex taken last) (none_place taken last) h.0 (none_calm taken last) (none_freed end.freed taken last) (none_poll link_config (fields link_config memory p) u.accepted taken last) f)
@@ -116,7 +105,7 @@ module _ (link_config : LinkConfig) (is : IsLinkConfig link_config) (p : ℕ) (m
   pub takes_entry : (number more value : ℕ) → value ≡ memory (section_of link_config (1 - p) + word_offset link_config.sizes (AvailEntry (number % size_of link_config.sizes))) → EndInvariant link_config memory p end (ReadingAvailEntry number more) → Facing link_config memory p end (ReadingAvailEntry number more) u w → Goes (ReadingAvailEntry number more) value
   takes_entry number more value met a f = let h = a.holds in let up = f.takes.polls in let s = in_hand (ReadingAvailEntry number more) number more h.1 up f in let k = number % size_of link_config.sizes in let e = entry_half k value in let least = (numbers link_config is).size_least in
       let good : e ≡ number % limit_of link_config.sizes = read_of (field.AvailEntry k) value (one_test _ _ (mod_below number (size_of link_config.sizes) (omega arith))) met ∙ s.entry in
-      by_test (λ m x. Works link_config memory memory p u w (with_marks end m) x) (is_entry link_config.sizes e) [] (refusal field_name.AvailEntry e) (ReadingDescAddressLow number more e) Refusing
+      by_test (λ m x. Works link_config memory memory p u w (with_marks end m) x) (is_avail_entry link_config.sizes e) [] (refusal field_name.AvailEntry e) (ReadingDescAddressLow number more e) Refusing
       (λ test. onward (ReadingAvailEntry number more) (ReadingDescAddressLow number more e) h.0 tt refl (up, good) f)
       (λ test. absurd (entry_denies link_config.sizes e test (let low = low_entry number in omega arith)))
 
@@ -128,7 +117,7 @@ module _ (link_config : LinkConfig) (is : IsLinkConfig link_config) (p : ℕ) (m
   takes_high number more entry low value met a f = let h = a.holds in let q = f.takes.polls in let s = in_hand (ReadingDescAddressHigh number more entry low) number more h.1 q.0 f in let address = address_of low value in
       let none : value ≡ 0 = read_of (field.AddressHigh entry) value (one_test _ _ h.2) met ∙ (ap (λ k. fields link_config memory (1 - p) (field.AddressHigh k)) q.1 ∙ s.high) in
       let good : address ≡ start_in link_config u.accepted number = let l = q.2 in address_is low value _ l none in
-      by_test (λ m x. Works link_config memory memory p u w (with_marks end m) x) (is_address link_config.sizes address) [] (refusal field_name.DescAddress address) (ReadingDescLength number more entry address) Refusing
+      by_test (λ m x. Works link_config memory memory p u w (with_marks end m) x) (is_desc_address link_config.sizes address) [] (refusal field_name.DescAddress address) (ReadingDescLength number more entry address) Refusing
       (λ test. onward (ReadingDescAddressHigh number more entry low) (ReadingDescLength number more entry address) h.0 tt refl (q.0, q.1, good) f)
       (λ test. let some = s.offered.least in let fits = start_good link_config is (lengths_of u.accepted) number s.offered.most in let even = fits.even in let after = fits.after in let inside = fits.inside in
       absurd (address_denies link_config.sizes address test (subst (IsDescAddress link_config.sizes) (sym good) (omega arith, omega arith, omega arith))))
@@ -140,18 +129,18 @@ module _ (link_config : LinkConfig) (is : IsLinkConfig link_config) (p : ℕ) (m
   takes_length number more entry address value met a f = let h = a.holds in let q = f.takes.polls in let s = in_hand (ReadingDescLength number more entry address) number more h.1 q.0 f in
       let good : value ≡ length (frame_at u.accepted number) = read_of (field.DescLength entry) value (one_test _ _ h.2) met ∙ (ap (λ k. fields link_config memory (1 - p) (field.DescLength k)) q.1 ∙ s.size) in
       let fits = start_good link_config is (lengths_of u.accepted) number s.offered.most in let even = fits.even in let inside = fits.inside in let some = s.offered.least in let most = s.offered.most in let mtu = is.queue.mtu_most in let at = q.2 in
-      by_test (λ m x. Works link_config memory memory p u w (with_marks end m) x) (is_length link_config.sizes address value) [] (refusal field_name.DescLength value) (ReadingDescFlags number more entry address value) Refusing
+      by_test (λ m x. Works link_config memory memory p u w (with_marks end m) x) (is_desc_length link_config.sizes address value) [] (refusal field_name.DescLength value) (ReadingDescFlags number more entry address value) Refusing
       (λ test. onward (ReadingDescLength number more entry address) (ReadingDescFlags number more entry address value) h.0 tt refl (q.0, q.1, q.2, good) f)
       (λ test. absurd (length_denies link_config.sizes address value test (omega arith, omega arith, omega arith)))
 
   pub takes_flags : (number more entry address bytes value : ℕ) → value ≡ memory (section_of link_config (1 - p) + word_offset link_config.sizes (DescFlags entry)) → EndInvariant link_config memory p end (ReadingDescFlags number more entry address bytes) → Facing link_config memory p end (ReadingDescFlags number more entry address bytes) u w → Goes (ReadingDescFlags number more entry address bytes) value
   takes_flags number more entry address bytes value met a f = let h = a.holds in let q = f.takes.polls in let s = in_hand (ReadingDescFlags number more entry address bytes) number more h.1 q.0 f in
-      let good : low_half value ≡ 0 = read_of (field.DescFlags entry) value (one_test _ _ h.2) met ∙ (ap (λ k. fields link_config memory (1 - p) (field.DescFlags k)) q.1 ∙ s.flags) in
-      by_test (λ m x. Works link_config memory memory p u w (with_marks end m) x) (low_half value == 0) [] (refusal field_name.DescFlags (low_half value)) (words_place number more entry address bytes [] (words_for bytes)) Refusing
+      let good : IsDescFlags (desc_flags value) = read_of (field.DescFlags entry) value (one_test _ _ h.2) met ∙ (ap (λ k. fields link_config memory (1 - p) (field.DescFlags k)) q.1 ∙ s.flags) in
+      by_test (λ m x. Works link_config memory memory p u w (with_marks end m) x) (is_desc_flags (desc_flags value)) [] (refusal field_name.DescFlags (desc_flags value)) (words_place number more entry address bytes [] (words_for bytes)) Refusing
       (λ test. first (words_for bytes) refl h.4.0)
-      (λ test. absurd (zero_denies (low_half value) test good))
+      (λ test. absurd (flags_denies (desc_flags value) test good))
     where
-      first : (count : ℕ) → count ≡ words_for bytes → 14 ≤ bytes → Works link_config memory memory p u w end (words_place number more entry address bytes [] count)
+      first : (count : ℕ) → count ≡ words_for bytes → SHORTEST_FRAME ≤ bytes → Works link_config memory memory p u w end (words_place number more entry address bytes [] count)
       first zero e some = absurd (omega arith)
       first (suc words) e some = let q = f.takes.polls in onward (ReadingDescFlags number more entry address bytes) (ReadingFrameWord number more entry address bytes [] words) a.holds.0 tt refl (q.0, q.1, q.2, q.3, refl) f
 

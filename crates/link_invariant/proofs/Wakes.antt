@@ -2,13 +2,14 @@
 use Rattle.std.proofs.Common.{◌≡◌, ◌≢◌, ℕ, ◌+◌, ◌-◌, ◌%◌, ◌<◌, ◌≤◌, ◌⊎◌, inl, inr, Bool, true, false, List, [], ◌∷◌, ◌++◌, length, length-append, refl, sym, ap, ◌∙◌, subst, arith}
 use mathlib.Core.Logic.{dite}
 use native.Mathlib.Decide.{ℕ_discrete}
-use Rattle.std.specs.Prelude.{◌==◌, nat_le, if◌then◌else◌}
+use Rattle.std.specs.Prelude.{◌==◌, if◌then◌else◌}
 use Rattle.std.proofs.lemmas.Bool.Decides.{nat_tests}
 use Rattle.split_ring.specs.declared.steps.Access.{Access}
 use Rattle.split_ring.specs.declared.steps.Access.TheVariants as access
 use Rattle.split_ring.specs.declared.ranges.FieldName.TheVariants as field_name
-use Rattle.split_ring.specs.Layout.{has_events, size_of, word_offset, AvailEvent}
-use Rattle.split_ring.specs.Spelling.{low_half, high_half}
+use Rattle.split_ring.specs.Layout.{has_events, word_offset, AvailEvent}
+use Rattle.split_ring.specs.Spelling.{low_half, high_half, desc_flags}
+use Rattle.split_ring.specs.Ranges.{is_avail_entry, is_desc_address, is_desc_length, is_desc_flags, is_used_id, is_avail_index, is_used_index}
 use Rattle.link_handshake.specs.declared.Move.{Move}
 use Rattle.link_handshake.specs.declared.Move.TheVariants.{Stay, Set, ClearThenSet}
 use Rattle.link_handshake.specs.HandshakeState.{move_of}
@@ -17,7 +18,7 @@ use Rattle.call_grammar.specs.Ends.{End, with_access, with_mark, with_marks, end
 use Rattle.call_grammar.specs.Words.{address_of, frame_in}
 use Rattle.call_grammar.specs.Ticks.{EndConfig, tick_marks}
 use Rattle.call_grammar.specs.Offers.{PendingOffer, frame_fits, refusal, full_marks, returned_by, reclaim_marks, descriptor_of, wants_doorbell}
-use Rattle.call_grammar.specs.Polls.{is_entry, is_address, is_length, entry_in, published_by, look_marks}
+use Rattle.call_grammar.specs.Polls.{entry_in, published_by, look_marks}
 use Rattle.call_grammar.specs.Places.{Place, Closed, ReadingOtherState, Clearing, WritingState, Refusing, ReadingUsedIndex, ReadingUsedId, WritingFrameWord, WritingDescAddressLow, WritingDescAddressHigh, WritingDescLength, WritingDescFlags, WritingAvailEntry, WritingAvailIndex, ReadingAvailEvent, RingingOffer, ReadingAvailIndex, WritingAvailEvent, ReadingAvailEntry, ReadingDescAddressHigh, ReadingDescLength, ReadingDescFlags, ReadingFrameWord, WritingUsedId, WritingUsedLength, WritingUsedIndex, access_at, marks_at, next_place, step_at}
 use Rattle.link_invariant.specs.Fields.{Field}
 use Rattle.link_invariant.specs.Fields as field
@@ -64,15 +65,15 @@ look_none last count = by_bool (count == 0) (if last then Look 0 ∷ Done ∷ []
 
 pub marks_none : (config : EndConfig) (place : Place) (value : ℕ) → ((pending : PendingOffer) → place ≢ WritingAvailIndex pending) → AcceptsNone (marks_at config place value)
 marks_none config (ReadingOtherState handshake) value ne = tick_none value (move_of handshake value)
-marks_none config (ReadingUsedIndex pending freed) value ne = let d = returned_by freed value in by_bool (nat_le d (pending.number - freed)) (reclaim_marks config pending freed d) (refusal field_name.UsedIndex (high_half value)) (reclaim_none config pending freed d) tt
-marks_none config (ReadingUsedId pending freed more) value ne = by_bool (value == descriptor_of config freed) (if more == 0 then full_marks config pending (freed + 1) else []) (refusal field_name.UsedId value) (by_bool (more == 0) (full_marks config pending (freed + 1)) [] (full_none config pending (freed + 1)) tt) tt
+marks_none config (ReadingUsedIndex pending freed) value ne = let d = returned_by freed value in by_bool (is_used_index (freed % 65536) (high_half value) (pending.number - freed)) (reclaim_marks config pending freed d) (refusal field_name.UsedIndex (high_half value)) (reclaim_none config pending freed d) tt
+marks_none config (ReadingUsedId pending freed more) value ne = by_bool (is_used_id (descriptor_of config freed) value) (if more == 0 then full_marks config pending (freed + 1) else []) (refusal field_name.UsedId value) (by_bool (more == 0) (full_marks config pending (freed + 1)) [] (full_none config pending (freed + 1)) tt) tt
 marks_none config (WritingAvailIndex pending) value ne = absurd (ne pending refl)
 marks_none config (ReadingAvailEvent number) value ne = by_bool (wants_doorbell (low_half value) number) [] (Over ∷ []) tt tt
-marks_none config (ReadingAvailIndex taken last) value ne = let d = published_by taken value in by_bool (nat_le d (size_of config.sizes)) (look_marks last d) (refusal field_name.AvailIndex (high_half value)) (look_none last d) tt
-marks_none config (ReadingAvailEntry number more) value ne = let e = entry_in config number value in by_bool (is_entry config.sizes e) [] (refusal field_name.AvailEntry e) tt tt
-marks_none config (ReadingDescAddressHigh number more entry low) value ne = let x = address_of low value in by_bool (is_address config.sizes x) [] (refusal field_name.DescAddress x) tt tt
-marks_none config (ReadingDescLength number more entry address) value ne = by_bool (is_length config.sizes address value) [] (refusal field_name.DescLength value) tt tt
-marks_none config (ReadingDescFlags number more entry address bytes) value ne = by_bool (low_half value == 0) [] (refusal field_name.DescFlags (low_half value)) tt tt
+marks_none config (ReadingAvailIndex taken last) value ne = let d = published_by taken value in by_bool (is_avail_index config.sizes (taken % 65536) (high_half value)) (look_marks last d) (refusal field_name.AvailIndex (high_half value)) (look_none last d) tt
+marks_none config (ReadingAvailEntry number more) value ne = let e = entry_in config number value in by_bool (is_avail_entry config.sizes e) [] (refusal field_name.AvailEntry e) tt tt
+marks_none config (ReadingDescAddressHigh number more entry low) value ne = let x = address_of low value in by_bool (is_desc_address config.sizes x) [] (refusal field_name.DescAddress x) tt tt
+marks_none config (ReadingDescLength number more entry address) value ne = by_bool (is_desc_length config.sizes address value) [] (refusal field_name.DescLength value) tt tt
+marks_none config (ReadingDescFlags number more entry address bytes) value ne = by_bool (is_desc_flags (desc_flags value)) [] (refusal field_name.DescFlags (desc_flags value)) tt tt
 marks_none config (ReadingFrameWord number more entry address bytes read words) value ne = by_bool (words == 0) (Deliver (frame_in bytes (read ++ value ∷ [])) ∷ []) [] tt tt
 marks_none config place value ne = tt
 

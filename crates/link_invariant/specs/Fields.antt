@@ -4,7 +4,7 @@
 use Rattle.std.specs.Prelude.{ℕ, ◌+◌, ◌/◌, nat_lt, nat_le, Bool, true, ◌&&◌}
 use Rattle.split_ring.specs.Layout.{Sizes, size_of, data_area_start, word_offset, DescAddress, DescLength as LayoutDescLength, DescFlags as LayoutDescFlags, AvailIndex as LayoutAvailIndex, AvailEntry as LayoutAvailEntry, UsedId as LayoutUsedId, UsedLength as LayoutUsedLength, AvailEvent as LayoutAvailEvent}
 use Rattle.split_ring.specs.Layout as ring
-use Rattle.split_ring.specs.Spelling.{low_half, high_half, entry_half}
+use Rattle.split_ring.specs.Spelling.{low_half, high_half, entry_half, desc_flags}
 
 -- The two indices and avail_event. The available entry, and the id and the length of the used
 -- element, at a position of their ring. The parts of a descriptor, and the words of the data area,
@@ -57,5 +57,5 @@ part_of AvailIndex word = high_half word
 part_of UsedIndex word = high_half word
 part_of AvailEvent word = low_half word
 part_of (AvailEntry k) word = entry_half k word
-part_of (DescFlags i) word = low_half word
+part_of (DescFlags i) word = desc_flags word
 part_of field word = word

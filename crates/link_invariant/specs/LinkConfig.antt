@@ -1,6 +1,7 @@
 -- The configuration of a link: the places of the sections of its two ends, and the values of their
 -- fields.
 use Rattle.std.specs.Prelude.{ℕ, zero, suc, ◌≡◌, ◌+◌, ◌-◌, ◌*◌, ◌<◌, ◌≤◌, if◌then◌else◌, List, [], ◌∷◌, ◌++◌, length, All}
+use Rattle.split_ring.specs.declared.sizes.TheConstants.{FRAME_OVERHEAD, SHORTEST_FRAME}
 use Rattle.split_ring.specs.Layout.{Sizes, IsQueue}
 use Rattle.call_grammar.specs.Words.{frame_word}
 use Rattle.call_grammar.specs.Ticks.{EndConfig}
@@ -44,8 +45,8 @@ fields link_config memory p field = if is_field link_config.sizes field then par
 
 -- A frame that an end may offer: 14 to MTU + 18 bytes.
 pub record IsOffered (link_config : LinkConfig) (frame : List ℕ) : Type 0 where
-  pub least : 14 ≤ length frame
-  pub most : length frame ≤ link_config.sizes.mtu + 18
+  pub least : SHORTEST_FRAME ≤ length frame
+  pub most : length frame ≤ link_config.sizes.mtu + FRAME_OVERHEAD
   pub bytes : All (λ byte. byte < 256) frame
 
 -- A call that an end may make.

@@ -2,12 +2,13 @@
 use Rattle.std.proofs.Common.{◌≡◌, ◌≢◌, ℕ, zero, suc, ◌+◌, ◌-◌, ◌%◌, ◌<◌, ◌≤◌, ◌⊎◌, inl, inr, ⊎_elim, Bool, true, false, List, [], ◌∷◌, ◌++◌, length, map, refl, sym, ap, ◌∙◌, subst, arith}
 use mathlib.Core.Logic.{dite}
 use native.Mathlib.Decide.{ℕ_discrete}
-use Rattle.std.specs.Prelude.{◌==◌, nat_le, if◌then◌else◌, Option}
+use Rattle.std.specs.Prelude.{◌==◌, if◌then◌else◌, Option}
 use Rattle.std.specs.List.{AllByRecursion}
 use Rattle.split_ring.specs.declared.steps.Access.{Access}
 use Rattle.split_ring.specs.declared.steps.Access.TheVariants as access
 use Rattle.split_ring.specs.Layout.{Sizes, has_events, size_of, limit_of}
-use Rattle.split_ring.specs.Spelling.{low_half, entry_half}
+use Rattle.split_ring.specs.Spelling.{low_half, entry_half, high_half, desc_flags}
+use Rattle.split_ring.specs.Ranges.{is_avail_entry, is_desc_address, is_desc_length, is_avail_index, is_desc_flags, is_used_index, is_used_id}
 use Rattle.link_handshake.specs.declared.Phase.{Phase}
 use Rattle.link_handshake.specs.declared.Phase.TheVariants.{Reset, Init, Ready, Run}
 use Rattle.link_handshake.specs.declared.Move.TheVariants.{Stay}
@@ -20,7 +21,7 @@ use Rattle.call_grammar.specs.Rows.{MovesTo}
 use Rattle.call_grammar.specs.Calls.{Call, Tick, Stop, Offer, Poll, in_run, pending_of}
 use Rattle.call_grammar.specs.Ticks.{EndConfig}
 use Rattle.call_grammar.specs.Offers.{PendingOffer, frame_fits, descriptor_of, wants_doorbell, returned_by}
-use Rattle.call_grammar.specs.Polls.{is_entry, is_address, is_length, is_last, published_by}
+use Rattle.call_grammar.specs.Polls.{is_last, published_by}
 use Rattle.call_grammar.specs.Places.{Place, Closed, ReadingOtherState, Clearing, WritingState, Refusing, NotInRun, ReadingUsedIndex, ReadingUsedId, WritingFrameWord, WritingDescAddressLow, WritingDescAddressHigh, WritingDescLength, WritingDescFlags, WritingAvailEntry, WritingAvailIndex, ReadingAvailEvent, RingingOffer, ReadingAvailIndex, WritingAvailEvent, ReadingAvailEntry, ReadingDescAddressLow, ReadingDescAddressHigh, ReadingDescLength, ReadingDescFlags, ReadingFrameWord, WritingUsedId, WritingUsedLength, WritingUsedIndex, RingingPoll, clear_place, tick_place, fill_place, ids_place, none_place, items_place, words_place, first_place, access_at, next_place, step_at}
 use Rattle.link_machine.specs.LinkMachine.{Side, initial_side, SideEvent, Gave, Wrote, Marked, WasReset, MarkRow, Row, Log, no_sessions, log_after, MachineRuns}
 use Rattle.link_machine.specs.LinkMachine as machine
@@ -237,8 +238,8 @@ next_up link_config p memory end (Clearing at more state) value h tick = clear_u
 next_up link_config p memory end (WritingState state) value h tick = λ d. d
 next_up link_config p memory end Refusing value h tick = λ d. d
 next_up link_config p memory end NotInRun value h tick = λ d. d
-next_up link_config p memory end (ReadingUsedIndex pending freed) value h tick = test_up (nat_le (returned_by freed value) (pending.number - freed)) (ids_place (config_of link_config p) pending freed (returned_by freed value)) Refusing (ids_up (config_of link_config p) pending freed (returned_by freed value)) (λ d. d)
-next_up link_config p memory end (ReadingUsedId pending freed more) value h tick = test_up (value == descriptor_of (config_of link_config p) freed) (ids_place (config_of link_config p) pending (freed + 1) more) Refusing (ids_up (config_of link_config p) pending (freed + 1) more) (λ d. d)
+next_up link_config p memory end (ReadingUsedIndex pending freed) value h tick = test_up (is_used_index (freed % 65536) (high_half value) (pending.number - freed)) (ids_place (config_of link_config p) pending freed (returned_by freed value)) Refusing (ids_up (config_of link_config p) pending freed (returned_by freed value)) (λ d. d)
+next_up link_config p memory end (ReadingUsedId pending freed more) value h tick = test_up (is_used_id (descriptor_of (config_of link_config p) freed) value) (ids_place (config_of link_config p) pending (freed + 1) more) Refusing (ids_up (config_of link_config p) pending (freed + 1) more) (λ d. d)
 next_up link_config p memory end (WritingFrameWord pending at more) value h tick = fill_up pending (at + 1) more
 next_up link_config p memory end (WritingDescAddressLow pending) value h tick = λ d. d
 next_up link_config p memory end (WritingDescAddressHigh pending) value h tick = λ d. d
@@ -248,14 +249,14 @@ next_up link_config p memory end (WritingAvailEntry pending) value h tick = λ d
 next_up link_config p memory end (WritingAvailIndex pending) value h tick = test_up (has_events link_config.sizes) (ReadingAvailEvent pending.number) RingingOffer (λ d. d) (λ d. d)
 next_up link_config p memory end (ReadingAvailEvent number) value h tick = test_up (wants_doorbell (low_half value) number) RingingOffer Closed (λ d. d) (λ d. d)
 next_up link_config p memory end RingingOffer value h tick = λ d. d
-next_up link_config p memory end (ReadingAvailIndex taken last) value h tick = test_up (nat_le (published_by taken value) (size_of link_config.sizes)) (if published_by taken value == 0 then none_place taken last else items_place taken (published_by taken value)) Refusing
+next_up link_config p memory end (ReadingAvailIndex taken last) value h tick = test_up (is_avail_index link_config.sizes (taken % 65536) (high_half value)) (if published_by taken value == 0 then none_place taken last else items_place taken (published_by taken value)) Refusing
     (test_up (published_by taken value == 0) (none_place taken last) (items_place taken (published_by taken value)) (none_up taken last) (items_up taken (published_by taken value))) (λ d. d)
 next_up link_config p memory end (WritingAvailEvent taken) value h tick = λ d. d
-next_up link_config p memory end (ReadingAvailEntry number more) value h tick = let e = entry_half (number % size_of link_config.sizes) value in test_up (is_entry link_config.sizes e) (ReadingDescAddressLow number more e) Refusing (λ d. d) (λ d. d)
+next_up link_config p memory end (ReadingAvailEntry number more) value h tick = let e = entry_half (number % size_of link_config.sizes) value in test_up (is_avail_entry link_config.sizes e) (ReadingDescAddressLow number more e) Refusing (λ d. d) (λ d. d)
 next_up link_config p memory end (ReadingDescAddressLow number more entry) value h tick = λ d. d
-next_up link_config p memory end (ReadingDescAddressHigh number more entry low) value h tick = test_up (is_address link_config.sizes (address_of low value)) (ReadingDescLength number more entry (address_of low value)) Refusing (λ d. d) (λ d. d)
-next_up link_config p memory end (ReadingDescLength number more entry address) value h tick = test_up (is_length link_config.sizes address value) (ReadingDescFlags number more entry address value) Refusing (λ d. d) (λ d. d)
-next_up link_config p memory end (ReadingDescFlags number more entry address bytes) value h tick = test_up (low_half value == 0) (words_place number more entry address bytes [] (words_for bytes)) Refusing (words_up number more entry address bytes [] (words_for bytes)) (λ d. d)
+next_up link_config p memory end (ReadingDescAddressHigh number more entry low) value h tick = test_up (is_desc_address link_config.sizes (address_of low value)) (ReadingDescLength number more entry (address_of low value)) Refusing (λ d. d) (λ d. d)
+next_up link_config p memory end (ReadingDescLength number more entry address) value h tick = test_up (is_desc_length link_config.sizes address value) (ReadingDescFlags number more entry address value) Refusing (λ d. d) (λ d. d)
+next_up link_config p memory end (ReadingDescFlags number more entry address bytes) value h tick = test_up (is_desc_flags (desc_flags value)) (words_place number more entry address bytes [] (words_for bytes)) Refusing (words_up number more entry address bytes [] (words_for bytes)) (λ d. d)
 next_up link_config p memory end (ReadingFrameWord number more entry address bytes read words) value h tick = words_up number more entry address bytes (read ++ value ∷ []) words
 next_up link_config p memory end (WritingUsedId number more entry) value h tick = λ d. d
 next_up link_config p memory end (WritingUsedLength number more) value h tick = λ d. d

@@ -5,6 +5,7 @@ use mathlib.Core.Logic.{dite}
 use native.Mathlib.Decide.{ℕ_discrete}
 use Rattle.std.proofs.lemmas.Nat.{mod_below}
 use Rattle.std.proofs.lemmas.List.{get_or-set_same, get_or-set_other}
+use Rattle.split_ring.specs.declared.sizes.TheConstants.{FRAME_OVERHEAD, SHORTEST_FRAME}
 use Rattle.split_ring.specs.Layout.{IsQueue, limit_of}
 use Rattle.split_ring.specs.Frames.{start_of}
 use Rattle.split_ring.proofs.Bounds.{bounds}
@@ -28,7 +29,7 @@ told_flight t lengths length_of others freed sent same h = record {
 
 -- A frame is placed, and its length is stored.
 pub placed_flight : (t : Allocator) (lengths : List ℕ) (length_of : ℕ → ℕ) (freed sent bytes : ℕ) → IsQueue t.sizes → length lengths ≡ limit_of t.sizes → FlightRefinesSession t lengths length_of freed sent →
-    length_of sent ≡ bytes → 14 ≤ bytes → bytes ≤ t.sizes.mtu + 18 → has_room_in t bytes ≡ true → FlightRefinesSession (with_placed t bytes) (slice_set lengths t.next bytes) length_of freed (sent + 1)
+    length_of sent ≡ bytes → SHORTEST_FRAME ≤ bytes → bytes ≤ t.sizes.mtu + FRAME_OVERHEAD → has_room_in t bytes ≡ true → FlightRefinesSession (with_placed t bytes) (slice_set lengths t.next bytes) length_of freed (sent + 1)
 placed_flight t lengths length_of freed sent bytes queue sized h is least most room = record {
   refines = subst (λ n. RefinesSession (with_placed t n) length_of freed (sent + 1)) is
       (turns_lem.goes_on t length_of freed sent queue h.refines (omega (arith, is, least)) (omega (arith, is, most)) (subst (λ n. has_room_in t n ≡ true) (sym is) room));
@@ -87,7 +88,7 @@ next_is length_of sent bytes = ap (λ b. cond b bytes (length_of sent)) (eq-eqb 
 before_is : (length_of : ℕ → ℕ) (sent bytes k : ℕ) → k < sent → length_of k ≡ with_next length_of sent bytes k
 before_is length_of sent bytes k lt = sym (ap (λ b. cond b bytes (length_of k)) (ne_eqb k sent (λ e. omega arith)))
 
-pub flight_placed : (t : Allocator) (lengths : List ℕ) (bytes : ℕ) → IsQueue t.sizes → length lengths ≡ limit_of t.sizes → HasFlight t lengths → 14 ≤ bytes → bytes ≤ t.sizes.mtu + 18 → has_room_in t bytes ≡ true →
+pub flight_placed : (t : Allocator) (lengths : List ℕ) (bytes : ℕ) → IsQueue t.sizes → length lengths ≡ limit_of t.sizes → HasFlight t lengths → SHORTEST_FRAME ≤ bytes → bytes ≤ t.sizes.mtu + FRAME_OVERHEAD → has_room_in t bytes ≡ true →
     HasFlight (with_placed t bytes) (slice_set lengths t.next bytes)
 flight_placed t lengths bytes queue sized (length_of, freed, sent, h) least most room = (
   with_next length_of sent bytes,
@@ -98,7 +99,7 @@ flight_placed t lengths bytes queue sized (length_of, freed, sent, h) least most
 )
 
 -- The words of a placed frame are inside the section.
-pub slot_holds : (t : Allocator) (lengths : List ℕ) (bytes : ℕ) → IsQueue t.sizes → HasFlight t lengths → 14 ≤ bytes → bytes ≤ t.sizes.mtu + 18 → has_room_in t bytes ≡ true →
+pub slot_holds : (t : Allocator) (lengths : List ℕ) (bytes : ℕ) → IsQueue t.sizes → HasFlight t lengths → SHORTEST_FRAME ≤ bytes → bytes ≤ t.sizes.mtu + FRAME_OVERHEAD → has_room_in t bytes ≡ true →
     ((next_slot t bytes).address % 4 ≡ 0) × ((next_slot t bytes).address + 4 * words_for bytes ≤ t.sizes.out)
 slot_holds t lengths bytes queue (length_of, freed, sent, h) least most room =
     let now = with_next length_of sent bytes in

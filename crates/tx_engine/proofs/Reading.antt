@@ -1,13 +1,14 @@
 -- The sender after the read of the used index or of an id.
 use Rattle.std.proofs.Common.{◌≡◌, ℕ, zero, suc, ◌+◌, ◌-◌, ◌/◌, ◌%◌, ◌<◌, ◌≤◌, ◌==◌, true, false, if◌then◌else◌, Bool, List, [], ◌∷◌, ◌++◌, length, slice_index, slice_set, arith, refl, ap, sym, ◌∙◌, subst, eq-eqb, ne_eqb}
 use Rattle.ivs_base.specs.Numbers.{distance}
+use Rattle.split_ring.specs.declared.sizes.TheConstants.{FRAME_OVERHEAD, SHORTEST_FRAME}
 use Rattle.split_ring.specs.declared.ranges.FieldName.TheVariants.{UsedIndex, UsedId}
 use Rattle.split_ring.specs.declared.ranges.Refused.{Refused}
 use Rattle.split_ring.specs.declared.steps.Note.{Note}
 use Rattle.split_ring.specs.declared.steps.Note.TheVariants as note
 use Rattle.split_ring.specs.Layout.{IsQueue, limit_of}
 use Rattle.split_ring.specs.Frames.{start_of, has_room}
-use Rattle.split_ring.specs.Ranges.{IsUsedIndex, IsUsedId}
+use Rattle.split_ring.specs.Ranges.{IsUsedIndex, IsUsedId, is_used_id}
 use Rattle.split_ring.specs.Spelling.{high_half}
 use Rattle.call_grammar.specs.Steps.{Reclaim, Full, Refuse, marks_of}
 use Rattle.call_grammar.specs.Ends.{End, end_after, with_marks}
@@ -65,8 +66,8 @@ with_turn tx turn lengths place = record tx { next = turn.next; in_flight = turn
 pub record CanGoOn (tx : Sender) : Type 0 where
   pub queue : IsQueue tx.sizes
   pub lengths : length tx.lengths ≡ limit_of tx.sizes
-  pub least : 14 ≤ length tx.frame
-  pub most : length tx.frame ≤ tx.sizes.mtu + 18
+  pub least : SHORTEST_FRAME ≤ length tx.frame
+  pub most : length tx.frame ≤ tx.sizes.mtu + FRAME_OVERHEAD
 
 -- The slots also refine the session that the offered frame extends.
 with_frame : (tx : Sender) (config : EndConfig) (end : End) (freed : ℕ) → CountsMatch tx config end freed →
@@ -254,7 +255,7 @@ id_taken tx more id place turn lengths notes is can some here oldest on notes_ar
       copy = counts.copy;
     } in
     let found_one : end.freed ≡ freed + 1 + more = omega (arith, found) in
-    let test : (id == descriptor_of config freed) ≡ true = eq-eqb _ _ (oldest ∙ oldest_is tx config end freed is made counts) in
+    let test : (is_used_id (descriptor_of config freed) id) ≡ true = eq-eqb _ _ (oldest ∙ oldest_is tx config end freed is made counts) in
     let marks : marks_of tx.frame notes ≡ laws.marks_at config (laws.ReadingUsedId pending freed more) id =
     ap (marks_of tx.frame) notes_are ∙ (id_marked (freed_one tx) config end (freed + 1) more place turn lengths can_one made_one counts_one on
     ∙ sym (yes _ (if more == 0 then full_marks config pending (freed + 1) else []) (refusal UsedId id) test)) in
@@ -269,7 +270,7 @@ pub id_refused : (tx : Sender) (more id : ℕ) (refused : Refused) → IsSender 
     TakesStep tx id (note.Refuse refused ∷ []) (record tx { place = Refusing })
 id_refused tx more id refused is here other refused_is = takes tx (record tx { place = Refusing }) (ReadingUsedId more) id (note.Refuse refused ∷ []) here refl (λ config end at made (freed, same, found, counts).
     let pending = pending_of config end tx.frame in
-    let test : (id == descriptor_of config freed) ≡ false = ne_eqb _ _ (λ e. other (e ∙ sym (oldest_is tx config end freed is made counts))) in
+    let test : (is_used_id (descriptor_of config freed) id) ≡ false = ne_eqb _ _ (λ e. other (e ∙ sym (oldest_is tx config end freed is made counts))) in
     let marks : marks_of tx.frame (note.Refuse refused ∷ []) ≡ laws.marks_at config (laws.ReadingUsedId pending freed more) id =
     ap (λ (r : Refused). Refuse r ∷ []) refused_is ∙ sym (no _ (if more == 0 then full_marks config pending (freed + 1) else []) (refusal UsedId id) test) in
     subst (λ p. (marks_of tx.frame (note.Refuse refused ∷ []) ≡ laws.marks_at config p id) × (laws.next_place config p id ≡ laws.Refusing)) (sym same)

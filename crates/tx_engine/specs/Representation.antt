@@ -1,5 +1,6 @@
 -- The meaning of the fields of a sender.
 use Rattle.std.specs.Prelude.{◌≡◌, ◌+◌, ◌≤◌, take, vec_len}
+use Rattle.split_ring.specs.declared.sizes.TheConstants.{FRAME_OVERHEAD}
 use Rattle.tx_engine.specs.declared.tx.Tx.TheInside.{Inside}
 use Rattle.tx_engine.specs.Sender.{Sender, IsSender}
 
@@ -27,5 +28,5 @@ sender_of t = record {
 pub record IsWellFormed (t : Inside) : Type 0 where
   pub sender : IsSender (sender_of t)
   pub slots : t.slots.sizes ≡ t.queue
-  pub buffer : vec_len t.buffer ≡ t.queue.mtu + 18
-  pub length : t.length ≤ t.queue.mtu + 18
+  pub buffer : vec_len t.buffer ≡ t.queue.mtu + FRAME_OVERHEAD
+  pub length : t.length ≤ t.queue.mtu + FRAME_OVERHEAD

@@ -1,5 +1,7 @@
 -- The view of a sender in contracts, and its invariant, which holds for all values read.
-use Rattle.std.specs.Prelude.{◌≡◌, ℕ, ◌+◌, ◌*◌, ◌/◌, ◌%◌, ◌^◌, ◌<◌, ◌≤◌, Bool, true, false, List, [], length, replicate, slice_index}
+use Rattle.std.specs.Prelude.{◌≡◌, ℕ, ◌+◌, ◌*◌, ◌/◌, ◌%◌, ◌<◌, ◌≤◌, Bool, true, false, List, [], length, replicate, slice_index}
+use Rattle.section_map.specs.declared.limits.TheConstants.{LARGEST_REGION}
+use Rattle.split_ring.specs.declared.sizes.TheConstants.{FRAME_OVERHEAD, SHORTEST_FRAME}
 use Rattle.split_ring.specs.declared.steps.Access.{Access}
 use Rattle.split_ring.specs.declared.steps.Access.TheVariants as access
 use Rattle.split_ring.specs.Layout.{Sizes, IsQueue, HasBounds, size_of, limit_of}
@@ -63,7 +65,7 @@ writes_ahead _ = 0
 
 -- A frame that may be offered.
 abbrev pub IsFrame : Sizes → List ℕ → Type 0
-IsFrame sizes frame = (14 ≤ length frame) × (length frame ≤ sizes.mtu + 18)
+IsFrame sizes frame = (SHORTEST_FRAME ≤ length frame) × (length frame ≤ sizes.mtu + FRAME_OVERHEAD)
 
 -- The offered frame has this slot: its words end inside the section.
 abbrev pub HasSlot : Sender → slots.Slot → Type 0
@@ -90,8 +92,8 @@ IsPlace tx _ = Unit {0}
 pub record IsSender (tx : Sender) : Type 0 where
   pub queue : IsQueue tx.sizes
   pub bounds : HasBounds tx.sizes
-  pub own_room : 4 * tx.own + tx.sizes.out ≤ 2 ^ 24
-  pub their_room : 4 * tx.theirs + tx.sizes.out ≤ 2 ^ 24
+  pub own_room : 4 * tx.own + tx.sizes.out ≤ LARGEST_REGION
+  pub their_room : 4 * tx.theirs + tx.sizes.out ≤ LARGEST_REGION
   pub entries : 2 * length tx.entries ≡ size_of tx.sizes
   pub next : tx.next < limit_of tx.sizes
   pub in_flight : tx.in_flight ≤ limit_of tx.sizes

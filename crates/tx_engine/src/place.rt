@@ -1,5 +1,6 @@
 //! The place in an open offer.
 ghost use Rattle.std.specs.Prelude.{◌≡◌, ◌+◌, ◌-◌, ◌<◌, ◌≤◌, ◌++◌, length};
+ghost use Rattle.split_ring.specs.declared.sizes.TheConstants.{FRAME_OVERHEAD, SHORTEST_FRAME};
 ghost use Rattle.split_ring.specs.Layout.{limit_of};
 ghost use Rattle.tx_engine.specs.Continuations.{GoesOn, descriptor_place_of, full_notes, place_after_index};
 
@@ -109,8 +110,8 @@ pub fn place_after_index(events: bool) -> Place
 /// its first word is next. If the frame doesn't fit, the offer is over.
 pub fn offer_after_ids(slots: &mut Slots, lengths: &mut [u32], bytes: u32, ids: u32) -> Place
     requires kept { length lengths.old ≡ limit_of slots.old.sizes }
-    requires least { 14 ≤ bytes }
-    requires most { bytes ≤ slots.old.sizes.mtu + 18 }
+    requires least { SHORTEST_FRAME ≤ bytes }
+    requires most { bytes ≤ slots.old.sizes.mtu + FRAME_OVERHEAD }
     ensures { GoesOn slots.old lengths.old bytes ids result slots.new lengths.new }
 {
     if ids > 0 {

@@ -1,5 +1,7 @@
 //! The sender of an end.
-ghost use Rattle.std.specs.Prelude.{◌≡◌, ℕ, ◌+◌, ◌-◌, ◌*◌, ◌%◌, ◌<◌, ◌≤◌, ◌^◌, IfOk, IfSome, None, true, false, List, [], ◌∷◌, ◌++◌, length, take, replicate};
+ghost use Rattle.std.specs.Prelude.{◌≡◌, ℕ, ◌+◌, ◌-◌, ◌*◌, ◌%◌, ◌<◌, ◌≤◌, IfOk, IfSome, None, true, false, List, [], ◌∷◌, ◌++◌, length, take, replicate};
+ghost use Rattle.section_map.specs.declared.limits.TheConstants.{LARGEST_REGION};
+ghost use Rattle.split_ring.specs.declared.sizes.TheConstants.{FRAME_OVERHEAD, SHORTEST_FRAME};
 ghost use Rattle.split_ring.specs.Layout.{size_of, limit_of};
 ghost use Rattle.call_grammar.specs.Ends.{End};
 ghost use Rattle.call_grammar.specs.Ticks.{EndConfig};
@@ -21,7 +23,7 @@ use crate::place::{
 use frame_slots::{Slot, Slots};
 use ivs_base::{NoMemory, plus, word_of};
 use split_ring::steps::{Access, Note, Notes, WordKind, leaving};
-use split_ring::{Queue, Refused, need_event};
+use split_ring::{Queue, Refused, high_half, low_half, need_event, of_halves};
 use std::alloc::Global;
 use std::marker::Model;
 
@@ -75,8 +77,8 @@ impl Tx {
         target: u32,
         vector: u32,
     ) -> Result<Tx, NoMemory>
-        requires own { 4 * own + queue.now.out ≤ 2 ^ 24 }
-        requires theirs { 4 * theirs + queue.now.out ≤ 2 ^ 24 }
+        requires own { 4 * own + queue.now.out ≤ LARGEST_REGION }
+        requires theirs { 4 * theirs + queue.now.out ≤ LARGEST_REGION }
         ensures value { IfOk result (λ tx. tx ≡ fresh_sender queue.now own theirs target vector) }
         ensures refines { IfOk result (λ tx. (config : EndConfig) (end : End) → IsMadeFor tx config → IsFreshSession config end → RefinesAt tx config end laws.Closed) }
     {
@@ -111,7 +113,7 @@ impl Tx {
 
     /// Returns the length in bytes of the longest frame that may be offered: the MTU plus 18.
     pub fn longest(&self) -> u32
-        ensures { result ≡ self.now.sizes.mtu + 18 }
+        ensures { result ≡ self.now.sizes.mtu + FRAME_OVERHEAD }
     {
         self.queue.mtu() + 18
     }
@@ -120,7 +122,7 @@ impl Tx {
     /// later offer. It is empty before the first.
     pub fn frame(&self) -> &[u8]
         ensures value { result.now ≡ self.now.frame }
-        ensures most { length result.now ≤ self.now.sizes.mtu + 18 }
+        ensures most { length result.now ≤ self.now.sizes.mtu + FRAME_OVERHEAD }
     {
         &self.buffer[..self.length as usize]
     }
@@ -155,7 +157,7 @@ impl Tx {
     /// Opens another offer of the frame offered last, without a copy. The end is in RUN.
     pub fn begin_again(&mut self)
         requires closed { is_open self.old.place ≡ false }
-        requires some { 14 ≤ length self.old.frame }
+        requires some { SHORTEST_FRAME ≤ length self.old.frame }
         ensures refines { (config : EndConfig) (end : End) → RefinesAt self.old config end laws.Closed → end.handshake.phase ≡ Run →
             RefinesAt self.new config end (laws.first_place config end (Offer self.old.frame)) }
         ensures value { self.new ≡ record self.old { place = Place.ReadingUsedIndex } }
@@ -200,8 +202,8 @@ impl Tx {
                 self.write(entry, self.entry_word(slot.descriptor))
             }
             Place::WritingAvailIndex => {
-                let index = u32::from(plus(self.accepted, 1));
-                self.write(queue.avail_word(), 65_536 * index)
+                let index = plus(self.accepted, 1);
+                self.write(queue.avail_word(), of_halves(0, index))
             }
             Place::ReadingAvailEvent => self.read(queue.avail_event_word()),
             Place::Ringing => Access::Ring {
@@ -475,10 +477,11 @@ impl Tx {
     {
         let entry = self.entry();
         let word = self.entries[(entry / 2) as usize];
+        let descriptor = descriptor as u16;
         if entry.is_multiple_of(2) {
-            word / 65_536 * 65_536 + descriptor
+            of_halves(descriptor, high_half(word))
         } else {
-            word % 65_536 + 65_536 * descriptor
+            of_halves(low_half(word), descriptor)
         }
     }
 
@@ -518,7 +521,7 @@ impl Tx {
         requires empty { notes.old.items ≡ [] }
         ensures { TakesStep self.old value notes.new.items self.new }
     {
-        let event = (value % 65_536) as u16;
+        let event = low_half(value);
         let before = self.accepted.wrapping_sub(1);
         if need_event(event, self.accepted, before) {
             self.go_on(Place::Ringing);
@@ -543,7 +546,7 @@ impl Tx {
         requires empty { notes.old.items ≡ [] }
         ensures { TakesStep self.old value notes.new.items self.new }
     {
-        let index = (value / 65_536) as u16;
+        let index = high_half(value);
         let freed = self.freed();
         let in_flight = self.slots.in_flight();
         match self.queue.check_used(freed, index, in_flight) {

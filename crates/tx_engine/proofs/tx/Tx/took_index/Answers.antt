@@ -1,4 +1,6 @@
 use Rattle.std.proofs.Common.{◌≡◌, ◌+◌, ◌-◌, ◌%◌, List, [], ◌∷◌, ◌++◌, ap, sym, ◌∙◌, subst, arith}
+use Rattle.ivs_base.specs.Numbers.{distance}
+use Rattle.split_ring.specs.Ranges.{IsUsedIndex}
 use Rattle.split_ring.specs.declared.steps.Note.{Note}
 use Rattle.split_ring.specs.declared.steps.Note.TheVariants.{Reclaim}
 use Rattle.tx_engine.specs.Sender.{Sender}
@@ -18,8 +20,11 @@ returns-in-Ok c =
     let on = subst (λ l. GoesOn c.self.inside.slots l c.self.inside.length c.in-Ok.count c.offer_after_ids-self-inside.result c.offer_after_ids-self-inside.new.slots c.offer_after_ids-self-inside.new.lengths)
     c.deref_mut.ensures.value c.offer_after_ids-self-inside.ensures in
     let sized = c.offer_after_ids-self-inside.auto.lengths ∙ c.deref_mut.ensures.len in
+    let index = c.high_half-index.ensures in
+    let within = subst (λ n. IsUsedIndex c.freed-freed.result n c.in_flight-in_flight.result) index c.in-Ok.ensures.inside.0 in
+    let count = c.in-Ok.ensures.inside.1 ∙ ap (λ n. distance c.freed-freed.result n) index in
     subst (TakesStep c.args.self.now c.args.value c.note_full.new.notes.items) (seen_written c.self.inside c.offer_after_ids-self-inside.result c.offer_after_ids-self-inside.new.slots c.offer_after_ids-self-inside.new.lengths sized)
-    (index_step c.self.inside _ c.args.value c.in-Ok.count _ _ _ _ _ _ c.self.view_is c.self.invariant here freed c.in_flight-in_flight.ensures.count c.in-Ok.ensures.inside.0 c.in-Ok.ensures.inside.1 on notes_are)
+    (index_step c.self.inside _ c.args.value c.in-Ok.count _ _ _ _ _ _ c.self.view_is c.self.invariant here freed c.in_flight-in_flight.ensures.count within count on notes_are)
 
 pub invariant_of-self : goal.invariant_of-self
 invariant_of-self c =

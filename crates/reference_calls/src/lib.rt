@@ -27,6 +27,7 @@ mod frames;
 mod marks;
 mod opens;
 mod places;
+mod ranges;
 mod steps;
 mod words;
 mod worked_calls;

@@ -10,14 +10,15 @@ ghost use Rattle.reference_calls.specs.Seen.{config_seen, marks_seen};
 ghost use Rattle.reference_calls.specs.Begun.{pending_of, place_seen, IsSmall};
 
 use crate::frames::frame_fits;
-use crate::places::{Begun, Place, is_address, is_entry, is_length};
+use crate::places::{Begun, Place};
+use crate::ranges::*;
 use crate::words::{
     address_of, descriptor_of, entry_half, entry_of, frame_in, published_by, wants_doorbell,
 };
 use crate::{EndConfig, Mark};
 use ivs_base::{Frame, NoMemory};
 use link_handshake::Move;
-use split_ring::{FieldName, Refused};
+use split_ring::{FieldName, Refused, desc_flags, high_half};
 use std::alloc::Global;
 
 /// Returns a list of this mark.
@@ -66,8 +67,8 @@ fn used_index_marks(
 {
     let freed = u64::from(begun.freed);
     let found = published_by(freed, value);
-    if found > u64::from(begun.number).saturating_sub(freed) {
-        refuse(alloc, FieldName::UsedIndex, u64::from(value / 65_536))
+    if !is_used_index(freed, value, begun.number) {
+        refuse(alloc, FieldName::UsedIndex, u64::from(high_half(value)))
     } else if found > 0 {
         only(alloc, Mark::Reclaim(found))
     } else if frame_fits(config, begun, freed) {
@@ -87,9 +88,10 @@ fn avail_index_marks(
 ) -> Result<Vec<Mark>, NoMemory>
     ensures { IfOk result (λ marks. marks_seen marks.items ≡ marks_at (config_seen config.now) (place_seen begun.now (Place.ReadingAvailIndex last)) value) }
 {
-    let found = published_by(u64::from(begun.taken), value);
-    if found > u64::from(config.queue.size()) {
-        refuse(alloc, FieldName::AvailIndex, u64::from(value / 65_536))
+    let taken = u64::from(begun.taken);
+    let found = published_by(taken, value);
+    if !is_avail_index(config, taken, value) {
+        refuse(alloc, FieldName::AvailIndex, u64::from(high_half(value)))
     } else if found > 0 {
         only(alloc, Mark::Look(found))
     } else if last {
@@ -162,7 +164,7 @@ pub fn marks_at(
         Place::ReadingAvailIndex { last } => avail_index_marks(alloc, config, begun, *last, value),
         Place::ReadingAvailEntry { number, .. } => {
             let entry = entry_half(entry_of(config, *number), value);
-            if is_entry(config, entry) {
+            if is_avail_entry(config, entry) {
                 Ok(Vec::new(alloc))
             } else {
                 refuse(alloc, FieldName::AvailEntry, u64::from(entry))
@@ -170,25 +172,24 @@ pub fn marks_at(
         }
         Place::ReadingDescAddressHigh { low, .. } => {
             let address = address_of(*low, value);
-            if is_address(config, address) {
+            if is_desc_address(config, address) {
                 Ok(Vec::new(alloc))
             } else {
                 refuse(alloc, FieldName::DescAddress, address)
             }
         }
         Place::ReadingDescLength { address, .. } => {
-            if is_length(config, *address, value) {
+            if is_desc_length(config, *address, value) {
                 Ok(Vec::new(alloc))
             } else {
                 refuse(alloc, FieldName::DescLength, u64::from(value))
             }
         }
         Place::ReadingDescFlags { .. } => {
-            let flags = value % 65_536;
-            if flags == 0 {
+            if is_desc_flags(value) {
                 Ok(Vec::new(alloc))
             } else {
-                refuse(alloc, FieldName::DescFlags, u64::from(flags))
+                refuse(alloc, FieldName::DescFlags, u64::from(desc_flags(value)))
             }
         }
         Place::ReadingFrameWord {

@@ -4,13 +4,14 @@ ghost use Rattle.link_handshake.specs.HandshakeState.{move_of};
 ghost use Rattle.call_grammar.specs.Steps.{value_given};
 ghost use Rattle.call_grammar.specs.Ticks.{tick_marks};
 ghost use Rattle.call_grammar.specs.Offers.{full_marks, reclaim_marks, refusal};
-ghost use Rattle.call_grammar.specs.Polls.{is_entry, is_address, is_length, look_marks};
+ghost use Rattle.call_grammar.specs.Polls.{look_marks};
 ghost use Rattle.call_grammar.specs.Places.{access_at, marks_at, next_place, first_place, is_open, tick_place, clear_place, fill_place, ids_place, notify_place, items_place, words_place};
 ghost use Rattle.call_grammar.specs.Ends as ends;
 ghost use Rattle.reference_calls.specs.Seen.{config_seen, call_seen, access_seen, marks_seen, IsSeenAs};
 ghost use Rattle.reference_calls.specs.Begun.{pending_of, place_seen, IsSmall, IsBegun};
 
 use crate::frames::{frame_fits, start_at};
+use crate::ranges::*;
 use crate::words::*;
 use crate::{Access, Call, End, EndConfig, Mark};
 use ivs_base::{Frame, NoMemory};
@@ -399,7 +400,7 @@ pub fn next_place(
         Place::WritingAvailEvent => Place::ReadingAvailIndex { last: true },
         Place::ReadingAvailEntry { number, more } => {
             let entry = entry_half(entry_of(config, number), value);
-            if is_entry(config, entry) {
+            if is_avail_entry(config, entry) {
                 Place::ReadingDescAddressLow {
                     number,
                     more,
@@ -426,7 +427,7 @@ pub fn next_place(
             low,
         } => {
             let address = address_of(low, value);
-            if is_address(config, address) {
+            if is_desc_address(config, address) {
                 Place::ReadingDescLength {
                     number,
                     more,
@@ -443,7 +444,7 @@ pub fn next_place(
             entry,
             address,
         } => {
-            if is_length(config, address, value) {
+            if is_desc_length(config, address, value) {
                 Place::ReadingDescFlags {
                     number,
                     more,
@@ -462,7 +463,7 @@ pub fn next_place(
             address,
             bytes,
         } => {
-            if value % 65_536 == 0 {
+            if is_desc_flags(value) {
                 words_place(
                     number,
                     more,
@@ -504,7 +505,7 @@ fn after_used_index(config: &EndConfig, begun: &Begun, value: u32) -> Place
 {
     let freed = u64::from(begun.freed);
     let found = published_by(freed, value);
-    if found <= u64::from(begun.number).saturating_sub(freed) {
+    if is_used_index(freed, value, begun.number) {
         ids_place(config, begun, freed, found)
     } else {
         Place::Refusing
@@ -518,7 +519,7 @@ fn after_avail_index(config: &EndConfig, begun: &Begun, last: bool, value: u32) 
 {
     let taken = u64::from(begun.taken);
     let found = published_by(taken, value);
-    if found > u64::from(config.queue.size()) {
+    if !is_avail_index(config, taken, value) {
         Place::Refusing
     } else if found > 0 {
         items_place(taken, found)
@@ -527,31 +528,6 @@ fn after_avail_index(config: &EndConfig, begun: &Begun, last: bool, value: u32) 
     } else {
         Place::WritingAvailEvent
     }
-}
-
-/// Whether this is the number of a descriptor.
-pub fn is_entry(config: &EndConfig, entry: u32) -> bool
-    ensures { result ≡ is_entry config.now.queue entry }
-{
-    entry < config.queue.size()
-}
-
-/// Whether this address is a multiple of 4 in the data area.
-pub fn is_address(config: &EndConfig, address: u64) -> bool
-    ensures value { result ≡ is_address config.now.queue address }
-    ensures small { result ≡ true → address < 2 ^ 32 }
-{
-    address % 4 == 0
-        && (u64::from(config.queue.payload()) <= address && address < u64::from(config.queue.out()))
-}
-
-/// Whether a frame at this address can have this length in bytes.
-pub fn is_length(config: &EndConfig, address: u64, length: u32) -> bool
-    requires { address < 2 ^ 32 }
-    ensures { result ≡ is_length config.now.queue address length }
-{
-    14 <= length
-        && (length <= 65_553 && address + u64::from(length) <= u64::from(config.queue.out()))
 }
 
 /// Returns the data that the call of an end has from its start on.

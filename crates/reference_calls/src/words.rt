@@ -10,7 +10,7 @@ ghost use Rattle.reference_calls.specs.Seen.{config_seen};
 
 use crate::EndConfig;
 use ivs_base::{Frame, NoMemory, up64, word_of};
-use split_ring::Queue;
+use split_ring::{Queue, high_half, low_half};
 use std::alloc::Global;
 
 /// Returns the descriptor of the frame with this number.
@@ -135,9 +135,9 @@ pub fn entry_half(k: u32, word: u32) -> u32
     ensures { result ≡ entry_half k word }
 {
     if k.is_multiple_of(2) {
-        word % 65_536
+        u32::from(low_half(word))
     } else {
-        word / 65_536
+        u32::from(high_half(word))
     }
 }
 
@@ -146,7 +146,7 @@ pub fn published_by(taken: u64, word: u32) -> u64
     ensures value { result ≡ published_by taken word }
     ensures small { result < 65536 }
 {
-    (u64::from(word / 65_536) + 65_536 - taken % 65_536) % 65_536
+    (u64::from(high_half(word)) + 65_536 - taken % 65_536) % 65_536
 }
 
 /// Whether the event index in the low half of this word wants a doorbell for the frame with this
@@ -154,7 +154,7 @@ pub fn published_by(taken: u64, word: u32) -> u64
 pub fn wants_doorbell(word: u32, number: u32) -> bool
     ensures { result ≡ wants_doorbell (low_half word) number }
 {
-    word % 65_536 == number % 65_536
+    u32::from(low_half(word)) == number % 65_536
 }
 
 /// Returns the address from its low and its high word.

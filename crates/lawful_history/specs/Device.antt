@@ -11,7 +11,7 @@ use Rattle.scenario_text.specs.Scenario.{World}
 use Rattle.call_grammar.specs.Steps.{Step}
 use Rattle.lawful_history.specs.declared.line.Line.{Line}
 use Rattle.lawful_history.specs.declared.line.Line.TheVariants as line
-use Rattle.lawful_history.specs.Schedule.{Event, CallQueued, AutoStarted, StormStarted, TurnTaken, RegionAccessed, DeviceReset, DeviceAccessed, InterruptDropped, InterruptRepeated, DeviceAccess, ReadsConfig, WritesConfig, ReadsRegister, WritesRegister, ReadsMsix, WritesMsix}
+use Rattle.lawful_history.specs.Schedule.{Event, TurnTaken, RegionAccessed, DeviceReset, DeviceAccessed, InterruptDropped, InterruptRepeated, DeviceAccess, ReadsConfig, WritesConfig, ReadsRegister, WritesRegister, ReadsMsix, WritesMsix}
 use Rattle.lawful_history.specs.EventRecords.{EventRecord, access_lines, lines_of}
 
 -- The devices of the scenario's world.
@@ -93,15 +93,12 @@ device_access_line world older peer (WritesMsix offset value) = line.MsixWrite p
 -- The device's lines of an event with this step, after these lines. `losses` is the number of
 -- interrupts of each peer that are to be dropped.
 abbrev pub device_lines : World → List Line → (ℕ → ℕ) → Event → Option Step → List Line
-device_lines world older losses (CallQueued peer call) went = []
-device_lines world older losses (AutoStarted peer expected) went = []
-device_lines world older losses (StormStarted peer seed) went = []
 device_lines world older losses (TurnTaken peer) went = step_interrupts world older losses peer went
 device_lines world older losses (RegionAccessed peer a) went = step_interrupts world older losses peer went
 device_lines world older losses (DeviceReset peer) went = arrivals world older losses (line.Reset peer)
 device_lines world older losses (DeviceAccessed peer a) went = device_access_line world older peer a ∷ []
-device_lines world older losses (InterruptDropped peer) went = []
 device_lines world older losses (InterruptRepeated peer vector) went = line.Interrupt peer vector ∷ []
+device_lines world older losses _ went = []
 
 -- One more interrupt of the peer is to be dropped.
 abbrev pub losses_with : Event → (ℕ → ℕ) → ℕ → ℕ

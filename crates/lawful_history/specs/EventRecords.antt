@@ -6,7 +6,7 @@ use Rattle.call_grammar.specs.Steps.{Mark, Step}
 use Rattle.call_grammar.specs.Steps as mark
 use Rattle.lawful_history.specs.declared.line.Line.{Line}
 use Rattle.lawful_history.specs.declared.line.Line.TheVariants as line
-use Rattle.lawful_history.specs.Schedule.{Event, CallQueued, AutoStarted, StormStarted, TurnTaken, RegionAccessed, DeviceReset, DeviceAccessed, InterruptDropped, InterruptRepeated, event_peer}
+use Rattle.lawful_history.specs.Schedule.{Event, TurnTaken, RegionAccessed, DeviceReset, event_peer}
 
 -- An event, its step, if there is one, and the lines of the devices: the interrupts that it caused,
 -- or the values that a device returned.
@@ -54,11 +54,8 @@ turn_lines peer (Some step) device = step_lines peer step device
 
 -- The line of an access that was denied, which is always a write.
 abbrev pub denied_lines : ℕ → Access → List Line
-denied_lines peer (access.Read word) = []
 denied_lines peer (access.Write word written) = line.Denied peer word ∷ []
-denied_lines peer (access.State state) = []
-denied_lines peer (access.Ring target vector) = []
-denied_lines peer access.Nothing = []
+denied_lines peer _ = []
 
 -- The lines of one access outside a call. Without a step it was denied.
 abbrev pub region_access_lines : ℕ → Access → Option Step → List Line → List Line
@@ -66,15 +63,10 @@ region_access_lines peer a None device = denied_lines peer a ++ device
 region_access_lines peer a (Some step) device = step_lines peer step device
 
 abbrev pub lines_by : Event → Option Step → List Line → List Line
-lines_by (CallQueued peer call) went device = device
-lines_by (AutoStarted peer expected) went device = device
-lines_by (StormStarted peer seed) went device = device
 lines_by (TurnTaken peer) went device = turn_lines peer went device
 lines_by (RegionAccessed peer a) went device = region_access_lines peer a went device
 lines_by (DeviceReset peer) went device = line.Reset peer ∷ device
-lines_by (DeviceAccessed peer a) went device = device
-lines_by (InterruptDropped peer) went device = device
-lines_by (InterruptRepeated peer vector) went device = device
+lines_by _ went device = device
 
 abbrev pub lines_of : EventRecord → List Line
 lines_of entry = lines_by entry.event entry.went entry.device

@@ -11,7 +11,7 @@ use Rattle.call_grammar.specs.Trees.{CallTree, Ended, Does, Reads}
 use Rattle.call_grammar.specs.Automatic.{Chosen, round_since}
 use Rattle.lawful_history.specs.declared.line.Line.{Line}
 use Rattle.lawful_history.specs.Memory.{last_write}
-use Rattle.lawful_history.specs.Schedule.{Event, CallQueued, AutoStarted, StormStarted, TurnTaken, RegionAccessed, DeviceReset, DeviceAccessed, InterruptDropped, InterruptRepeated, event_peer, schedule}
+use Rattle.lawful_history.specs.Schedule.{Event, CallQueued, AutoStarted, StormStarted, TurnTaken, RegionAccessed, DeviceReset, event_peer, schedule}
 use Rattle.lawful_history.specs.Sides.{config_of}
 use Rattle.lawful_history.specs.EventRecords.{EventRecord, lines_of}
 use Rattle.lawful_history.specs.Storm.{storm_step, storm_after}
@@ -81,26 +81,17 @@ acted_step world p access.Nothing past = Some (step_of access.Nothing 0 [])
 
 -- The step of an event, and its peer after it.
 abbrev pub step_in : World → Peer → List Line → Event → Option Step
-step_in world peer past (CallQueued p call) = None
-step_in world peer past (AutoStarted p expected) = None
-step_in world peer past (StormStarted p seed) = None
 step_in world peer past (TurnTaken p) = turn_step world p peer past
 step_in world peer past (RegionAccessed p a) = acted_step world p a past
-step_in world peer past (DeviceReset p) = None
-step_in world peer past (DeviceAccessed p a) = None
-step_in world peer past (InterruptDropped p) = None
-step_in world peer past (InterruptRepeated p vector) = None
+step_in world peer past _ = None
 
 abbrev pub peer_in : World → Peer → List Line → Event → Peer
 peer_in world peer past (CallQueued p call) = with_call peer call
 peer_in world peer past (AutoStarted p expected) = automated peer expected
 peer_in world peer past (StormStarted p seed) = stormed peer seed
 peer_in world peer past (TurnTaken p) = turned world p peer past
-peer_in world peer past (RegionAccessed p a) = peer
 peer_in world peer past (DeviceReset p) = was_reset peer
-peer_in world peer past (DeviceAccessed p a) = peer
-peer_in world peer past (InterruptDropped p) = peer
-peer_in world peer past (InterruptRepeated p vector) = peer
+peer_in world peer past _ = peer
 
 abbrev pub peer_at : HistoryState → ℕ → Peer
 peer_at moment peer = slice_index_or moment.peers peer at_start

@@ -28,11 +28,9 @@ memory_effect_of _ = Apart
 
 -- The value of a word after a line with this effect, from its value `before`.
 abbrev pub value_after : MemoryEffect → ℕ → ℕ → ℕ
-value_after (Gave word value) at before = before
 value_after (Stored peer word value) at before = if word == at then value else before
-value_after (Denied peer word) at before = before
 value_after (Set word value) at before = if word == at then value else before
-value_after Apart at before = before
+value_after _ at before = before
 
 -- The value of a word after these lines, which are listed newest first. It is 0 at the start.
 abbrev pub last_write : List Line → ℕ → ℕ

@@ -1,6 +1,6 @@
 -- A peer between two events, as the computed history stores it, and the effect of its own events.
 use Rattle.std.specs.Prelude.{ℕ, ◌+◌, List, [], ◌∷◌, ◌++◌, drop}
-use Rattle.call_grammar.specs.Steps.{Mark, Saw, Reclaim, Full, Accept, Look, Deliver, Return, Done, Down, Refuse, Over, Step}
+use Rattle.call_grammar.specs.Steps.{Mark, Accept, Deliver, Step}
 use Rattle.call_grammar.specs.Trees.{CallTree, Ended, Does, Reads}
 use Rattle.call_grammar.specs.Ends.{End, fresh, after_reset, end_after}
 use Rattle.call_grammar.specs.Calls.{EndConfig, Call, Tick, Offer, Poll, tree_of}
@@ -90,17 +90,9 @@ opened config peer = opened_by config peer peer.left peer.waiting
 
 -- An accepted frame of an automatic end is removed from its frames, and its deliveries are counted.
 abbrev pub counted : Auto → Mark → Auto
-counted auto (Saw value) = auto
-counted auto (Reclaim count) = auto
-counted auto Full = auto
 counted auto (Accept frame) = record auto { frames = drop 1 auto.frames }
-counted auto (Look count) = auto
 counted auto (Deliver frame) = record auto { delivered = auto.delivered + 1 }
-counted auto Return = auto
-counted auto Done = auto
-counted auto Down = auto
-counted auto (Refuse refused) = auto
-counted auto Over = auto
+counted auto _ = auto
 
 abbrev pub counted_all : Auto → List Mark → Auto
 counted_all auto [] = auto

@@ -1,11 +1,7 @@
 //! The lines of a history.
-ghost use Rattle.std.specs.Prelude.{◌≡◌, ◌<◌, List, [], ◌∷◌, ◌++◌, OnOk, OnErr};
-ghost use Rattle.std.specs.Vec.{vec_len, vec_capacity};
-
-use ivs_base::{Frame, NoMemory};
+use ivs_base::Frame;
+use line_format::List;
 use split_ring::Refused;
-use std::alloc::Global;
-use std::marker::Model;
 
 /// One line of a history, in the order of the record's table of lines: an action of a peer, an
 /// interrupt, or a mark.
@@ -158,83 +154,4 @@ pub enum Line {
 }
 
 /// A history: its lines in order.
-#[derive(Debug, Drop)]
-pub struct Lines {
-    lines: Vec<Line>,
-}
-
-impl Model for Lines {
-    ghost use Rattle.std.specs.Prelude.{List};
-    ghost use Rattle.lawful_history.specs.declared.line.Line.{Line};
-
-    ghost Value = { List Line };
-
-    ghost view = { λ history. history.lines.items };
-}
-
-/// Reserves space for one more line if there is none. It keeps `push` short enough to be inlined.
-/// Then a line is written to its place field by field; otherwise it is built elsewhere and copied,
-/// and the copy waits for the fields that were just written.
-fn make_room(lines: &mut Vec<Line>) -> Result<(), NoMemory>
-    ensures items { lines.new.items ≡ lines.old.items }
-    ensures room { OnOk result (vec_len lines.new < vec_capacity lines.new) }
-{
-    if lines.capacity() <= lines.len() {
-        lines.reserve(1)?;
-    }
-    Ok(())
-}
-
-impl Lines {
-    /// Returns the history without lines.
-    pub fn new(alloc: Global) -> Lines
-        ensures { result ≡ [] }
-    {
-        Lines {
-            lines: Vec::new(alloc),
-        }
-    }
-
-    /// Reserves space for `more` more lines. Returns `Err(NoMemory)` if the allocation fails.
-    pub fn reserve(&mut self, more: usize) -> Result<(), NoMemory>
-        ensures { self.new ≡ self.old }
-    {
-        self.lines.try_reserve(more)?;
-        Ok(())
-    }
-
-    /// Appends a line. After `Err(NoMemory)` the history is unchanged and the line is dropped.
-    // claim put, unchanged with Lines::new, Lines::reserve, Lines::clear, Lines::items,
-    //    Lines::into_items: A list of lines has the lines that were appended, in order; a failed
-    //    call changes nothing.
-    #[inline(always)]
-    pub fn push(&mut self, line: Line) -> Result<(), NoMemory>
-        ensures put { OnOk result (self.new ≡ self.old ++ line ∷ []) }
-        ensures unchanged { OnErr result (self.new ≡ self.old) }
-    {
-        make_room(&mut self.lines)?;
-        self.lines.push_reserved(line);
-        Ok(())
-    }
-
-    /// Drops the lines. Their space stays reserved.
-    pub fn clear(&mut self)
-        ensures { self.new ≡ [] }
-    {
-        self.lines.clear();
-    }
-
-    /// Returns the lines in order.
-    pub fn items(&self) -> &[Line]
-        ensures { result.now ≡ self.now }
-    {
-        self.lines.as_slice()
-    }
-
-    /// Returns the lines in order, as a vector.
-    pub fn into_items(self) -> Vec<Line>
-        ensures { result.items ≡ self }
-    {
-        self.lines
-    }
-}
+pub type Lines = List<Line>;

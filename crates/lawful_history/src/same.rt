@@ -1,7 +1,20 @@
-//! Whether two lines are equal. The prefix `its_` is for a field of the other line.
+//! Whether two lines are equal.
 ghost use Rattle.std.specs.Prelude.{◌≡◌, ◌↔◌, IsTrue};
 
 use crate::line::Line;
+
+/// Whether `$found` is a line of the same kind as `$line` with equal fields. Each kind stands with
+/// its fields, and each field with a name for that of `$found`.
+macro_rules! same {
+    ($line:ident, $found:ident; $($kind:ident { $($field:ident $other:ident),* })*) => {
+        match $line {
+            $(Line::$kind { $($field),* } => match $found {
+                Line::$kind { $($field: $other),* } => true $(&& $field == $other)*,
+                _ => false,
+            },)*
+        }
+    };
+}
 
 impl Line {
     /// Whether the two lines are equal.
@@ -9,229 +22,36 @@ impl Line {
     pub fn same(&self, found: &Line) -> bool
         ensures { IsTrue result ↔ self.now ≡ found.now }
     {
-        match self {
-            Line::Read { peer, word, value } => match found {
-                Line::Read {
-                    peer: its_peer,
-                    word: its_word,
-                    value: its_value,
-                } => peer == its_peer && word == its_word && value == its_value,
-                _ => false,
-            },
-            Line::Write { peer, word, value } => match found {
-                Line::Write {
-                    peer: its_peer,
-                    word: its_word,
-                    value: its_value,
-                } => peer == its_peer && word == its_word && value == its_value,
-                _ => false,
-            },
-            Line::Denied { peer, word } => match found {
-                Line::Denied {
-                    peer: its_peer,
-                    word: its_word,
-                } => peer == its_peer && word == its_word,
-                _ => false,
-            },
-            Line::State { peer, value } => match found {
-                Line::State {
-                    peer: its_peer,
-                    value: its_value,
-                } => peer == its_peer && value == its_value,
-                _ => false,
-            },
-            Line::Doorbell {
-                peer,
-                target,
-                vector,
-            } => match found {
-                Line::Doorbell {
-                    peer: its_peer,
-                    target: its_target,
-                    vector: its_vector,
-                } => peer == its_peer && target == its_target && vector == its_vector,
-                _ => false,
-            },
-            Line::Interrupt { peer, vector } => match found {
-                Line::Interrupt {
-                    peer: its_peer,
-                    vector: its_vector,
-                } => peer == its_peer && vector == its_vector,
-                _ => false,
-            },
-            Line::Lost { peer, vector } => match found {
-                Line::Lost {
-                    peer: its_peer,
-                    vector: its_vector,
-                } => peer == its_peer && vector == its_vector,
-                _ => false,
-            },
-            Line::Reset { peer } => match found {
-                Line::Reset { peer: its_peer } => peer == its_peer,
-                _ => false,
-            },
-            Line::Idle { peer } => match found {
-                Line::Idle { peer: its_peer } => peer == its_peer,
-                _ => false,
-            },
-            Line::ConfigRead {
-                peer,
-                offset,
-                width,
-                value,
-            } => match found {
-                Line::ConfigRead {
-                    peer: its_peer,
-                    offset: its_offset,
-                    width: its_width,
-                    value: its_value,
-                } => peer == its_peer
-                    && offset == its_offset
-                    && width == its_width
-                    && value == its_value,
-                _ => false,
-            },
-            Line::ConfigWrite {
-                peer,
-                offset,
-                width,
-                value,
-            } => match found {
-                Line::ConfigWrite {
-                    peer: its_peer,
-                    offset: its_offset,
-                    width: its_width,
-                    value: its_value,
-                } => peer == its_peer
-                    && offset == its_offset
-                    && width == its_width
-                    && value == its_value,
-                _ => false,
-            },
-            Line::RegisterRead {
-                peer,
-                offset,
-                value,
-            } => match found {
-                Line::RegisterRead {
-                    peer: its_peer,
-                    offset: its_offset,
-                    value: its_value,
-                } => peer == its_peer && offset == its_offset && value == its_value,
-                _ => false,
-            },
-            Line::RegisterWrite {
-                peer,
-                offset,
-                value,
-            } => match found {
-                Line::RegisterWrite {
-                    peer: its_peer,
-                    offset: its_offset,
-                    value: its_value,
-                } => peer == its_peer && offset == its_offset && value == its_value,
-                _ => false,
-            },
-            Line::MsixRead {
-                peer,
-                offset,
-                value,
-            } => match found {
-                Line::MsixRead {
-                    peer: its_peer,
-                    offset: its_offset,
-                    value: its_value,
-                } => peer == its_peer && offset == its_offset && value == its_value,
-                _ => false,
-            },
-            Line::MsixWrite {
-                peer,
-                offset,
-                value,
-            } => match found {
-                Line::MsixWrite {
-                    peer: its_peer,
-                    offset: its_offset,
-                    value: its_value,
-                } => peer == its_peer && offset == its_offset && value == its_value,
-                _ => false,
-            },
-            Line::Saw { peer, value } => match found {
-                Line::Saw {
-                    peer: its_peer,
-                    value: its_value,
-                } => peer == its_peer && value == its_value,
-                _ => false,
-            },
-            Line::Reclaim { peer, count } => match found {
-                Line::Reclaim {
-                    peer: its_peer,
-                    count: its_count,
-                } => peer == its_peer && count == its_count,
-                _ => false,
-            },
-            Line::Look { peer, count } => match found {
-                Line::Look {
-                    peer: its_peer,
-                    count: its_count,
-                } => peer == its_peer && count == its_count,
-                _ => false,
-            },
-            Line::Full { peer } => match found {
-                Line::Full { peer: its_peer } => peer == its_peer,
-                _ => false,
-            },
-            Line::Done { peer } => match found {
-                Line::Done { peer: its_peer } => peer == its_peer,
-                _ => false,
-            },
-            Line::Over { peer } => match found {
-                Line::Over { peer: its_peer } => peer == its_peer,
-                _ => false,
-            },
-            Line::Down { peer } => match found {
-                Line::Down { peer: its_peer } => peer == its_peer,
-                _ => false,
-            },
-            Line::Accept { peer, frame } => match found {
-                Line::Accept {
-                    peer: its_peer,
-                    frame: its_frame,
-                } => peer == its_peer && frame == its_frame,
-                _ => false,
-            },
-            Line::Deliver { peer, frame } => match found {
-                Line::Deliver {
-                    peer: its_peer,
-                    frame: its_frame,
-                } => peer == its_peer && frame == its_frame,
-                _ => false,
-            },
-            Line::Return { peer } => match found {
-                Line::Return { peer: its_peer } => peer == its_peer,
-                _ => false,
-            },
-            Line::Refuse { peer, refused } => match found {
-                Line::Refuse {
-                    peer: its_peer,
-                    refused: its_refused,
-                } => peer == its_peer
-                    && refused.field == its_refused.field
-                    && refused.value == its_refused.value,
-                _ => false,
-            },
-            Line::Session {
-                peer,
-                opened,
-                other,
-            } => match found {
-                Line::Session {
-                    peer: its_peer,
-                    opened: its_opened,
-                    other: its_other,
-                } => peer == its_peer && opened == its_opened && other == its_other,
-                _ => false,
-            },
+        let line = self;
+        same! {
+            line, found;
+            Read { peer p, word w, value v }
+            Write { peer p, word w, value v }
+            Denied { peer p, word w }
+            State { peer p, value v }
+            Doorbell { peer p, target t, vector v }
+            Interrupt { peer p, vector v }
+            Lost { peer p, vector v }
+            Reset { peer p }
+            Idle { peer p }
+            ConfigRead { peer p, offset o, width w, value v }
+            ConfigWrite { peer p, offset o, width w, value v }
+            RegisterRead { peer p, offset o, value v }
+            RegisterWrite { peer p, offset o, value v }
+            MsixRead { peer p, offset o, value v }
+            MsixWrite { peer p, offset o, value v }
+            Saw { peer p, value v }
+            Reclaim { peer p, count c }
+            Look { peer p, count c }
+            Full { peer p }
+            Done { peer p }
+            Over { peer p }
+            Down { peer p }
+            Accept { peer p, frame f }
+            Deliver { peer p, frame f }
+            Return { peer p }
+            Refuse { peer p, refused r }
+            Session { peer p, opened s, other o }
         }
     }
 }

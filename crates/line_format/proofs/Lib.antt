@@ -7,6 +7,10 @@ pub mod LineLaws
 pub mod WritingLaws
 pub mod MachineLaws
 pub mod ReadingLaws
+pub mod BytesLaws
+pub mod GrammarLaws
+pub mod TextLaws
+pub mod RowTexts
 pub mod TableLaws
 pub mod RowLaws
 pub mod LengthLaws

@@ -35,3 +35,16 @@ same_ok x y e = cc
 
 pub same_some : {A : Type 0} (x y : A) → ◌≡◌ {A = Option A} (Some x) (Some y) → x ≡ y
 same_some x y e = cc
+
+pub none_if : {C : Type 0} (b : Bool) (c : C) → cond b None (Some c) ≡ None → b ≡ true
+none_if true c e = refl
+none_if false c e = absurd cc
+
+pub none_but : {C : Type 0} (b : Bool) (c : C) → cond b (Some c) None ≡ None → b ≡ false
+none_but true c e = absurd cc
+none_but false c e = refl
+
+pub two_none : {C : Type 0} (a b : Bool) (x y : C) → cond (not a) (Some x) (cond b (Some y) None) ≡ None → (a ≡ true) × (b ≡ false)
+two_none true false x y is = (refl, refl)
+two_none true true x y is = absurd cc
+two_none false b x y is = absurd cc

@@ -96,3 +96,7 @@ none_of pieces_of few (f ∷ forms) fs lt = rw (too_many (pieces_of f) fs (let l
 pub no_form : {F : Type 0} (pieces_of : F → List Piece) (forms : List F) → IsTable pieces_of forms → (fs : List (List ℕ)) → 6 < length fs → find_form pieces_of forms fs ≡ None
 unfolding find_form
 no_form pieces_of forms table fs lt = none_of pieces_of table.few forms fs lt
+
+pub no_form_of_few : {F : Type 0} (pieces_of : F → List Piece) (forms : List F) → ((f : F) → length (pieces_of f) ≤ 6) → (fs : List (List ℕ)) → 6 < length fs → find_form pieces_of forms fs ≡ None
+unfolding find_form
+no_form_of_few pieces_of forms few fs lt = none_of pieces_of few forms fs lt

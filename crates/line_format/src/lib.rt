@@ -1,6 +1,8 @@
 //! The common part of all texts: reading a text line by line, cutting bytes into lines and lines
 //! into fields, numbers in decimal and bytes as hex digits. Forms of lines are tables of pieces.
-//! Short lines are built from their end, without a table. What was read is kept in lists.
+//! Short lines are built from their end, without a table. A text of such forms is a `Grammar`: the
+//! tests of its lines and their order stand here, once for all texts, as do the laws of all texts.
+//! What was read is kept in lists.
 //!
 //! The crate uses `ivs_base`, `arrayvec`, `hex`, `itoa` and `memchr`. Its contracts promise for
 //! every table of forms that reading a form's fields and writing them are one relation, so each
@@ -10,6 +12,7 @@
 
 mod cuts;
 mod forms;
+mod grammar;
 mod hex_digits;
 mod line_tail;
 mod list;
@@ -20,6 +23,7 @@ mod writing;
 
 pub use cuts::cut;
 pub use forms::{FieldKind, fields, has_form, hex_field, is_printable, number_at, numbers_in};
+pub use grammar::{Grammar, Test, take_line};
 pub use hex_digits::read_hex;
 pub use line_tail::LineTail;
 pub use list::List;

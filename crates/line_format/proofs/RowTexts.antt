@@ -1,0 +1,137 @@
+-- Texts of a table: rows that follow one another are read, and what is read is rows that follow one
+-- another.
+use Rattle.std.proofs.Common.{◌≡◌, ℕ, true, false, List, [], ◌∷◌, ◌++◌, length, map, Ok, sym, ap, subst, ◌∙◌, append_assoc, arith}
+use Rattle.std.proofs.lemmas.List.{append-nil, length-map}
+use Rattle.std.proofs.lemmas.List.Concat.{flat_map-append, flat_map-cons}
+use Rattle.line_format.specs.Forms.{Piece}
+use Rattle.line_format.specs.Rows.{Row, line_of_row, text_of}
+use Rattle.line_format.specs.Machine.{Machine, Leads, HasNoNewline, text_of_lines, read}
+use Rattle.line_format.specs.Grammar.{Rules, step, machine_of}
+use Rattle.line_format.specs.Texts.{Sense}
+use Rattle.line_format.proofs.MachineLaws.{read_is_lines}
+use Rattle.line_format.proofs.TableLaws.{IsTable}
+use Rattle.line_format.proofs.RowLaws.{bare, row_plain, text_is_lines, text-cons}
+use Rattle.line_format.proofs.GrammarLaws.{CanFollow, with_row, row_of_follows, step-row, step-ok}
+use Rattle.line_format.proofs.TextLaws.{HasLines}
+
+-- ---- forward
+
+-- Each row can follow, and none is the end.
+abbrev pub Along : {S F C : Type 0} → Rules S F C → S → List (Row F) → S → Type 0
+Along g d [] e = d ≡ e
+Along g d (r ∷ rs) e = CanFollow g d r × (g.ended (with_row g r d) ≡ false) × Along g (with_row g r d) rs e
+
+pub along-append : {S F C : Type 0} (g : Rules S F C) (d : S) (rs ss : List (Row F)) (e f : S) → Along g d rs e → Along g e ss f → Along g d (rs ++ ss) f
+along-append {S} g d [] ss e f here later = subst (λ (x : S). Along g x ss f) (sym here) later
+along-append g d (r ∷ rs) ss e f here later = (here.0, here.1, along-append g (with_row g r d) rs ss e f here.2 later)
+
+leads-cons : {S C : Type 0} (m : Machine S C) (d now : S) (line : List ℕ) (lines : List (List ℕ)) (e : S) → HasNoNewline line → m.step d line ≡ Ok now → m.ended now ≡ false → Leads m now lines e → Leads m d (line ∷ lines) e
+leads-cons m d now line [] e plain is on leads = absurd leads
+leads-cons m d now line (next ∷ more) e plain is on leads = (now, plain, is, on, leads)
+
+-- Rows up to the last are lines that lead to the end.
+leads : {S F C : Type 0} (g : Rules S F C) → IsTable g.pieces_of g.forms → (d : S) (rs : List (Row F)) (e : S) (r : Row F) (f : S) → Along g d rs e → CanFollow g e r → with_row g r e ≡ f → g.ended f ≡ true
+    → Leads (machine_of g) d (map (bare g.pieces_of) (rs ++ r ∷ [])) f
+leads {S} g table d [] e r f along can gives ended =
+    let can' = subst (λ (x : S). CanFollow g x r) (sym along) can in
+    let gives' = ap (with_row g r) along ∙ gives in
+    (row_plain g.pieces_of g.forms table r (row_of_follows g d r can'), step-row g table d r can' ∙ ap (λ (x : S). Ok x) gives', ended)
+leads g table d (s ∷ rs) e r f along can gives ended =
+    leads-cons (machine_of g) d (with_row g s d) (bare g.pieces_of s) (map (bare g.pieces_of) (rs ++ r ∷ [])) f (row_plain g.pieces_of g.forms table s (row_of_follows g d s along.0)) (step-row g table d s along.0) along.1
+    (leads g table (with_row g s d) rs e r f along.2 can gives ended)
+
+-- The rows of a value: all but the last follow one another, and the last is the end.
+pub record Reaches {S F C : Type 0} (g : Rules S F C) (d : S) (rows : List (Row F)) (f : S) : Type 0 where
+  pub front : List (Row F)
+  pub last : Row F
+  pub before : S
+  pub parts : rows ≡ front ++ last ∷ []
+  pub along : Along g d front before
+  pub follows : CanFollow g before last
+  pub gives : with_row g last before ≡ f
+  pub ended : g.ended f ≡ true
+
+pub rows_lead : {S F C : Type 0} (g : Rules S F C) → IsTable g.pieces_of g.forms → (d : S) (rows : List (Row F)) (f : S) → Reaches g d rows f → Leads (machine_of g) d (map (bare g.pieces_of) rows) f
+rows_lead {S} {F} g table d rows f r = subst (λ (rs : List (Row F)). Leads (machine_of g) d (map (bare g.pieces_of) rs) f) (sym r.parts) (leads g table d r.front r.before r.last f r.along r.follows r.gives r.ended)
+
+-- The rows of a value w are its lines.
+pub rows_are_lines : {S F C W E : Type 0} (g : Rules S F C) (s : Sense S C W E) (rows_of : W → List (Row F)) → IsTable g.pieces_of g.forms
+    → (w : W) (at_end : S) → Reaches g s.start (rows_of w) at_end → s.value at_end ≡ Ok w
+    → (bytes : List ℕ) → bytes ≡ text_of g.pieces_of (rows_of w) → HasLines (machine_of g) s (λ v. length (rows_of v)) w bytes
+rows_are_lines g s rows_of table w at_end reaches says bytes text = record {
+  lines = map (bare g.pieces_of) (rows_of w);
+  at_end = at_end;
+  text = text ∙ text_is_lines g.pieces_of (rows_of w);
+  leads = rows_lead g table s.start (rows_of w) at_end reaches;
+  says = says;
+  counted = omega (arith, length-map (rows_of w) (bare g.pieces_of));
+}
+
+-- ---- the converse
+
+text-append : {F : Type 0} (pieces_of : F → List Piece) (rs : List (Row F)) (r : Row F) (rest : List ℕ) → text_of pieces_of (rs ++ r ∷ []) ++ rest ≡ text_of pieces_of rs ++ (bare pieces_of r ++ 10 ∷ rest)
+text-append pieces_of rs r rest =
+    ap (λ (t : List ℕ). t ++ rest) (flat_map-append (line_of_row pieces_of) rs (r ∷ []))
+    ∙ append_assoc (text_of pieces_of rs) (text_of pieces_of (r ∷ [])) rest
+    ∙ ap (λ (t : List ℕ). text_of pieces_of rs ++ t) (ap (λ (t : List ℕ). t ++ rest) (text-cons pieces_of r []) ∙ append_assoc (bare pieces_of r) (10 ∷ []) rest)
+
+line-cons : (line : List ℕ) (lines : List (List ℕ)) → text_of_lines (line ∷ lines) ≡ line ++ 10 ∷ text_of_lines lines
+line-cons line lines = flat_map-cons (λ l. l ++ 10 ∷ []) line lines ∙ append_assoc line (10 ∷ []) (text_of_lines lines)
+
+-- A row that can follow preserves the invariant of the lines so far, and adds itself to their rows.
+pub record Keeps {S F C : Type 0} (g : Rules S F C) (before : S → List (Row F)) (Good : S → Type 0) (d : S) (r : Row F) : Type 0 where
+  pub rows : before (with_row g r d) ≡ before d ++ r ∷ []
+  pub good : Good (with_row g r d)
+
+abbrev pub AreKept : {S F C : Type 0} → Rules S F C → (S → List (Row F)) → (S → Type 0) → Type 0
+AreKept {S} {F} g before Good = (d : S) (r : Row F) → CanFollow g d r → Good d → Keeps g before Good d r
+
+-- What holds after a line that was taken.
+pub record Later {S F C : Type 0} (g : Rules S F C) (before : S → List (Row F)) (Good : S → Type 0) (d : S) (line : List ℕ) (e : S) : Type 0 where
+  pub good : Good e
+  pub text : (rest : List ℕ) → text_of g.pieces_of (before d) ++ (line ++ 10 ∷ rest) ≡ text_of g.pieces_of (before e) ++ rest
+
+pub later : {S F C : Type 0} (g : Rules S F C) → IsTable g.pieces_of g.forms → (before : S → List (Row F)) (Good : S → Type 0) → AreKept g before Good → (d : S) (line : List ℕ) (e : S) → Good d → step g d line ≡ Ok e → Later g before Good d line e
+later {S} {F} g table before Good kept d line e good is =
+    let t = step-ok g table d line e is in
+    let k = kept d t.taken t.can good in
+    let rows : before e ≡ before d ++ t.taken ∷ [] = subst (λ (x : S). before x ≡ before d ++ t.taken ∷ []) t.gives k.rows in
+    record {
+      good = subst Good t.gives k.good;
+      text = λ rest.
+          ap (λ (l : List ℕ). text_of g.pieces_of (before d) ++ (l ++ 10 ∷ rest)) t.line_is_row
+          ∙ sym (text-append g.pieces_of (before d) t.taken rest)
+          ∙ ap (λ (rs : List (Row F)). text_of g.pieces_of rs ++ rest) (sym rows);
+    }
+
+-- What holds at the end.
+record Whole {S F C : Type 0} (g : Rules S F C) (before : S → List (Row F)) (Good : S → Type 0) (d : S) (lines : List (List ℕ)) (e : S) : Type 0 where
+  good : Good e
+  ended : g.ended e ≡ true
+  text : text_of g.pieces_of (before d) ++ text_of_lines lines ≡ text_of g.pieces_of (before e)
+
+whole : {S F C : Type 0} (g : Rules S F C) → IsTable g.pieces_of g.forms → (before : S → List (Row F)) (Good : S → Type 0) → AreKept g before Good → (d : S) (lines : List (List ℕ)) (e : S) → Good d → Leads (machine_of g) d lines e → Whole g before Good d lines e
+whole g table before Good kept d [] e good leads = absurd leads
+whole g table before Good kept d (line ∷ []) e good leads =
+    let b = later g table before Good kept d line e good leads.1 in
+    record { good = b.good; ended = leads.2; text = ap (λ (t : List ℕ). text_of g.pieces_of (before d) ++ t) (line-cons line []) ∙ b.text [] ∙ append-nil _ }
+whole g table before Good kept d (line ∷ next ∷ more) e good leads =
+    let b = later g table before Good kept d line leads.0 good leads.2 in
+    let w = whole g table before Good kept leads.0 (next ∷ more) e b.good leads.4 in
+    record { good = w.good; ended = w.ended; text = ap (λ (t : List ℕ). text_of g.pieces_of (before d) ++ t) (line-cons line (next ∷ more)) ∙ b.text (text_of_lines (next ∷ more)) ∙ w.text }
+
+-- The text that was read: the invariant holds at the end, and the text is that of the rows.
+pub record IsRead {S F C : Type 0} (g : Rules S F C) (before : S → List (Row F)) (Good : S → Type 0) (bytes : List ℕ) (e : S) : Type 0 where
+  pub good : Good e
+  pub ended : g.ended e ≡ true
+  pub text : bytes ≡ text_of g.pieces_of (before e)
+
+pub is_read : {S F C : Type 0} (g : Rules S F C) → IsTable g.pieces_of g.forms → (before : S → List (Row F)) (Good : S → Type 0) → AreKept g before Good → (start : S) → Good start → before start ≡ [] → (bytes : List ℕ) (e : S) → read (machine_of g) start bytes ≡ Ok e → IsRead g before Good bytes e
+is_read {S} {F} g table before Good kept start good none bytes e is =
+    let l = read_is_lines (machine_of g) start e bytes is in
+    let w = whole g table before Good kept start l.0 e good l.2 in
+    record {
+      good = w.good;
+      ended = w.ended;
+      text = l.1 ∙ ap (λ (rs : List (Row F)). text_of g.pieces_of rs ++ text_of_lines l.0) (sym none) ∙ w.text;
+    }

@@ -1,0 +1,159 @@
+//! A text as a table of forms and tests, and the taking of one line of it, for every such table.
+ghost use Rattle.std.specs.Prelude.{◌≡◌, ◌≤◌, ℕ, length, List, None, false, IfOk, option_map};
+ghost use Rattle.std.specs.List.{list_all};
+ghost use Rattle.line_format.specs.Forms.{pieces, texts, AreInRange, Piece};
+ghost use Rattle.line_format.specs.Rows.{find_form};
+ghost use Rattle.line_format.specs.Reading.{Gives};
+ghost use Rattle.line_format.specs.Grammar.{Rules, added, bytes_in, judge, step};
+
+use crate::forms::{FieldKind, fields, has_form, hex_field, is_printable, numbers_in};
+use crate::hex_digits::read_hex;
+use crate::reading::LineFault;
+use std::alloc::{AllocError, Global};
+
+/// A test that each line of each text has to pass, in the order of the tests.
+#[derive(Clone, Copy, Debug, PartialEq, Eq)]
+pub enum Test {
+    /// The line has a form.
+    Line,
+    /// The form is allowed at this position.
+    Order,
+    /// Each number field is a number in the range of the form.
+    Number,
+    /// The digits spell bytes of a length that fits.
+    Bytes,
+}
+
+/// The lines so far of a text, with the table of the tests of the next line.
+pub trait Grammar {
+    /// The forms of lines.
+    type Form: Copy + 'static;
+    /// The fault of a line.
+    type Cause;
+    /// The value of the lines so far.
+    ghost SoFar: { Type 0 };
+
+    ghost so_far: { Self → SoFar };
+    /// The table.
+    ghost rules: { Rules SoFar Self.Form Self.Cause };
+
+    /// Returns all forms.
+    fn forms() -> &'static [Self::Form]
+        ensures { result.now ≡ rules.forms };
+
+    /// Returns the fields of the form.
+    fn slots(form: Self::Form) -> &'static [FieldKind]
+        ensures value { pieces result.now ≡ rules.pieces_of form }
+        ensures few { length result.now ≤ 6 };
+
+    /// Returns the fault of a line that fails the test.
+    fn cause(test: Test) -> Self::Cause
+        ensures { result ≡ rules.cause test };
+
+    /// Whether the form is forbidden at this position.
+    fn is_out_of_order(&self, form: Self::Form, fields: &[&[u8]]) -> bool
+        ensures { result ≡ rules.is_out_of_order (so_far self.now) form (texts fields.now) };
+
+    /// Returns the fault of the numbers, if they have one. Each is in the form's own range.
+    fn wrong_numbers(&self, form: Self::Form, numbers: &[u64]) -> Option<Self::Cause>
+        ensures { result ≡ rules.wrong_numbers (so_far self.now) form numbers.now };
+
+    /// Whether a line of the form may have `size` bytes.
+    fn fits(&self, form: Self::Form, size: u64) -> bool
+        ensures { result ≡ rules.fits (so_far self.now) form size };
+
+    /// Adds the value of the line, unless the whole row has a fault.
+    fn add(
+        &mut self,
+        alloc: Global,
+        form: Self::Form,
+        fields: &[&[u8]],
+        numbers: &[u64],
+        bytes: Vec<u8>,
+    ) -> Result<(), LineFault<Self::Cause>>
+        requires order { rules.is_out_of_order (so_far self.old) form (texts fields.now) ≡ false }
+        requires limits { AreInRange (rules.pieces_of form) numbers.now }
+        requires good { rules.wrong_numbers (so_far self.old) form numbers.now ≡ None }
+        ensures { Gives (so_far self.new) result (added rules (so_far self.old) form numbers.now bytes.items) };
+
+    /// No form has more fields than a line may have.
+    ghost few: { (form : Self.Form) → length (rules.pieces_of form) ≤ 6 };
+}
+
+/// Returns the form of a line with these fields, if it has one.
+#[tactic(auto, unfolding(crate::specs::Rows::find_form))]
+fn form_of<G: Grammar>(fields: &[&[u8]]) -> Option<G::Form>
+    ensures { result ≡ find_form G.rules.pieces_of G.rules.forms (texts fields.now) }
+{
+    G::forms()
+        .iter()
+        .copied()
+        .find(|form| has_form(G::slots(*form), fields))
+}
+
+/// Returns the bytes of the line, if its digits spell some that fit. Digits of a wrong number are
+/// not read.
+fn bytes_of<G: Grammar>(
+    draft: &G,
+    alloc: Global,
+    form: G::Form,
+    fields: &[&[u8]],
+) -> Result<Option<Vec<u8>>, AllocError>
+    ensures { IfOk result (λ o. option_map (λ v. v.items) o ≡ bytes_in G.rules (G.so_far draft.now) form (texts fields.now)) }
+{
+    let digits = hex_field(G::slots(form), fields);
+    if !draft.fits(form, digits.len() as u64 / 2) {
+        return Ok(None);
+    }
+    read_hex(alloc, digits)
+}
+
+/// Takes a line of this form: the tests from that of its position on.
+#[tactic(auto, unfolding(crate::specs::Grammar::judge))]
+fn judge<G: Grammar>(
+    draft: &mut G,
+    alloc: Global,
+    form: G::Form,
+    fields: &[&[u8]],
+) -> Result<(), LineFault<G::Cause>>
+    ensures { Gives (G.so_far draft.new) result (judge G.rules (G.so_far draft.old) form (texts fields.now)) }
+{
+    if draft.is_out_of_order(form, fields) {
+        return Err(LineFault::Wrong(G::cause(Test::Order)));
+    }
+    let Some(numbers) = numbers_in(G::slots(form), fields) else {
+        return Err(LineFault::Wrong(G::cause(Test::Number)));
+    };
+    if let Some(cause) = draft.wrong_numbers(form, &numbers) {
+        return Err(LineFault::Wrong(cause));
+    }
+    let Some(bytes) = bytes_of(draft, alloc, form, fields)? else {
+        return Err(LineFault::Wrong(G::cause(Test::Bytes)));
+    };
+    draft.add(alloc, form, fields, &numbers, bytes)
+}
+
+/// Takes the next line, without its newline: the tests in their order, and the effect of the line.
+// claim with Grammar::forms, Grammar::slots.value, Grammar::slots.few, Grammar::cause,
+//    Grammar::is_out_of_order, Grammar::wrong_numbers, Grammar::fits, Grammar::add: For every table
+//    of forms a line is judged by the same tests in the same order: its form, its position, its
+//    numbers, its bytes, the whole row. The first test that fails gives the fault.
+#[tactic(auto, unfolding(crate::specs::Grammar::step))]
+pub fn take_line<G: Grammar>(
+    draft: &mut G,
+    alloc: Global,
+    line: &[u8],
+) -> Result<(), LineFault<G::Cause>>
+    ensures { Gives (G.so_far draft.new) result (step G.rules (G.so_far draft.old) line.now) }
+{
+    if !is_printable(line) {
+        return Err(LineFault::Wrong(G::cause(Test::Line)));
+    }
+    let Some(fields) = fields(line) else {
+        return Err(LineFault::Wrong(G::cause(Test::Line)));
+    };
+    let Some(form) = form_of::<G>(&fields) else {
+        return Err(LineFault::Wrong(G::cause(Test::Line)));
+    };
+    judge(draft, alloc, form, &fields)
+}

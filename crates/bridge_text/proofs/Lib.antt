@@ -1,4 +1,3 @@
-pub mod FrameLaws
 pub mod TableLaws
 pub mod Follows
 pub mod PositionLaws
@@ -6,4 +5,3 @@ pub mod BackLaws
 pub mod ReadLaws
 pub mod WholeLaws
 pub mod ForwardLaws
-pub mod LawLaws

@@ -9,6 +9,7 @@ use Rattle.line_format.specs.Forms.{Piece, Number, Fit}
 use Rattle.line_format.specs.Rows.{Row, row}
 use Rattle.line_format.proofs.FitLaws.{counted, list_0, list_1}
 use Rattle.line_format.proofs.StepLaws.{not_false}
+use Rattle.line_format.proofs.RowTexts.{Keeps, AreKept}
 use Rattle.bridge_text.specs.declared.scripts.Sent.{Sent}
 use Rattle.bridge_text.specs.declared.forms.Form.{Form}
 use Rattle.bridge_text.specs.declared.forms.Form.TheVariants.{Version, Ports, Rounds, Begin, Frame, End}
@@ -16,8 +17,8 @@ use Rattle.bridge_text.specs.declared.positions.Position.{Position}
 use Rattle.bridge_text.specs.declared.positions.Position.TheVariants.{AtVersion, AtPorts, AtRounds, AtBegin, AtFrames, Ended}
 use Rattle.bridge_text.specs.Table.{pieces_of}
 use Rattle.bridge_text.specs.Spelling.{World, row_of_sent, IsAllowed, IsWorld}
-use Rattle.bridge_text.specs.Judge.{SoFar, world_so_far, ordinal_of, position_of}
-use Rattle.bridge_text.proofs.Follows.{CanFollow, with_row}
+use Rattle.bridge_text.specs.Judge.{SoFar, world_so_far, ordinal_of, position_of, rules}
+use Rattle.bridge_text.proofs.Follows.{CanFollow, with_row, range, few}
 
 -- ---- the rows before a position
 
@@ -45,9 +46,8 @@ Good AtBegin d = (d.sent ≡ []) × IsFew d.ports × (d.rounds ≤ 4000)
 Good AtFrames d = IsWorld (world_so_far d)
 Good Ended d = IsWorld (world_so_far d)
 
-pub record Adds (d : SoFar) (r : Row Form) : Type 0 where
-  pub rows : before (with_row r d).position (with_row r d) ≡ before d.position d ++ r ∷ []
-  pub good : Good (with_row r d).position (with_row r d)
+abbrev Adds : SoFar → Row Form → Type 0
+Adds d r = Keeps rules (λ e. before e.position e) (λ e. Good e.position e) d r
 
 -- ---- positions
 
@@ -115,7 +115,7 @@ allowed_sent : (d : SoFar) (ns frame : List ℕ) → CanFollow d (row Frame ns f
 allowed_sent d ns frame can = record {
   values = subst (λ (ms : List ℕ). Fit (pieces_of Frame) ms) (sym (list_1 ns (counted (pieces_of Frame) ns can.values))) can.values;
   bytes = can.bytes;
-  range = can.range;
+  range = range d (row Frame ns frame) can;
   size = can.size;
 }
 
@@ -127,7 +127,7 @@ frame_rows d ns frame fit =
 
 frame_good : (d : SoFar) (ns frame : List ℕ) → CanFollow d (row Frame ns frame) → IsWorld (world_so_far d) → IsWorld (world_so_far (with_row (row Frame ns frame) d))
 frame_good d ns frame can good =
-    let below : length d.sent < 10000 = leb-false 10000 (length d.sent) can.few in
+    let below : length d.sent < 10000 = leb-false 10000 (length d.sent) (few d (row Frame ns frame) can) in
     record {
       least = good.least;
       most = good.most;
@@ -168,5 +168,5 @@ adds End ns frame d can good =
     record { rows = rw at (ap (λ (r : Row Form). (head_rows d ++ map row_of_sent d.sent) ++ r ∷ []) same); good = rw at at good }
 
 -- A row that can follow preserves the invariant, and adds its line.
-pub row_adds : (d : SoFar) (r : Row Form) → CanFollow d r → Good d.position d → Adds d r
-row_adds d r can good = adds r.form r.numbers r.frame d can good
+pub are_kept : AreKept rules (λ e. before e.position e) (λ e. Good e.position e)
+are_kept d r can good = adds r.form r.numbers r.frame d can good

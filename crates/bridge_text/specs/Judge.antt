@@ -1,10 +1,11 @@
 -- Reading line by line: the effect of a line, and the fault of a faulty one.
-use Rattle.std.specs.Prelude.{ℕ, ◌==◌, ◌&&◌, not, nat_le, if◌then◌else◌, Bool, true, false, List, [], ◌∷◌, ◌++◌, length, slice_index, Option, Some, None, Result, Ok, Err, option_and_then}
-use Rattle.std.specs.List.{list_all}
-use Rattle.line_format.specs.Forms.{fields_of, numbers_of, hex_of, hex_bytes, is_printable}
-use Rattle.line_format.specs.Rows.{find_form}
-use Rattle.line_format.specs.Steps.{◌>>=◌, some_or}
-use Rattle.line_format.specs.Machine.{Machine, Wrong, At, After, NoEnd, read}
+use Rattle.std.specs.Prelude.{ℕ, ◌==◌, ◌&&◌, not, nat_le, if◌then◌else◌, Bool, true, false, List, [], ◌∷◌, ◌++◌, length, slice_index, Option, Some, None, Result, Ok}
+use Rattle.line_format.specs.declared.grammar.Test.{Test}
+use Rattle.line_format.specs.declared.grammar.Test.TheVariants.{Line, Order, Number, Bytes}
+use Rattle.line_format.specs.Machine.{Machine}
+use Rattle.line_format.specs.Grammar.{Rules, machine_of}
+use Rattle.line_format.specs.Texts as texts
+use Rattle.line_format.specs.Texts.{Sense}
 use Rattle.bridge_text.specs.declared.scripts.Sent.{Sent}
 use Rattle.bridge_text.specs.declared.forms.Form.{Form}
 use Rattle.bridge_text.specs.declared.forms.Form.TheVariants.{Version, Ports, Rounds, Begin, Frame, End}
@@ -50,15 +51,8 @@ is_out_of_order d form = not (ordinal_of (position_of form) == ordinal_of d.posi
 
 -- BadNumber
 
-abbrev pub numbers_in : SoFar → Form → List (List ℕ) → Option (List ℕ)
-numbers_in d form fields =
-    option_and_then (λ ns. if is_in_range (world_so_far d) form ns then Some ns else None) (numbers_of (pieces_of form) fields)
-
--- BadFrame
-
-abbrev pub frame_in : Form → List (List ℕ) → Option (List ℕ)
-frame_in form fields =
-    option_and_then (λ bytes. if is_frame_length form (length bytes) then Some bytes else None) (hex_bytes (hex_of (pieces_of form) fields))
+abbrev pub wrong_numbers : SoFar → Form → List ℕ → Option Cause
+wrong_numbers d form ns = if is_in_range (world_so_far d) form ns then None else Some BadNumber
 
 -- TooManyFrames
 
@@ -68,6 +62,9 @@ is_frame _ = false
 
 abbrev pub is_too_many : SoFar → Form → Bool
 is_too_many d form = is_frame form && nat_le 10000 (length d.sent)
+
+abbrev pub wrong_row : SoFar → Form → List ℕ → List ℕ → Option Cause
+wrong_row d form ns frame = if is_too_many d form then Some TooManyFrames else None
 
 -- The effect of a line
 
@@ -79,20 +76,13 @@ add Begin ns frame d = record d { position = AtFrames }
 add Frame ns frame d = record d { sent = d.sent ++ record { port = slice_index ns 0; frame = frame } ∷ [] }
 add End ns frame d = record d { position = Ended }
 
--- A line: the tests in their order
+-- The fault of a line that fails a test
 
-unfoldable pub judge : SoFar → Form → List (List ℕ) → Result SoFar Cause
-judge d form fields =
-    if is_out_of_order d form then Err BadOrder else do
-      ns ← some_or BadNumber (numbers_in d form fields)
-      bytes ← some_or BadFrame (frame_in form fields)
-      if is_too_many d form then Err TooManyFrames else Ok (add form ns bytes d)
-
-unfoldable pub step : SoFar → List ℕ → Result SoFar Cause
-step d line =
-    if list_all is_printable line then (do
-      form ← some_or BadLine (find_form pieces_of all_forms (fields_of line))
-      judge d form (fields_of line)) else Err BadLine
+abbrev pub cause : Test → Cause
+cause Line = BadLine
+cause Order = BadOrder
+cause Number = BadNumber
+cause Bytes = BadFrame
 
 -- The text
 
@@ -102,12 +92,21 @@ at_start = record { position = AtVersion; ports = 0; rounds = 0; sent = [] }
 abbrev pub has_ended : SoFar → Bool
 has_ended d = ordinal_of d.position == 5
 
-abbrev pub machine : Machine SoFar Cause
-machine = record { step = step; ended = has_ended }
+abbrev pub rules : Rules SoFar Form Cause
+rules = record {
+  pieces_of = pieces_of;
+  forms = all_forms;
+  cause = cause;
+  is_out_of_order = λ d form fields. is_out_of_order d form;
+  wrong_numbers = wrong_numbers;
+  fits = λ d form size. is_frame_length form size;
+  wrong_row = wrong_row;
+  add = add;
+  ended = has_ended;
+}
 
--- The value of a text, or its first fault.
-abbrev pub reading : List ℕ → Result SoFar (Wrong Cause)
-reading bytes = read machine at_start bytes
+abbrev pub machine : Machine SoFar Cause
+machine = machine_of rules
 
 -- Answers
 
@@ -119,20 +118,9 @@ fault_at BadFrame n = faults.BadFrame n
 fault_at TooManyFrames n = faults.TooManyFrames n
 
 -- Bytes after the end are a faulty line.
-abbrev pub fault_of : Wrong Cause → BridgeFault
-fault_of (At cause n) = fault_at cause n
-fault_of (After n) = faults.BadLine n
-fault_of NoEnd = faults.NoEnd
-
--- The same with the fault that is returned.
-abbrev pub faulted : Result SoFar (Wrong Cause) → Result SoFar BridgeFault
-faulted (Ok d) = Ok d
-faulted (Err wrong) = Err (fault_of wrong)
-
-abbrev pub world_in : Result SoFar BridgeFault → Result World BridgeFault
-world_in (Ok d) = Ok (world_so_far d)
-world_in (Err fault) = Err fault
+abbrev pub sense : Sense SoFar Cause World BridgeFault
+sense = record { start = at_start; value = λ d. Ok (world_so_far d); at = fault_at; after = λ n. faults.BadLine n; no_end = faults.NoEnd }
 
 -- The run that a text spells, or its first fault.
 abbrev pub answer : List ℕ → Result World BridgeFault
-answer bytes = world_in (faulted (reading bytes))
+answer bytes = texts.answer machine sense bytes

@@ -1,6 +1,6 @@
 //! The position of the next line in a text of a bridge.
 ghost use Rattle.std.specs.Prelude.{◌≡◌};
-ghost use Rattle.bridge_text.specs.Judge.{ordinal_of, position_of};
+ghost use Rattle.bridge_text.specs.Judge.{position_of};
 
 use crate::forms::Form;
 
@@ -16,20 +16,6 @@ pub enum Position {
 }
 
 impl Position {
-    /// Returns the number of the position, from 0.
-    pub fn ordinal(self) -> u8
-        ensures { result ≡ ordinal_of self }
-    {
-        match self {
-            Position::AtVersion => 0,
-            Position::AtPorts => 1,
-            Position::AtRounds => 2,
-            Position::AtBegin => 3,
-            Position::AtFrames => 4,
-            Position::Ended => 5,
-        }
-    }
-
     /// Returns the position at which lines of the form can be.
     pub fn of(form: Form) -> Position
         ensures { result ≡ position_of form }

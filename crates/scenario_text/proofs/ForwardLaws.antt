@@ -7,10 +7,12 @@ use Rattle.std.proofs.lemmas.List.{append-nil, length-append}
 use Rattle.std.proofs.lemmas.List.Sums.{sum_by_push, sum_by-append}
 use Rattle.line_format.specs.Numbers.{number_of}
 use Rattle.line_format.specs.Rows.{Row, row}
-use Rattle.line_format.specs.Machine.{Leads, HasNoNewline, text_of_lines}
+use Rattle.line_format.specs.Machine.{Leads, text_of_lines}
 use Rattle.line_format.proofs.NumberLaws.{number_of-decimal}
-use Rattle.line_format.proofs.MachineLaws.{reads}
-use Rattle.line_format.proofs.RowLaws.{bare, row_plain, text_is_lines}
+use Rattle.line_format.proofs.RowLaws.{bare, text_is_lines}
+use Rattle.line_format.proofs.TextLaws.{IsForward, spelled_is_read}
+use Rattle.line_format.proofs.RowTexts as all
+use Rattle.line_format.proofs.RowTexts.{Reaches, rows_lead, rows_are_lines}
 use Rattle.section_map.specs.Geometry.{Shape, IsShape}
 use Rattle.pci_space.specs.declared.wiring.Wiring.{Wiring}
 use Rattle.pci_space.specs.declared.wiring.Wiring.TheVariants as wirings
@@ -21,40 +23,23 @@ use Rattle.scenario_text.specs.declared.forms.Form.{Form}
 use Rattle.scenario_text.specs.declared.forms.Form.TheVariants.{Version, Peers, Table, Common, Out, Mtu, Begin, End}
 use Rattle.scenario_text.specs.declared.positions.Position.TheVariants.{AtWiring, AtPeer, AtBegin, AtActs, Ended, AtPeers}
 use Rattle.scenario_text.specs.Acts.{cost, turns_of}
-use Rattle.scenario_text.specs.Table.{pieces_of, all_forms}
+use Rattle.scenario_text.specs.Table.{pieces_of}
 use Rattle.scenario_text.specs.ActRows.{row_of_act}
 use Rattle.scenario_text.specs.Sizes.{is_geometry, is_queue}
 use Rattle.scenario_text.specs.Scenario.{World, IsWorld, IsAllowed}
 use Rattle.scenario_text.specs.Spelling.{row_of_wiring, row_of_peer, rows_of_peers, rows_of, spelling, IsSpelling}
-use Rattle.scenario_text.specs.Judge.{SoFar, world_so_far, ordinal_of, at_start, has_ended, machine, reading, faulted, world_in, answer}
+use Rattle.scenario_text.specs.Judge.{SoFar, world_so_far, ordinal_of, at_start, has_ended, rules, machine, sense, answer}
+use Rattle.scenario_text.specs.Laws.{line_count}
 use Rattle.scenario_text.proofs.TableLaws.{is_table}
 use Rattle.scenario_text.proofs.SizeLaws.{HasRegion, is_geometry-true, is_queue-true}
-use Rattle.scenario_text.proofs.Follows.{CanFollow, with_row, step-row, row_of_follows}
+use Rattle.scenario_text.proofs.Follows.{CanFollow, with_row, follows}
 use Rattle.scenario_text.proofs.ActRowLaws.{act_of-row, follows_act}
 
--- ---- rows that follow one another
-
--- Each row can follow, and none is the end.
 abbrev Along : SoFar → List (Row Form) → SoFar → Type 0
-Along d [] e = d ≡ e
-Along d (r ∷ rs) e = CanFollow d r × (has_ended (with_row r d) ≡ false) × Along (with_row r d) rs e
+Along d rs e = all.Along rules d rs e
 
 along-append : (d : SoFar) (rs ss : List (Row Form)) (e f : SoFar) → Along d rs e → Along e ss f → Along d (rs ++ ss) f
-along-append d [] ss e f here later = subst (λ (x : SoFar). Along x ss f) (sym here) later
-along-append d (r ∷ rs) ss e f here later = (here.0, here.1, along-append (with_row r d) rs ss e f here.2 later)
-
-leads-cons : (d now : SoFar) (line : List ℕ) (lines : List (List ℕ)) (e : SoFar) → HasNoNewline line → machine.step d line ≡ Ok now → has_ended now ≡ false → Leads machine now lines e → Leads machine d (line ∷ lines) e
-leads-cons d now line [] e plain is on leads = absurd leads
-leads-cons d now line (next ∷ more) e plain is on leads = (now, plain, is, on, leads)
-
--- Rows up to the last are lines that lead to the end.
-leads : (d : SoFar) (rs : List (Row Form)) (e : SoFar) (r : Row Form) (f : SoFar) → Along d rs e → CanFollow e r → with_row r e ≡ f → has_ended f ≡ true → Leads machine d (map (bare pieces_of) (rs ++ r ∷ [])) f
-leads d [] e r f along can gives ended =
-    let can' = subst (λ (x : SoFar). CanFollow x r) (sym along) can in
-    let gives' = ap (with_row r) along ∙ gives in
-    (row_plain pieces_of all_forms is_table r (row_of_follows d r can'), step-row d r can' ∙ ap (λ (x : SoFar). Ok x) gives', ended)
-leads d (s ∷ rs) e r f along can gives ended =
-    leads-cons d (with_row s d) (bare pieces_of s) (map (bare pieces_of) (rs ++ r ∷ [])) f (row_plain pieces_of all_forms is_table s (row_of_follows d s along.0)) (step-row d s along.0) along.1 (leads (with_row s d) rs e r f along.2 can gives ended)
+along-append d rs ss e f here later = all.along-append rules d rs ss e f here later
 
 -- ---- the head
 
@@ -77,19 +62,19 @@ after_version : (version peers table common out mtu : ℕ) → (2 ≤ peers) × 
     → is_geometry peers table common out ≡ true → is_queue (record { version = version; out = out; mtu = mtu }) ≡ true
     → Along (at_version version) (row Peers (peers ∷ []) [] ∷ row Table (table ∷ []) [] ∷ row Common (common ∷ []) [] ∷ row Out (out ∷ []) [] ∷ row Mtu (mtu ∷ []) [] ∷ []) (at_wiring version peers table common out mtu)
 after_version version peers table common out mtu few t c o m geometry queue = (
-  record { values = (few.0, few.1, tt); bytes = refl; order = quiet _; range = refl; peer = refl; frame = refl; sizes = refl; turns = omega arith },
+  follows _ _ (record { values = (few.0, few.1, tt); bytes = refl; order = quiet _; range = refl; peer = refl; frame = refl; sizes = refl; turns = omega arith }),
   refl,
   (
-    record { values = (omega arith, omega arith, tt); bytes = refl; order = quiet _; range = refl; peer = refl; frame = refl; sizes = refl; turns = omega arith },
+    follows _ _ (record { values = (omega arith, omega arith, tt); bytes = refl; order = quiet _; range = refl; peer = refl; frame = refl; sizes = refl; turns = omega arith }),
     refl,
     (
-      record { values = (omega arith, omega arith, tt); bytes = refl; order = quiet _; range = refl; peer = refl; frame = refl; sizes = refl; turns = omega arith },
+      follows _ _ (record { values = (omega arith, omega arith, tt); bytes = refl; order = quiet _; range = refl; peer = refl; frame = refl; sizes = refl; turns = omega arith }),
       refl,
       (
-        record { values = (omega arith, omega arith, tt); bytes = refl; order = quiet _; range = refl; peer = refl; frame = refl; sizes = geometry; turns = omega arith },
+        follows _ _ (record { values = (omega arith, omega arith, tt); bytes = refl; order = quiet _; range = refl; peer = refl; frame = refl; sizes = geometry; turns = omega arith }),
         refl,
         (
-          record { values = (omega arith, omega arith, tt); bytes = refl; order = quiet _; range = refl; peer = refl; frame = refl; sizes = queue; turns = omega arith },
+          follows _ _ (record { values = (omega arith, omega arith, tt); bytes = refl; order = quiet _; range = refl; peer = refl; frame = refl; sizes = queue; turns = omega arith }),
           refl,
           refl,
         ),
@@ -104,7 +89,7 @@ sizes_along : (version peers table common out mtu : ℕ) → (2 ≤ peers) × (p
 sizes_along version peers table common out mtu few t c o m geometry known queue =
     let itself : version ≡ max 1 version = omega (arith, known.0) in
     let later : List (Row Form) = row Peers (peers ∷ []) [] ∷ row Table (table ∷ []) [] ∷ row Common (common ∷ []) [] ∷ row Out (out ∷ []) [] ∷ row Mtu (mtu ∷ []) [] ∷ [] in (
-      record { values = (known.0, known.1, tt); bytes = refl; order = quiet _; range = refl; peer = refl; frame = refl; sizes = refl; turns = omega arith },
+      follows _ _ (record { values = (known.0, known.1, tt); bytes = refl; order = quiet _; range = refl; peer = refl; frame = refl; sizes = refl; turns = omega arith }),
       refl,
       subst (λ v. Along (at_version v) later (at_wiring version peers table common out mtu)) itself (after_version version peers table common out mtu few t c o m geometry queue),
     )
@@ -116,10 +101,10 @@ at_peers version peers table common out mtu wiring front = record { position = c
 wiring_along : (version peers table common out mtu : ℕ) (wiring : Wiring) → 2 ≤ peers → IsWiring wiring → Along (at_wiring version peers table common out mtu) (row_of_wiring wiring ∷ []) (at_peers version peers table common out mtu wiring [])
 wiring_along version peers table common out mtu (wirings.Msix vectors) some is =
     let open_ : eqb 0 peers ≡ false = ne_eqb 0 peers (λ none. omega arith) in
-    (record { values = (is.0, is.1, tt); bytes = refl; order = quiet _; range = refl; peer = refl; frame = refl; sizes = refl; turns = omega arith }, refl, rw open_ refl)
+    (follows _ _ (record { values = (is.0, is.1, tt); bytes = refl; order = quiet _; range = refl; peer = refl; frame = refl; sizes = refl; turns = omega arith }), refl, rw open_ refl)
 wiring_along version peers table common out mtu wirings.Intx some is =
     let open_ : eqb 0 peers ≡ false = ne_eqb 0 peers (λ none. omega arith) in
-    (record { values = tt; bytes = refl; order = quiet _; range = refl; peer = refl; frame = refl; sizes = refl; turns = omega arith }, refl, rw open_ refl)
+    (follows _ _ (record { values = tt; bytes = refl; order = quiet _; range = refl; peer = refl; frame = refl; sizes = refl; turns = omega arith }), refl, rw open_ refl)
 
 not_ended : (full : Bool) → eqb (ordinal_of (cond full AtBegin AtPeer)) 10 ≡ false
 not_ended true = refl
@@ -150,7 +135,7 @@ peers_along version peers table common out mtu wiring front (b ∷ rest) p same 
     let later = subst (λ (bs : List Bool). Along (at_peers version peers table common out mtu wiring (front ++ b ∷ [])) (rows_of_peers (p + 1) rest) (at_peers version peers table common out mtu wiring bs)) whole
     (peers_along version peers table common out mtu wiring (front ++ b ∷ []) rest (p + 1) (omega arith) (omega arith) few) in
     let t = subst P (sym (peer_gives version peers table common out mtu wiring front p b)) (not_ended _, later) in
-    (peer_follows version peers table common out mtu wiring front p b same (omega arith) few, t.0, t.1)
+    (follows _ _ (peer_follows version peers table common out mtu wiring front p b same (omega arith) few), t.0, t.1)
 
 -- ---- the acts
 
@@ -193,7 +178,7 @@ acts_along w front (a ∷ rest) is all =
     let later = subst (λ (acts : List Act). Along (at_acts w (front ++ a ∷ [])) (map row_of_act rest) (at_acts w acts)) whole (acts_along w (front ++ a ∷ []) rest is (all ∙ sym whole)) in
     let P : SoFar → Type 0 = λ x. (has_ended x ≡ false) × Along x (map row_of_act rest) (at_acts w (front ++ a ∷ rest)) in
     let t = subst P (sym (act_gives (at_acts w front) a)) (refl, later) in
-    (follows_act (at_acts w front) a refl allowed'' few, t.0, t.1)
+    (follows _ _ (follows_act (at_acts w front) a refl allowed'' few), t.0, t.1)
 
 -- ---- the whole text
 
@@ -266,25 +251,35 @@ head_along w is =
     let full : eqb (length w.honest) g.peers ≡ true = eq-eqb _ _ flags in
     let full_state : SoFar = at_peers w.version g.peers (4 * g.table) (4 * g.common) (4 * g.out) w.queue.mtu w.wiring w.honest in
     let begin : CanFollow full_state (row Begin [] []) = record { values = tt; bytes = refl; order = rw full refl; range = refl; peer = refl; frame = refl; sizes = refl; turns = omega arith } in
-    let last : Along full_state (row Begin [] [] ∷ []) (at_acts w []) = (begin, refl, refl) in
+    let last : Along full_state (row Begin [] [] ∷ []) (at_acts w []) = (follows _ _ begin, refl, refl) in
     along-append at_start (flagged w) (row Begin [] [] ∷ []) full_state (at_acts w [])
     (along-append at_start (wired w) (rows_of_peers 0 w.honest) wired_state full_state (along-append at_start (measured w) (row_of_wiring w.wiring ∷ []) measured_state wired_state sizes wires) peers) last
 
-rows_same : (w : World) → acted w ++ row End [] [] ∷ [] ≡ rows_of w
-rows_same w = refl
+-- The rows of a scenario lead to its end.
+spelled_reaches : (w : World) → IsWorld w → Reaches rules at_start (rows_of w) (at_end w)
+spelled_reaches w world =
+    let acts = acts_along w [] w.acts world refl in
+    let end : CanFollow (at_acts w w.acts) (row End [] []) = record { values = tt; bytes = refl; order = refl; range = refl; peer = refl; frame = refl; sizes = refl; turns = omega arith } in
+    record {
+      front = acted w;
+      last = row End [] [];
+      before = at_acts w w.acts;
+      parts = refl;
+      along = along-append at_start (begun w) (map row_of_act w.acts) (at_acts w []) (at_acts w w.acts) (head_along w world) acts;
+      follows = follows _ _ end;
+      gives = refl;
+      ended = refl;
+    }
+
+pub is_forward : IsForward machine sense IsSpelling line_count
+is_forward w bytes is = rows_are_lines rules sense rows_of is_table w (at_end w) (spelled_reaches w is.0) (ap (λ (x : World). Ok x) (world_is w w.acts is.0)) bytes is.1
 
 -- The lines of a scenario's rows lead to its end.
 pub spelled_leads : (w : World) → IsWorld w → Leads machine at_start (map (bare pieces_of) (rows_of w)) (at_end w)
-spelled_leads w world =
-    let acts = acts_along w [] w.acts world refl in
-    let all = along-append at_start (begun w) (map row_of_act w.acts) (at_acts w []) (at_acts w w.acts) (head_along w world) acts in
-    let end : CanFollow (at_acts w w.acts) (row End [] []) = record { values = tt; bytes = refl; order = refl; range = refl; peer = refl; frame = refl; sizes = refl; turns = omega arith } in
-    subst (λ (rs : List (Row Form)). Leads machine at_start (map (bare pieces_of) rs) (at_end w)) (rows_same w) (leads at_start (acted w) (at_acts w w.acts) (row End [] []) (at_end w) all end refl refl)
+spelled_leads w world = rows_lead rules is_table at_start (rows_of w) (at_end w) (spelled_reaches w world)
 
 pub text_is : (w : World) → spelling w ≡ text_of_lines (map (bare pieces_of) (rows_of w))
 text_is w = text_is_lines pieces_of (rows_of w)
 
 pub is_answered : (w : World) (bytes : List ℕ) → IsSpelling w bytes → answer bytes ≡ Ok w
-is_answered w bytes is =
-    let read : reading (text_of_lines (map (bare pieces_of) (rows_of w))) ≡ Ok (at_end w) = reads machine at_start 0 (map (bare pieces_of) (rows_of w)) (at_end w) (spelled_leads w is.0) in
-    ap (λ (t : List ℕ). world_in (faulted (reading t))) (is.1 ∙ text_is w) ∙ ap (λ x. world_in (faulted x)) read ∙ ap (λ (x : World). Ok x) (world_is w w.acts is.0)
+is_answered w bytes is = spelled_is_read machine sense IsSpelling line_count is_forward w bytes is

@@ -2,7 +2,6 @@ pub mod ActLaws
 pub mod SizeLaws
 pub mod HeadLaws
 pub mod TableLaws
-pub mod FrameLaws
 pub mod Follows
 pub mod ActRowLaws
 pub mod PositionLaws
@@ -11,7 +10,6 @@ pub mod ReadLaws
 pub mod WholeLaws
 pub mod ForwardLaws
 pub mod PrintLaws
-pub mod LawLaws
 pub mod LoadLaws
 pub mod EndLaws
 pub mod RunningLaws

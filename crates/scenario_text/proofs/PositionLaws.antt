@@ -11,6 +11,7 @@ use Rattle.line_format.specs.Rows.{Row, row}
 use Rattle.line_format.proofs.FitLaws.{counted, list_0, list_1}
 use Rattle.line_format.proofs.NumberLaws.{number_of-decimal}
 use Rattle.line_format.proofs.StepLaws.{not_false, same_some}
+use Rattle.line_format.proofs.RowTexts.{Keeps, AreKept}
 use Rattle.pci_space.specs.declared.wiring.Wiring.{Wiring}
 use Rattle.pci_space.specs.Wiring.{IsWiring}
 use Rattle.split_ring.specs.Layout.{IsVersion, IsQueue}
@@ -24,9 +25,9 @@ use Rattle.scenario_text.specs.Table.{pieces_of, any_number}
 use Rattle.scenario_text.specs.ActRows.{row_of_act}
 use Rattle.scenario_text.specs.Scenario.{World, IsAllowed, AreAllowed}
 use Rattle.scenario_text.specs.Spelling.{row_of_wiring, row_of_peer, rows_of_peers}
-use Rattle.scenario_text.specs.Judge.{SoFar, world_so_far, ordinal_of, position_of, is_act, with_act}
+use Rattle.scenario_text.specs.Judge.{SoFar, world_so_far, ordinal_of, position_of, is_act, with_act, rules}
 use Rattle.scenario_text.proofs.SizeLaws.{HasRegion, has_region, has_queue, small_section}
-use Rattle.scenario_text.proofs.Follows.{CanFollow, with_row}
+use Rattle.scenario_text.proofs.Follows.{CanFollow, tests}
 use Rattle.scenario_text.proofs.ActRowLaws.{same_row, act_row, allowed_act}
 
 -- ---- the rows before a position
@@ -97,9 +98,14 @@ Good AtBegin d = IsMeasured d × (d.acts ≡ []) × (length d.honest ≡ d.peers
 Good AtActs d = IsMeasured d × Acted d
 Good Ended d = IsMeasured d × Acted d
 
-pub record Adds (d : SoFar) (r : Row Form) : Type 0 where
-  pub rows : before (with_row r d).position (with_row r d) ≡ before d.position d ++ r ∷ []
-  pub good : Good (with_row r d).position (with_row r d)
+abbrev pub rows_so_far : SoFar → List (Row Form)
+rows_so_far d = before d.position d
+
+abbrev pub IsGood : SoFar → Type 0
+IsGood d = Good d.position d
+
+abbrev Adds : SoFar → Row Form → Type 0
+Adds d r = Keeps rules rows_so_far IsGood d r
 
 -- ---- positions
 
@@ -288,5 +294,5 @@ adds End ns frame d can good =
 adds form ns frame d can good = adds_act d form ns frame refl refl can good
 
 -- A row that can follow preserves the invariant, and adds its line.
-pub row_adds : (d : SoFar) (r : Row Form) → CanFollow d r → Good d.position d → Adds d r
-row_adds d r can good = adds r.form r.numbers r.frame d can good
+pub are_kept : AreKept rules rows_so_far IsGood
+are_kept d r can good = adds r.form r.numbers r.frame d (tests d r can) good

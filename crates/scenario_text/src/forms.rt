@@ -1,10 +1,9 @@
 //! The forms of a scenario's lines, as a table.
 ghost use Rattle.std.specs.Prelude.{◌≡◌, ◌≤◌, length};
-ghost use Rattle.line_format.specs.Forms.{pieces, texts};
-ghost use Rattle.line_format.specs.Rows.{find_form};
-ghost use Rattle.scenario_text.specs.Table.{pieces_of, all_forms};
+ghost use Rattle.line_format.specs.Forms.{pieces};
+ghost use Rattle.scenario_text.specs.Table.{pieces_of};
 
-use line_format::{FieldKind, has_form};
+use line_format::FieldKind;
 
 /// A form of a scenario's lines. Two words at one position make two forms.
 #[derive(Clone, Copy, Debug, PartialEq, Eq)]
@@ -75,7 +74,7 @@ pub enum Form {
     End,
 }
 
-const FORMS: [Form; 32] = [
+pub const FORMS: [Form; 32] = [
     Form::Version,
     Form::Peers,
     Form::Table,
@@ -196,15 +195,4 @@ impl Form {
             Form::End => &[FieldKind::Word(b"end")],
         }
     }
-}
-
-/// Returns the form of a line with these fields, if it has one.
-#[tactic(auto, unfolding(line_format::specs::Rows::find_form))]
-pub fn form_of(fields: &[&[u8]]) -> Option<Form>
-    ensures { result ≡ find_form pieces_of all_forms (texts fields.now) }
-{
-    FORMS
-        .iter()
-        .copied()
-        .find(|form| has_form(form.slots(), fields))
 }

@@ -1,6 +1,6 @@
 //! The lines that can come next in a scenario's text.
 ghost use Rattle.std.specs.Prelude.{◌≡◌};
-ghost use Rattle.scenario_text.specs.Judge.{ordinal_of, position_of};
+ghost use Rattle.scenario_text.specs.Judge.{position_of};
 
 use crate::forms::Form;
 
@@ -21,25 +21,6 @@ pub enum Position {
 }
 
 impl Position {
-    /// Returns the number of the position in the order of the text, from 0.
-    pub fn ordinal(self) -> u8
-        ensures { result ≡ ordinal_of self }
-    {
-        match self {
-            Position::AtVersion => 0,
-            Position::AtPeers => 1,
-            Position::AtTable => 2,
-            Position::AtCommon => 3,
-            Position::AtOut => 4,
-            Position::AtMtu => 5,
-            Position::AtWiring => 6,
-            Position::AtPeer => 7,
-            Position::AtBegin => 8,
-            Position::AtActs => 9,
-            Position::Ended => 10,
-        }
-    }
-
     /// Returns the position at which lines of the form can be.
     pub fn of(form: Form) -> Position
         ensures { result ≡ position_of form }

@@ -1,22 +1,22 @@
-//! Taking a line into a draft.
-ghost use Rattle.std.specs.Prelude.{ℕ, ◌==◌, ◌||◌, ◌&&◌, slice_index_or, false, ◌≡◌, ◌<◌, ◌≤◌, ◌+◌, ◌^◌, ◌∷◌, [], IsTrue, slice_index, OnOk, IfOk, IfSome, option_map, true};
-ghost use Rattle.line_format.specs.Forms.{texts, AreInRange};
+//! A scenario's text as a grammar: the tests of a line, and its effect on a draft.
+ghost use Rattle.std.specs.Prelude.{ℕ, ◌==◌, ◌||◌, ◌&&◌, slice_index_or, false, ◌≡◌, ◌<◌, ◌≤◌, ◌+◌, ◌∷◌, [], OnOk};
+ghost use Rattle.std.proofs.Common.{rules as found};
+ghost use Rattle.line_format.specs.Forms.{AreInRange};
 ghost use Rattle.scenario_text.specs.declared.forms.Form.TheVariants.{Out, Mtu};
 ghost use Rattle.scenario_text.specs.Table.{pieces_of};
 ghost use Rattle.scenario_text.specs.Acts.{cost, peer_of, is_auto, is_storm, is_call};
-ghost use Rattle.scenario_text.specs.Judge.{SoFar, ordinal_of, position_of, numbers_in, frame_in, head_with, with_act, with_peer, judge, step, machine};
+ghost use Rattle.scenario_text.specs.Judge.{SoFar, ordinal_of, position_of, head_with, with_act, with_peer, rules, machine};
 ghost use Rattle.line_format.specs.Reading.{Gives};
 ghost use Rattle.scenario_text.specs.Drafts.{so_far};
 
 use crate::acts::Act;
 use crate::drafts::Draft;
 use crate::faults::Cause;
-use crate::forms::{Form, form_of};
+use crate::forms::{FORMS, Form};
 use crate::judging::{act_of, is_frame_size, is_in_range, is_its_peer, is_out_of_order};
 use crate::positions::Position;
-use arrayvec::ArrayVec;
 use ivs_base::{Frame, NoMemory};
-use line_format::{LineFault, TakeLines, hex_field, is_printable, number_at, numbers_in, read_hex};
+use line_format::{FieldKind, Grammar, LineFault, TakeLines, Test, number_at, take_line};
 use pci_space::Wiring;
 use section_map::Geometry;
 use split_ring::Queue;
@@ -49,38 +49,6 @@ impl Act {
             Act::Tick { .. } | Act::Offer { .. } | Act::Poll { .. } | Act::Stop { .. }
         )
     }
-}
-
-/// Returns the numbers of the line, if each of them is a number in its range.
-fn numbers(draft: &Draft, form: Form, fields: &[&[u8]]) -> Option<ArrayVec<u64, 6>>
-    ensures value { option_map (λ v. v.items) result ≡ numbers_in (so_far draft.now) form (texts fields.now) }
-    ensures limits { IfSome result (λ v. AreInRange (pieces_of form) v.items) }
-{
-    let numbers = numbers_in(form.slots(), fields)?;
-    if !is_in_range(draft, form, &numbers) {
-        return None;
-    }
-    Some(numbers)
-}
-
-/// Returns the frame of the line, if its digits spell one that fits. The frame is empty if the form
-/// has none. Digits of a wrong number are not read.
-fn frame(
-    alloc: Global,
-    draft: &Draft,
-    form: Form,
-    fields: &[&[u8]],
-) -> Result<Option<Frame>, NoMemory>
-    ensures { IfOk result (λ o. o ≡ frame_in (so_far draft.now) form (texts fields.now)) }
-{
-    let digits = hex_field(form.slots(), fields);
-    if !is_frame_size(draft, form, digits.len() as u64 / 2) {
-        return Ok(None);
-    }
-    let Some(bytes) = read_hex(alloc, digits)? else {
-        return Ok(None);
-    };
-    Ok(Some(Frame::of(alloc, &bytes)?))
 }
 
 /// Sets the flag of the peer if `on` is set.
@@ -193,25 +161,67 @@ impl Draft {
         }
         Ok(())
     }
+}
 
-    #[tactic(auto, unfolding(crate::specs::Judge::judge))]
-    fn judge(&mut self, alloc: Global, form: Form, fields: &[&[u8]]) -> Result<(), LineFault<Cause>>
-        ensures { Gives (so_far self.new) result (judge (so_far self.old) form (texts fields.now)) }
-    {
-        if is_out_of_order(self, form, fields) {
-            return Err(LineFault::Wrong(Cause::BadOrder));
+impl Grammar for Draft {
+    type Form = Form;
+
+    type Cause = Cause;
+
+    ghost SoFar = { SoFar };
+
+    ghost so_far = { so_far };
+
+    ghost rules = { rules };
+
+    ghost few = { Prim.search found };
+
+    fn forms() -> &'static [Form] {
+        &FORMS
+    }
+
+    fn slots(form: Form) -> &'static [FieldKind] {
+        form.slots()
+    }
+
+    fn cause(test: Test) -> Cause {
+        match test {
+            Test::Line => Cause::BadLine,
+            Test::Order => Cause::BadOrder,
+            Test::Number => Cause::BadNumber,
+            Test::Bytes => Cause::BadFrame,
         }
-        let Some(numbers) = numbers(self, form, fields) else {
-            return Err(LineFault::Wrong(Cause::BadNumber));
-        };
-        if !is_its_peer(self, form, &numbers) {
-            return Err(LineFault::Wrong(Cause::BadPeer));
+    }
+
+    fn is_out_of_order(&self, form: Form, fields: &[&[u8]]) -> bool {
+        is_out_of_order(self, form, fields)
+    }
+
+    fn wrong_numbers(&self, form: Form, numbers: &[u64]) -> Option<Cause> {
+        if !is_in_range(self, form, numbers) {
+            return Some(Cause::BadNumber);
         }
-        let Some(frame) = frame(alloc, self, form, fields)? else {
-            return Err(LineFault::Wrong(Cause::BadFrame));
-        };
-        match act_of(form, &numbers, frame) {
-            None => self.add_head(form, &numbers),
+        if !is_its_peer(self, form, numbers) {
+            return Some(Cause::BadPeer);
+        }
+        None
+    }
+
+    fn fits(&self, form: Form, size: u64) -> bool {
+        is_frame_size(self, form, size)
+    }
+
+    #[tactic(auto, using(crate::proofs::Follows::small_peer))]
+    fn add(
+        &mut self,
+        alloc: Global,
+        form: Form,
+        _fields: &[&[u8]],
+        numbers: &[u64],
+        bytes: Vec<u8>,
+    ) -> Result<(), LineFault<Cause>> {
+        match act_of(form, numbers, Frame::of(alloc, &bytes)?) {
+            None => self.add_head(form, numbers),
             Some(act) => {
                 if MOST_TURNS < self.turns + act.cost() {
                     return Err(LineFault::Wrong(Cause::TooManyTurns));
@@ -232,21 +242,11 @@ impl TakeLines for Draft {
 
     ghost machine = { machine };
 
-    #[tactic(auto, unfolding(crate::specs::Judge::step))]
     fn take(&mut self, alloc: Global, line: &[u8]) -> Result<(), LineFault<Cause>> {
-        if !is_printable(line) {
-            return Err(LineFault::Wrong(Cause::BadLine));
-        }
-        let Some(fields) = line_format::fields(line) else {
-            return Err(LineFault::Wrong(Cause::BadLine));
-        };
-        let Some(form) = form_of(&fields) else {
-            return Err(LineFault::Wrong(Cause::BadLine));
-        };
-        self.judge(alloc, form, &fields)
+        take_line(self, alloc, line)
     }
 
     fn has_ended(&self) -> bool {
-        self.position.ordinal() == 10
+        self.position == Position::Ended
     }
 }

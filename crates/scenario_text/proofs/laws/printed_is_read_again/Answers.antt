@@ -1,5 +1,7 @@
-use Rattle.scenario_text.proofs.LawLaws.{read_again}
+use Rattle.std.proofs.Common.{refl}
+use Rattle.scenario_text.specs.Spelling.{world_of}
+use Rattle.scenario_text.proofs.ForwardLaws.{is_answered}
 use Rattle.scenario_text.proofs.laws.printed_is_read_again.Goals as goal
 
 pub returns : goal.returns
-returns c = read_again
+returns c = λ scenario. is_answered (world_of scenario) _ (scenario.world, refl)

@@ -1,5 +1,6 @@
 -- The meaning of the fields of an endpoint.
-use Rattle.std.specs.Prelude.{◌≡◌, ◌≢◌, ◌+◌, ◌*◌, ◌^◌, ◌≤◌, true, is_some}
+use Rattle.std.specs.Prelude.{◌≡◌, ◌≢◌, ◌+◌, ◌*◌, ◌≤◌, true, is_some}
+use Rattle.section_map.specs.declared.limits.TheConstants.{LARGEST_REGION}
 use Rattle.call_grammar.specs.Ends.{End}
 use Rattle.call_grammar.specs.Places as places
 use Rattle.call_grammar.specs.Reach.{HasSections}
@@ -29,8 +30,8 @@ seen i = record {
 -- - the endpoint refines an end.
 pub record IsWellFormed (i : endpoint.Inside) : Type 0 where
   pub sections : HasSections (seen i).config
-  pub own_room : 4 * i.own + i.tx.sizes.out ≤ 2 ^ 24
-  pub their_room : 4 * i.tx.theirs + i.tx.sizes.out ≤ 2 ^ 24
+  pub own_room : 4 * i.own + i.tx.sizes.out ≤ LARGEST_REGION
+  pub their_room : 4 * i.tx.theirs + i.tx.sizes.out ≤ LARGEST_REGION
   pub sender : tx.IsMadeFor i.tx (seen i).config
   pub receiver : rx.IsMadeFor i.rx (seen i).config
   pub mark : i.place ≢ Refusing → i.handshake.mark ≡ is_some i.refused

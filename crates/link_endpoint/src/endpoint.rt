@@ -1,5 +1,6 @@
 //! One end of the link, which makes its calls step by step. It performs no access itself.
 ghost use Rattle.std.specs.Prelude.{◌≡◌, ℕ, ◌+◌, ◌*◌, ◌%◌, ◌<◌, ◌≤◌, ◌↔◌, not, is_some, Some, None, List, [], ◌∷◌, true, false, IsTrue, IfOk, IfSome, ◌++◌, length, take, flat_map};
+ghost use Rattle.split_ring.specs.declared.sizes.TheConstants.{FRAME_OVERHEAD, SHORTEST_FRAME};
 ghost use Rattle.call_grammar.specs.Ends.{End, fresh, after_reset};
 ghost use Rattle.call_grammar.specs.Calls.{EndConfig, Offer, in_run};
 ghost use Rattle.call_grammar.specs.Places as places;
@@ -135,7 +136,7 @@ impl Endpoint {
 
     /// Returns the length in bytes of the longest frame that may be offered: the MTU plus 18.
     pub fn longest(&self) -> u32
-        ensures { result ≡ self.now.config.sizes.mtu + 18 }
+        ensures { result ≡ self.now.config.sizes.mtu + FRAME_OVERHEAD }
     {
         self.tx.longest()
     }
@@ -145,7 +146,7 @@ impl Endpoint {
     /// refusals, sessions and resets. It is empty before the first offer.
     pub fn offered(&self) -> &[u8]
         ensures value { result.now ≡ offered self.now }
-        ensures most { length result.now ≤ self.now.config.sizes.mtu + 18 }
+        ensures most { length result.now ≤ self.now.config.sizes.mtu + FRAME_OVERHEAD }
     {
         self.tx.frame()
     }
@@ -207,7 +208,7 @@ impl Endpoint {
     //    an offer needs.
     pub fn offer(&mut self, frame: &[u8])
         requires closed { is_busy self.old ≡ false }
-        requires frame { (14 ≤ length frame.now) × (length frame.now ≤ self.old.config.sizes.mtu + 18) }
+        requires frame { (SHORTEST_FRAME ≤ length frame.now) × (length frame.now ≤ self.old.config.sizes.mtu + FRAME_OVERHEAD) }
         ensures refines { (config : EndConfig) (end : End) → RefinesAt self.old config end places.Closed →
             RefinesAt self.new config end (places.first_place config end (Offer frame.now)) }
         ensures few { AtEachEnd self.old (λ config end _. HasFewInFlight config end) }
@@ -231,7 +232,7 @@ impl Endpoint {
     //    a copy: the same call of the grammar.
     pub fn offer_again(&mut self)
         requires closed { is_busy self.old ≡ false }
-        requires some { 14 ≤ length (offered self.old) }
+        requires some { SHORTEST_FRAME ≤ length (offered self.old) }
         ensures refines { (config : EndConfig) (end : End) → RefinesAt self.old config end places.Closed →
             RefinesAt self.new config end (places.first_place config end (Offer (offered self.old))) }
         ensures few { AtEachEnd self.old (λ config end _. HasFewInFlight config end) }

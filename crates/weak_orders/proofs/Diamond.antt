@@ -1,6 +1,6 @@
 -- Each of two ends takes a load: what holds after either load alone holds after both.
 use Rattle.std.proofs.Common.{◌≡◌, ℕ, zero, suc, ◌+◌, ◌-◌, ◌⊎◌, inl, inr, Bool, true, false, List, [], ◌∷◌, ◌++◌, refl, sym, ap, ◌∙◌, subst, arith}
-use Rattle.std.specs.Prelude.{◌==◌, if◌then◌else◌}
+use Rattle.std.specs.Prelude.{◌==◌, if◌then◌else◌, ◌%◌}
 use Rattle.split_ring.specs.declared.steps.Access.TheVariants as access
 use Rattle.link_handshake.specs.declared.Phase.TheVariants.{Reset, Init, Ready, Run}
 use Rattle.link_handshake.specs.declared.Move.{Move}
@@ -10,14 +10,13 @@ use Rattle.call_grammar.specs.Steps.{Mark, Saw, Reclaim, Full, Accept, Look, Del
 use Rattle.call_grammar.specs.Ends.{End, with_mark, with_marks, end_after}
 use Rattle.call_grammar.specs.Ticks.{EndConfig, tick_marks}
 use Rattle.call_grammar.specs.Places.{Place, Closed, ReadingOtherState, Clearing, WritingState, ReadingUsedIndex, ReadingUsedId, ReadingAvailEvent, ReadingAvailIndex, ReadingAvailEntry, ReadingDescAddressLow, ReadingDescAddressHigh, ReadingDescLength, ReadingDescFlags, ReadingFrameWord, clear_place, tick_place, access_at, next_place, step_at}
-use Rattle.std.specs.Prelude.{nat_le}
 use Rattle.split_ring.specs.declared.ranges.FieldName.{FieldName}
 use Rattle.split_ring.specs.declared.ranges.FieldName.TheVariants as field_name
-use Rattle.split_ring.specs.Layout.{size_of}
-use Rattle.split_ring.specs.Spelling.{high_half, low_half}
+use Rattle.split_ring.specs.Spelling.{high_half, low_half, desc_flags}
+use Rattle.split_ring.specs.Ranges.{is_avail_entry, is_desc_address, is_desc_length, is_desc_flags, is_used_id, is_avail_index, is_used_index}
 use Rattle.call_grammar.specs.Words.{address_of, frame_in}
 use Rattle.call_grammar.specs.Offers.{PendingOffer, refusal, frame_fits, full_marks, returned_by, reclaim_marks, used_index_marks, used_id_marks, descriptor_of, wants_doorbell, avail_event_marks}
-use Rattle.call_grammar.specs.Polls.{is_entry, is_address, is_length, entry_in, entry_marks, address_marks, length_marks, flags_marks, published_by, look_marks, avail_index_marks}
+use Rattle.call_grammar.specs.Polls.{entry_in, entry_marks, address_marks, length_marks, flags_marks, published_by, look_marks, avail_index_marks}
 use Rattle.link_invariant.specs.Fields.{Field}
 use Rattle.link_invariant.specs.LinkConfig.{LinkConfig, config_of, fields}
 use Rattle.link_invariant.specs.EndInvariant.{PlaceInvariant, EndInvariant}
@@ -113,16 +112,16 @@ quiet_full : (config : EndConfig) (pending : PendingOffer) (freed : ℕ) → IsQ
 quiet_full config pending freed = one_or (frame_fits config pending freed) [] (Full ∷ []) tt tt
 
 quiet_used : (config : EndConfig) (pending : PendingOffer) (freed value : ℕ) → IsQuiet (used_index_marks config pending freed value)
-quiet_used config pending freed value = let n = returned_by freed value in one_or (nat_le n (pending.number - freed)) (reclaim_marks config pending freed n) (refusal field_name.UsedIndex (high_half value)) (one_or (n == 0) (Reclaim 0 ∷ full_marks config pending freed) (Reclaim n ∷ []) (quiet_full config pending freed) tt) tt
+quiet_used config pending freed value = let n = returned_by freed value in one_or (is_used_index (freed % 65536) (high_half value) (pending.number - freed)) (reclaim_marks config pending freed n) (refusal field_name.UsedIndex (high_half value)) (one_or (n == 0) (Reclaim 0 ∷ full_marks config pending freed) (Reclaim n ∷ []) (quiet_full config pending freed) tt) tt
 
 quiet_id : (config : EndConfig) (pending : PendingOffer) (freed more value : ℕ) → IsQuiet (used_id_marks config pending freed more value)
-quiet_id config pending freed more value = one_or (value == descriptor_of config freed) (if more == 0 then full_marks config pending (freed + 1) else []) (refusal field_name.UsedId value) (one_or (more == 0) (full_marks config pending (freed + 1)) [] (quiet_full config pending (freed + 1)) tt) tt
+quiet_id config pending freed more value = one_or (is_used_id (descriptor_of config freed) value) (if more == 0 then full_marks config pending (freed + 1) else []) (refusal field_name.UsedId value) (one_or (more == 0) (full_marks config pending (freed + 1)) [] (quiet_full config pending (freed + 1)) tt) tt
 
 quiet_event : (number value : ℕ) → IsQuiet (avail_event_marks number value)
 quiet_event number value = one_or (wants_doorbell (low_half value) number) [] (Over ∷ []) tt tt
 
 quiet_look : (config : EndConfig) (taken : ℕ) (last : Bool) (value : ℕ) → IsQuiet (avail_index_marks config taken last value)
-quiet_look config taken last value = let n = published_by taken value in one_or (nat_le n (size_of config.sizes)) (look_marks last n) (refusal field_name.AvailIndex (high_half value)) (one_or (n == 0) (if last then Look 0 ∷ Done ∷ [] else Look 0 ∷ []) (Look n ∷ []) (one_or last (Look 0 ∷ Done ∷ []) (Look 0 ∷ []) tt tt) tt) tt
+quiet_look config taken last value = let n = published_by taken value in one_or (is_avail_index config.sizes (taken % 65536) (high_half value)) (look_marks last n) (refusal field_name.AvailIndex (high_half value)) (one_or (n == 0) (if last then Look 0 ∷ Done ∷ [] else Look 0 ∷ []) (Look n ∷ []) (one_or last (Look 0 ∷ Done ∷ []) (Look 0 ∷ []) tt tt) tt) tt
 
 quiet_word : (words bytes : ℕ) (read : List ℕ) → IsQuiet (if words == 0 then Deliver (frame_in bytes read) ∷ [] else [])
 quiet_word words bytes read = one_or (words == 0) (Deliver (frame_in bytes read) ∷ []) [] tt tt
@@ -133,11 +132,11 @@ look_at link_config memory p end (ReadingUsedIndex pending freed) value word e h
 look_at link_config memory p end (ReadingUsedId pending freed more) value word e h = inr (works end (used_id_marks (config_of link_config p) pending freed more value) h.0 (quiet_id (config_of link_config p) pending freed more value))
 look_at link_config memory p end (ReadingAvailEvent number) value word e h = inr (works end (avail_event_marks number value) h.0 (quiet_event number value))
 look_at link_config memory p end (ReadingAvailIndex taken last) value word e h = inr (works end (avail_index_marks (config_of link_config p) taken last value) h.0 (quiet_look (config_of link_config p) taken last value))
-look_at link_config memory p end (ReadingAvailEntry number more) value word e h = inr (works end (entry_marks (config_of link_config p) number value) h.0 (quiet_test (is_entry link_config.sizes (entry_in (config_of link_config p) number value)) field_name.AvailEntry (entry_in (config_of link_config p) number value)))
+look_at link_config memory p end (ReadingAvailEntry number more) value word e h = inr (works end (entry_marks (config_of link_config p) number value) h.0 (quiet_test (is_avail_entry link_config.sizes (entry_in (config_of link_config p) number value)) field_name.AvailEntry (entry_in (config_of link_config p) number value)))
 look_at link_config memory p end (ReadingDescAddressLow number more entry) value word e h = inr (works end [] h.0 tt)
-look_at link_config memory p end (ReadingDescAddressHigh number more entry low) value word e h = inr (works end (address_marks (config_of link_config p) low value) h.0 (quiet_test (is_address link_config.sizes (address_of low value)) field_name.DescAddress (address_of low value)))
-look_at link_config memory p end (ReadingDescLength number more entry address) value word e h = inr (works end (length_marks (config_of link_config p) address value) h.0 (quiet_test (is_length link_config.sizes address value) field_name.DescLength value))
-look_at link_config memory p end (ReadingDescFlags number more entry address bytes) value word e h = inr (works end (flags_marks value) h.0 (quiet_test (low_half value == 0) field_name.DescFlags (low_half value)))
+look_at link_config memory p end (ReadingDescAddressHigh number more entry low) value word e h = inr (works end (address_marks (config_of link_config p) low value) h.0 (quiet_test (is_desc_address link_config.sizes (address_of low value)) field_name.DescAddress (address_of low value)))
+look_at link_config memory p end (ReadingDescLength number more entry address) value word e h = inr (works end (length_marks (config_of link_config p) address value) h.0 (quiet_test (is_desc_length link_config.sizes address value) field_name.DescLength value))
+look_at link_config memory p end (ReadingDescFlags number more entry address bytes) value word e h = inr (works end (flags_marks value) h.0 (quiet_test (is_desc_flags (desc_flags value)) field_name.DescFlags (desc_flags value)))
 look_at link_config memory p end (ReadingFrameWord number more entry address bytes read words) value word e h = inr (works end (if words == 0 then Deliver (frame_in bytes (read ++ value ∷ [])) ∷ [] else []) h.0 (quiet_word words bytes (read ++ value ∷ [])))
 look_at link_config memory p end place value word e h = absurd (cc)
 

@@ -8,14 +8,15 @@ use Rattle.std.proofs.Math.Seq.{get_or-append_seam}
 use Rattle.split_ring.specs.declared.ranges.FieldName.TheVariants as field_name
 use Rattle.split_ring.specs.declared.steps.Access.{Access}
 use Rattle.split_ring.specs.declared.steps.Access.TheVariants as access
-use Rattle.split_ring.specs.Spelling.{low_half}
+use Rattle.split_ring.specs.Spelling.{desc_flags}
+use Rattle.split_ring.specs.Ranges.{is_avail_entry, is_desc_address, is_desc_length, is_desc_flags}
 use Rattle.split_ring.proofs.Frames.{frames_lem}
 use Rattle.link_handshake.specs.declared.Phase.TheVariants.{Init}
 use Rattle.call_grammar.specs.Steps.{Mark, Saw, Reclaim, Full, Accept, Look, Deliver, Return, Done, Down, Refuse, Over}
 use Rattle.call_grammar.specs.Ends.{End, with_mark, with_marks, with_access, end_after}
 use Rattle.call_grammar.specs.Words.{words_for, lengths_of, address_of, frame_in}
 use Rattle.call_grammar.specs.Offers.{refusal, descriptor_of}
-use Rattle.call_grammar.specs.Polls.{is_entry, is_address, is_length, entry_in}
+use Rattle.call_grammar.specs.Polls.{entry_in}
 use Rattle.call_grammar.specs.Places.{Place, WritingState, Refusing, ReadingUsedId, ReadingAvailEntry, ReadingDescAddressLow, ReadingDescAddressHigh, ReadingDescLength, ReadingDescFlags, ReadingFrameWord, words_place, ids_place, access_at, next_place, step_at}
 use Rattle.call_grammar.proofs.OfferLists.{yes, no}
 use Rattle.link_invariant.specs.Fields.{Field}
@@ -23,6 +24,7 @@ use Rattle.link_invariant.specs.LinkConfig.{LinkConfig, config_of, first_words}
 use Rattle.link_invariant.specs.EndInvariant.{frame_at, start_in, PlaceInvariant}
 use Rattle.link_invariant.specs.Pair.{Polls}
 use Rattle.weak_orders.specs.Memory.{Moment, Action, Starts, Begins, Takes, Fences, Hears, Resets, Does}
+use Rattle.split_ring.proofs.Tests.{flags_tells}
 
 passed : (b : Bool) (x : Place) → (if b then x else Refusing) ≢ Refusing → b ≡ true
 passed true x h = refl
@@ -72,25 +74,25 @@ same_look link_config p end (ReadingUsedId pending freed more) v w fs gs t r e a
     same_value link_config p end (ReadingUsedId pending freed more) v w (is_so v d (passed (v == d) (ids_place (config_of link_config p) pending (freed + 1) more) a.calm) ∙ sym (is_so w d (passed (w == d) (ids_place (config_of link_config p) pending (freed + 1) more) b.calm)))
 same_look link_config p end (ReadingAvailEntry number more) v w fs gs t r e a b =
     let x = entry_in (config_of link_config p) number v in let y = entry_in (config_of link_config p) number w in
-    let f = subst (Polls link_config a.field fs) (yes (is_entry link_config.sizes x) (ReadingDescAddressLow number more x) Refusing (passed (is_entry link_config.sizes x) (ReadingDescAddressLow number more x) a.calm)) a.polls in
-    let g = subst (Polls link_config b.field gs) (yes (is_entry link_config.sizes y) (ReadingDescAddressLow number more y) Refusing (passed (is_entry link_config.sizes y) (ReadingDescAddressLow number more y) b.calm)) b.polls in
+    let f = subst (Polls link_config a.field fs) (yes (is_avail_entry link_config.sizes x) (ReadingDescAddressLow number more x) Refusing (passed (is_avail_entry link_config.sizes x) (ReadingDescAddressLow number more x) a.calm)) a.polls in
+    let g = subst (Polls link_config b.field gs) (yes (is_avail_entry link_config.sizes y) (ReadingDescAddressLow number more y) Refusing (passed (is_avail_entry link_config.sizes y) (ReadingDescAddressLow number more y) b.calm)) b.polls in
     let same : x ≡ y = f.1 ∙ sym g.1 in
-    (ap (λ (k : ℕ). with_marks end (if is_entry link_config.sizes k then [] else refusal field_name.AvailEntry k)) same, ap (λ (k : ℕ). if is_entry link_config.sizes k then ReadingDescAddressLow number more k else Refusing) same)
+    (ap (λ (k : ℕ). with_marks end (if is_avail_entry link_config.sizes k then [] else refusal field_name.AvailEntry k)) same, ap (λ (k : ℕ). if is_avail_entry link_config.sizes k then ReadingDescAddressLow number more k else Refusing) same)
 same_look link_config p end (ReadingDescAddressLow number more entry) v w fs gs t r e a b =
     let up = a.polls.0 in same_value link_config p end (ReadingDescAddressLow number more entry) v w (a.polls.2 ∙ (sym (start_more link_config fs gs t number e (omega arith)) ∙ sym b.polls.2))
 same_look link_config p end (ReadingDescAddressHigh number more entry low) v w fs gs t r e a b =
     let x = address_of low v in let y = address_of low w in
-    let f = subst (Polls link_config a.field fs) (yes (is_address link_config.sizes x) (ReadingDescLength number more entry x) Refusing (passed (is_address link_config.sizes x) (ReadingDescLength number more entry x) a.calm)) a.polls in
-    let g = subst (Polls link_config b.field gs) (yes (is_address link_config.sizes y) (ReadingDescLength number more entry y) Refusing (passed (is_address link_config.sizes y) (ReadingDescLength number more entry y) b.calm)) b.polls in
+    let f = subst (Polls link_config a.field fs) (yes (is_desc_address link_config.sizes x) (ReadingDescLength number more entry x) Refusing (passed (is_desc_address link_config.sizes x) (ReadingDescLength number more entry x) a.calm)) a.polls in
+    let g = subst (Polls link_config b.field gs) (yes (is_desc_address link_config.sizes y) (ReadingDescLength number more entry y) Refusing (passed (is_desc_address link_config.sizes y) (ReadingDescLength number more entry y) b.calm)) b.polls in
     let up = f.0 in let same : x ≡ y = f.2 ∙ (sym (start_more link_config fs gs t number e (omega arith)) ∙ sym g.2) in
     same_value link_config p end (ReadingDescAddressHigh number more entry low) v w (omega arith)
 same_look link_config p end (ReadingDescLength number more entry address) v w fs gs t r e a b =
-    let f = subst (Polls link_config a.field fs) (yes (is_length link_config.sizes address v) (ReadingDescFlags number more entry address v) Refusing (passed (is_length link_config.sizes address v) (ReadingDescFlags number more entry address v) a.calm)) a.polls in
-    let g = subst (Polls link_config b.field gs) (yes (is_length link_config.sizes address w) (ReadingDescFlags number more entry address w) Refusing (passed (is_length link_config.sizes address w) (ReadingDescFlags number more entry address w) b.calm)) b.polls in
+    let f = subst (Polls link_config a.field fs) (yes (is_desc_length link_config.sizes address v) (ReadingDescFlags number more entry address v) Refusing (passed (is_desc_length link_config.sizes address v) (ReadingDescFlags number more entry address v) a.calm)) a.polls in
+    let g = subst (Polls link_config b.field gs) (yes (is_desc_length link_config.sizes address w) (ReadingDescFlags number more entry address w) Refusing (passed (is_desc_length link_config.sizes address w) (ReadingDescFlags number more entry address w) b.calm)) b.polls in
     let up = f.0 in same_value link_config p end (ReadingDescLength number more entry address) v w (f.3 ∙ (ap length (sym (frame_more fs gs t number e (omega arith))) ∙ sym g.3))
 same_look link_config p end (ReadingDescFlags number more entry address bytes) v w fs gs t r e a b =
-    let same : low_half v ≡ low_half w = is_so (low_half v) 0 (passed (low_half v == 0) _ a.calm) ∙ sym (is_so (low_half w) 0 (passed (low_half w == 0) _ b.calm)) in
-    (ap (λ (k : ℕ). with_marks end (if k == 0 then [] else refusal field_name.DescFlags k)) same, ap (λ (k : ℕ). if k == 0 then words_place number more entry address bytes [] (words_for bytes) else Refusing) same)
+    let same : desc_flags v ≡ desc_flags w = flags_tells (desc_flags v) (passed (is_desc_flags (desc_flags v)) _ a.calm) ∙ sym (flags_tells (desc_flags w) (passed (is_desc_flags (desc_flags w)) _ b.calm)) in
+    (ap (λ (k : ℕ). with_marks end (if is_desc_flags k then [] else refusal field_name.DescFlags k)) same, ap (λ (k : ℕ). if is_desc_flags k then words_place number more entry address bytes [] (words_for bytes) else Refusing) same)
 same_look link_config p end (ReadingFrameWord number more entry address bytes read zero) v w fs gs t r e a b =
     let f = refines end.delivered fs a.rest (frame_in bytes (read ++ v ∷ [])) a.prefix in let g = refines end.delivered gs b.rest (frame_in bytes (read ++ w ∷ [])) b.prefix in
     let n = ap length a.prefix in let m = length-append (end.delivered ++ frame_in bytes (read ++ v ∷ []) ∷ []) a.rest in let k = length-append end.delivered (frame_in bytes (read ++ v ∷ []) ∷ []) in

@@ -1,5 +1,6 @@
 //! The parts of a listing. Each function appends the lines of one part.
-ghost use Rattle.std.specs.Prelude.{◌≡◌, ◌+◌, ◌-◌, ◌*◌, ◌^◌, ◌≤◌, [], ◌∷◌, ◌++◌, length, Some, None, IfSome, MatchOption, IfOk, OnOk, string_bytes};
+ghost use Rattle.std.specs.Prelude.{◌≡◌, ◌+◌, ◌-◌, ◌*◌, ◌≤◌, [], ◌∷◌, ◌++◌, length, Some, None, IfSome, MatchOption, IfOk, OnOk, string_bytes};
+ghost use Rattle.section_map.specs.declared.limits.TheConstants.{LARGEST_REGION};
 ghost use Rattle.split_ring.specs.Layout.{queue_size, size_of, rings_len};
 ghost use Rattle.section_dump.specs.Image.{IsImage, words_from, region_words, shape_in, queue_in, peers_in, table_in, common_in, out_in};
 ghost use Rattle.section_dump.specs.Lines.{Puts, line_of, text_of, Peers, Table, Common, Out, QueueSizes, End};
@@ -85,7 +86,7 @@ fn put_head(text: &mut String, header: &Header) -> Result<(), AllocError>
 
 /// Returns the queue in sections of `out` bytes, if a queue size fits. No line depends on the MTU.
 fn queue_of(out: u64) -> Option<Queue>
-    requires { out ≤ 2 ^ 24 }
+    requires { out ≤ LARGEST_REGION }
     ensures size { MatchOption result (queue_size out ≡ None) (λ q. queue_size out ≡ Some (size_of q)) }
     ensures queue { IfSome result (λ q. q ≡ record { version = 1; out = out; mtu = 256 }) }
 {

@@ -8,7 +8,7 @@ ghost use Rattle.section_dump.specs.Image.{words_from};
 ghost use Rattle.section_dump.specs.Listing.{IsAccepted, IsFirstRefused};
 
 use byteorder::{ByteOrder, LittleEndian};
-use split_ring::{FieldName, Queue, Refused};
+use split_ring::{FieldName, Queue, Refused, desc_flags, high_half, low_half};
 
 /// A section of an image.
 #[derive(Clone, Copy, Debug)]
@@ -56,7 +56,7 @@ impl<'a> Ring<'a> {
     pub fn available_index(&self) -> u16
         ensures { result ≡ avail_index self.now.queue (words_from self.now.image.now self.now.first) }
     {
-        (self.word(self.queue.avail_word()) / 65_536) as u16
+        high_half(self.word(self.queue.avail_word()))
     }
 
     /// Returns the used index: the number of the other's frames that the section's peer has
@@ -64,7 +64,7 @@ impl<'a> Ring<'a> {
     pub fn used_index(&self) -> u16
         ensures { result ≡ used_index self.now.queue (words_from self.now.image.now self.now.first) }
     {
-        (self.word(self.queue.used_word()) / 65_536) as u16
+        high_half(self.word(self.queue.used_word()))
     }
 
     /// Returns the available entry of a position.
@@ -73,9 +73,9 @@ impl<'a> Ring<'a> {
     {
         let word = self.word(self.queue.entry_word(u32::from(position)));
         if u32::from(position) % self.queue.size() % 2 == 0 {
-            (word % 65_536) as u16
+            low_half(word)
         } else {
-            (word / 65_536) as u16
+            high_half(word)
         }
     }
 
@@ -101,7 +101,7 @@ impl<'a> Ring<'a> {
         requires { i < size_of self.now.queue }
         ensures { result ≡ flags_at self.now.queue (words_from self.now.image.now self.now.first) i }
     {
-        (self.word(self.queue.descriptor(i) + 3) % 65_536) as u16
+        desc_flags(self.word(self.queue.descriptor(i) + 3))
     }
 
     /// Returns the number of items between the other peer's used index and the available index.

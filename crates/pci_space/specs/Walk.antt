@@ -1,6 +1,7 @@
 -- The walk over configuration bytes (the device's specification; PCI 3.0 for the list and MSI-X).
 use Rattle.std.specs.Prelude.{ℕ, ◌≡◌, ◌≢◌, ◌+◌, ◌-◌, ◌/◌, ◌%◌, ◌<◌, ◌≤◌, Bool, true, false, ◌&&◌, ◌||◌, not, ◌==◌, nat_lt, if◌then◌else◌, List, [], ◌∷◌, slice_index, Option, Some, None, is_none, MatchOption, Result, Ok, Err}
 use Rattle.std.specs.List.{list_any}
+use Rattle.pci_space.specs.declared.sizes.TheConstants.{SPACE_LEN}
 use Rattle.pci_space.specs.declared.found.Found.{Found}
 use Rattle.pci_space.specs.declared.found.MsixFound.{MsixFound}
 use Rattle.pci_space.specs.declared.found.Vendor.{Vendor}
@@ -22,7 +23,7 @@ abbrev pub vendor_at : List ℕ → ℕ → Result Vendor CapabilityFault
 vendor_at bytes p =
     let length = slice_index bytes (p + 2) in
     if not (length == 0x18 || length == 0x20) then Err (BadVendorLength length)
-    else if nat_lt 256 (p + length) then Err (OutOfSpace p)
+    else if nat_lt SPACE_LEN (p + length) then Err (OutOfSpace p)
     else Ok (record {
       one_shot = slice_index bytes (p + 3) % 2 == 1;
       table = number_at bytes (p + 4) 4;
@@ -34,7 +35,7 @@ vendor_at bytes p =
 -- The MSI-X capability at p, of 12 bytes.
 abbrev pub msix_at : List ℕ → ℕ → Result MsixFound CapabilityFault
 msix_at bytes p =
-    if nat_lt 256 (p + 12) then Err (OutOfSpace p)
+    if nat_lt SPACE_LEN (p + 12) then Err (OutOfSpace p)
     else Ok (record { vectors = number_at bytes (p + 2) 2 % 2048 + 1; table = number_at bytes (p + 4) 4; pending = number_at bytes (p + 8) 4 })
 
 -- The findings at the start of the list: none.

@@ -1,11 +1,12 @@
 -- How the devices of a world raise interrupts.
 use Rattle.std.specs.Prelude.{ℕ, ◌-◌, ◌≤◌}
+use Rattle.pci_space.specs.declared.sizes.TheConstants.{MOST_VECTORS}
 use Rattle.pci_space.specs.declared.wiring.Wiring.{Wiring}
 use Rattle.pci_space.specs.declared.wiring.Wiring.TheVariants.{Msix, Intx}
 
--- A wiring has 1 to 64 MSI-X vectors, or INTx (profile).
+-- A wiring has at least one MSI-X vector and at most the greatest number, or INTx (profile).
 abbrev pub IsWiring : Wiring → Type 0
-IsWiring (Msix vectors) = (1 ≤ vectors) × (vectors ≤ 64)
+IsWiring (Msix vectors) = (1 ≤ vectors) × (vectors ≤ MOST_VECTORS)
 IsWiring Intx = Unit {0}
 
 -- The first number with MSI-X, the second with INTx.

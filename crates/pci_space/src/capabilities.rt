@@ -4,6 +4,7 @@ ghost use Rattle.pci_space.specs.Walk.{pointer_at, vendor_at, msix_at, listed_wi
 
 use crate::found::{CapabilityFault, Found, Listed, MsixFound, Vendor};
 use crate::number::number_in;
+use crate::sizes::SPACE_LEN;
 
 /// The ID of a vendor-specific capability (PCI 3.0).
 const VENDOR_ID: u8 = 0x09;
@@ -111,7 +112,7 @@ fn read_vendor(bytes: &[u8; 256], p: usize) -> Result<Vendor, CapabilityFault>
     if length != 0x18 && length != 0x20 {
         return Err(CapabilityFault::BadVendorLength(length));
     }
-    if p + usize::from(length) > 256 {
+    if p + usize::from(length) > SPACE_LEN {
         return Err(CapabilityFault::OutOfSpace(p as u16));
     }
     let base = if length == 0x20 {
@@ -133,7 +134,7 @@ fn read_msix(bytes: &[u8; 256], p: usize) -> Result<MsixFound, CapabilityFault>
     requires { p ≤ 252 }
     ensures { result ≡ msix_at bytes.now p }
 {
-    if p + 12 > 256 {
+    if p + 12 > SPACE_LEN {
         return Err(CapabilityFault::OutOfSpace(p as u16));
     }
     Ok(MsixFound {

@@ -24,6 +24,7 @@ mod field;
 mod found;
 mod number;
 mod place;
+mod sizes;
 mod space;
 mod table;
 mod wiring;
@@ -33,6 +34,7 @@ pub use device::{ConfigSpace, device_space, placed_space, walk_finds_the_device}
 pub use field::{Field, FieldFault};
 pub use found::{CapabilityFault, Found, MsixFound};
 pub use place::{RegionPlace, USUAL_BASE};
+pub use sizes::{MOST_VECTORS, SPACE_LEN};
 pub use space::{BadAccess, Space};
 pub use table::FieldTable;
 pub use wiring::Wiring;

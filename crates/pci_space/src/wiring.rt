@@ -4,7 +4,7 @@ ghost use Rattle.pci_space.specs.Wiring.{IsWiring, if_msix, last_vector};
 
 /// How a world's devices raise interrupts.
 ///
-/// Each function that has a wiring as an argument requires 1 to 64 vectors (profile).
+/// Each function that has a wiring as an argument requires 1 to `MOST_VECTORS` vectors.
 #[derive(Clone, Copy, Debug, PartialEq, Eq)]
 pub enum Wiring {
     /// By MSI-X messages, with this many vectors.

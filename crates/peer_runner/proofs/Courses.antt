@@ -7,7 +7,10 @@ use Rattle.atomic_table.specs.Seated.{TableId}
 use Rattle.call_grammar.specs.Automatic.{Anew}
 use Rattle.call_grammar.specs.Automatic as automatic
 use Rattle.call_grammar.specs.Places.{PlacesFollowTrees}
+use Rattle.link_endpoint.specs.Engine.{Engine}
 use Rattle.link_endpoint.specs.Plan.{Plan}
+use Rattle.link_endpoint.specs.declared.auto.Choice.{Choice}
+use Rattle.link_endpoint.specs.declared.auto_endpoint.AutoEndpoint.{AutoEndpoint}
 use Rattle.lawful_history.specs.declared.line.Line.{Line}
 use Rattle.lawful_history.specs.Peers.{Auto}
 use Rattle.step_lines.specs.Plans.{IsPlanOf}
@@ -30,7 +33,7 @@ use Rattle.peer_runner.specs.Trajectories.{GoesOn, starts, follows, IsOnTrajecto
 use Rattle.peer_runner.specs.Drives.{MayBeAuto, automatic, Did, Drove}
 use Rattle.peer_runner.specs.OwnRecord.{IsTraceOf}
 use Rattle.peer_runner.proofs.Keys.{clash}
-use Rattle.peer_runner.proofs.Turning.{plan_cut}
+use Rattle.peer_runner.proofs.Turning.{plan_cut, Chose}
 use Rattle.peer_runner.proofs.Runs.{refused_of, told_snoc, all_spent, all_later, IsCounted, counted_of, far_of, finished_same, there_first, plan_first, lent, did, err_free}
 
 -- one turn more, and its lines
@@ -39,9 +42,9 @@ of_on : (id : TableId) (key : RunSetup) (old pass : PassView) (me : ℕ) (l m : 
 of_on id key old pass me l m of from lists same from' lists' = let inside = of.2 in let one = ap length lists in let one' = ap length lists' in (same ∙ of.0, of.1, omega arith, of.3)
 
 pub course_on : (id : TableId) (key : RunSetup) (me : ℕ) (routes : List Route) (plan : Plan) (spans : List ℕ) (r next : Runner) (old pass : PassView) (p q : AutoPeer) → IsOnTrajectory id key me routes plan spans r old p → GoesOn (config_in key me) routes r next →
-    IsThere key me routes next pass q.end → IsAutoPeer q next → pass.table_id ≡ old.table_id → IsOnTrajectory id key me routes plan spans next pass q
+    IsThere key me routes next pass q.driven.end → IsAutoPeer q next → pass.table_id ≡ old.table_id → IsOnTrajectory id key me routes plan spans next pass q
 course_on id key me routes plan spans r next old pass p q on goes there is same = record {
-  comes = follows r next p.end on.comes on.there.refines goes;
+  comes = follows r next p.driven.end on.comes on.there.refines goes;
   of = of_on id key old pass me r.actions next.actions on.of on.there.from on.there.lists same there.from there.lists;
   there = there;
   is = is;
@@ -69,13 +72,13 @@ round_cut auto (Some automatic.IsFinished) = refl
 pub planned_still : (plan : Plan) (r : Runner) → has_finished r ≡ true → IsPlanOf plan (round_on r.auto (chosen r)) → IsPlanOf plan r.auto
 planned_still plan r is planned = subst (IsPlanOf plan) (round_still r.auto (chosen r) is) planned
 
-pub course_still : (id : TableId) (key : RunSetup) (me : ℕ) (routes : List Route) (plan : Plan) (spans : List ℕ) (r : Runner) (pass : PassView) (p : AutoPeer) (auto : Plan) → IsOnTrajectory id key me routes plan spans r pass p → has_finished r ≡ true →
-    IsPlanOf auto (round_on r.auto (chosen r)) → IsOnTrajectory id key me routes plan spans r pass (record p { auto = auto })
-course_still id key me routes plan spans r pass p auto on is planned = record {
+pub course_still : (id : TableId) (key : RunSetup) (me : ℕ) (routes : List Route) (plan : Plan) (spans : List ℕ) (r : Runner) (pass : PassView) (p : AutoPeer) (new : AutoEndpoint) (answer : Option Choice) →
+    IsOnTrajectory id key me routes plan spans r pass p → has_finished r ≡ true → Chose r p.driven new answer → IsOnTrajectory id key me routes plan spans r pass (record p { driven = new })
+course_still id key me routes plan spans r pass p new answer on is chose = record {
   comes = on.comes;
   of = on.of;
-  there = on.there;
-  is = record { planned = planned_still auto r is planned; looks = on.is.looks; ringing = on.is.ringing; opened = on.is.opened; met = on.is.met };
+  there = subst (λ (e : Engine). IsThere key me routes r pass e) (sym chose.end) on.there;
+  is = record { planned = planned_still new.auto r is chose.planned; looks = on.is.looks; ringing = on.is.ringing; opened = on.is.opened; met = on.is.met };
 }
 
 pub planned_cut : (plan cut : Plan) (r : Runner) → IsPlanOf plan (round_on r.auto (chosen r)) → cut ≡ record plan { round = Anew } → IsPlanOf cut (restarted_on r).auto
@@ -123,13 +126,13 @@ IsDue spans zero r = r.spans ≡ spans
 IsDue spans (suc k) r = has_finished r ≡ false → r.spans ≡ 0 ∷ drop (suc k) spans
 
 -- the start
-pub course_first : (id : TableId) (key : RunSetup) (me : ℕ) (routes : List Route) (spans : List ℕ) (pass : PassView) (p : AutoPeer) → IsOf id key pass → pass.from ≡ me → pass.lists ≡ [] ∷ [] → MayBeAuto key me p.auto p.end →
-    (p.looks ≡ Some 0) × (p.ringing ≡ false) × (p.opened ≡ 0) × (p.met ≡ None) → IsOnTrajectory id key me routes p.auto spans (initial_runner p.auto.frames p.auto.expected spans) pass p
+pub course_first : (id : TableId) (key : RunSetup) (me : ℕ) (routes : List Route) (spans : List ℕ) (pass : PassView) (p : AutoPeer) → IsOf id key pass → pass.from ≡ me → pass.lists ≡ [] ∷ [] → MayBeAuto key me p.driven.auto p.driven.end →
+    (p.looks ≡ Some 0) × (p.ringing ≡ false) × (p.opened ≡ 0) × (p.met ≡ None) → IsOnTrajectory id key me routes p.driven.auto spans (initial_runner p.driven.auto.frames p.driven.auto.expected spans) pass p
 course_first id key me routes spans pass p of from lists may fresh = record {
   comes = starts;
   of = of;
-  there = there_first key me routes pass p.auto spans p.end from lists may;
-  is = record { planned = plan_first p.auto may.begins; looks = fresh.0; ringing = fresh.1; opened = fresh.2; met = fresh.3 };
+  there = there_first key me routes pass p.driven.auto spans p.driven.end from lists may;
+  is = record { planned = plan_first p.driven.auto may.begins; looks = fresh.0; ringing = fresh.1; opened = fresh.2; met = fresh.3 };
 }
 
 -- the spans that are left there
@@ -226,7 +229,7 @@ module _ (id : TableId) (key : RunSetup) (me : ℕ) (routes : List Route) (plan 
     r.actions,
     pass_at first pass p r of on,
     (
-      did key me routes plan spans r p.end (far_of follow key me routes plan spans r on.comes) on.there.refines (refused_of follow key me routes plan spans r p.end on.comes on.there.refines),
+      did key me routes plan spans r p.driven.end (far_of follow key me routes plan spans r on.comes) on.there.refines (refused_of follow key me routes plan spans r p.driven.end on.comes on.there.refines),
       most_turns spans r (counts r pass p on),
       err_free _ result is,
     ),
@@ -239,7 +242,7 @@ module _ (id : TableId) (key : RunSetup) (me : ℕ) (routes : List Route) (plan 
     r.actions,
     pass_at first pass p r of on,
     (
-      did key me routes plan spans r p.end (far_of follow key me routes plan spans r on.comes) on.there.refines (refused_of follow key me routes plan spans r p.end on.comes on.there.refines),
+      did key me routes plan spans r p.driven.end (far_of follow key me routes plan spans r on.comes) on.there.refines (refused_of follow key me routes plan spans r p.driven.end on.comes on.there.refines),
       most_turns spans r counted,
       record {
         peer = mine;

@@ -20,8 +20,8 @@ use Rattle.call_grammar.specs.Automatic.{choice_of}
 use Rattle.call_grammar.specs.Automatic as automatic
 use Rattle.call_grammar.specs.Polls.{is_last}
 use Rattle.call_grammar.specs.Places.{Place, Closed, WritingState, ReadingUsedIndex, ReadingAvailIndex, NotInRun, remaining, first_place, access_at, next_place, step_at, marks_at, is_open, PlacesFollowTrees}
-use Rattle.link_endpoint.specs.Engine.{Engine}
-use Rattle.link_endpoint.specs.Plan.{Plan, IsChoice, fresh_plan}
+use Rattle.link_endpoint.specs.Engine.{Engine, is_busy}
+use Rattle.link_endpoint.specs.Plan.{Plan, IsChoice, fresh_plan, Matches, is_end_choice, place_for}
 use Rattle.link_endpoint.specs.declared.auto.Choice.{Choice}
 use Rattle.link_endpoint.specs.declared.auto.Choice.TheVariants.{Tick, Offer, Poll, Finished}
 use Rattle.lawful_history.specs.declared.line.Line.{Line}
@@ -49,7 +49,7 @@ use Rattle.peer_runner.specs.declared.doorbell_paths.Done.{Done}
 use Rattle.peer_runner.specs.declared.doorbell_paths.Done.TheVariants.{Stepped, Cleared, Rung}
 use Rattle.peer_runner.specs.DoorbellPaths.{route_to, doorbell_path_to, is_guarded, doorbell_path_in, rung_by}
 use Rattle.peer_runner.specs.Turns.{Turn, Looks, Makes, Clears, Enters, Restarts, Running, comes_to, all_turns, has_turn_left, spent, IsSpanSpent, later, TakesStep, StepsTo, ComesToSet, sleeps, is_below, looks_due, looks_next, sets, opens, steps_on, is_set, cleared_to, skipped, restarts_to, TakesTurn, TakesTurns, is_end, has_ended, is_finished, acted_by, cleared_by, acted_in, actions_in, interrupt_line, interrupt_lines, is_quiet, marks_of, lines_in, lines_of_turns}
-use Rattle.peer_runner.specs.Runners.{Runner, start_auto, initial_runner, peer_of, running_of, chosen, round_on, call_chosen, finishes, has_finished, place_for, place_in, Matches, is_end_choice, taken_of, value_done, done_of, stepped_turn, turn_of, IsDone, awaits_ring, due_of, looks_now, due_word, memory_op_met, turn_met, numbers_met, met_on, restarted_on, is_first, turn_on, held_on, stepped_on, turned, HasMet, MayRingBy, RunnerRefines, IsThere}
+use Rattle.peer_runner.specs.Runners.{Runner, start_auto, initial_runner, peer_of, running_of, chosen, round_on, call_chosen, finishes, has_finished, place_in, taken_of, value_done, done_of, stepped_turn, turn_of, IsDone, awaits_ring, due_of, looks_now, due_word, memory_op_met, turn_met, numbers_met, met_on, restarted_on, is_first, turn_on, held_on, stepped_on, turned, HasMet, MayRingBy, RunnerRefines, IsThere}
 use Rattle.peer_runner.specs.Trajectories.{IsNoLook, GoesOn, by_look, by_word, by_step, by_reset, Trajectory, starts, follows}
 use Rattle.peer_runner.specs.Drives.{storm_in, automatic, MayBeAuto, Did}
 use Rattle.peer_runner.proofs.Standings.{standing_none}
@@ -647,6 +647,10 @@ ends_where None frames None is = refl
 ends_where None frames (Some c) is = absurd is
 ends_where (Some answer) frames None is = absurd is
 ends_where (Some answer) frames (Some c) is = ends_choice answer frames c is
+
+-- a call is open once the call chosen is opened, where the runner isn't finished
+pub opened_busy : (answer : Option Choice) (r : Runner) (frames : List (List ℕ)) (end : Engine) → Matches answer frames (chosen r) → has_finished r ≡ false → is_busy end ≡ not (is_end_choice answer) → is_busy end ≡ true
+opened_busy answer r frames end matches goes opens = opens ∙ ap not (sym (ends_where answer frames (chosen r) matches) ∙ goes)
 
 -- at the start
 pub there_first : (key : RunSetup) (me : ℕ) (routes : List Route) (pass : PassView) (plan : Plan) (spans : List ℕ) (end : Engine) → pass.from ≡ me → pass.lists ≡ [] ∷ [] → MayBeAuto key me plan end →

@@ -24,13 +24,14 @@ use Rattle.lawful_history.specs.declared.line.Line.{Line}
 use Rattle.lawful_history.specs.declared.line.Line.TheVariants as line
 use Rattle.lawful_history.specs.EventRecords.{access_lines, mark_line}
 use Rattle.doorbell_irq.specs.declared.route.Route.{Route}
+use Rattle.link_endpoint.specs.Plan.{place_for}
 use Rattle.peer_runner.specs.declared.doorbell_paths.Done.{Done}
 use Rattle.peer_runner.specs.declared.doorbell_paths.Done.TheVariants.{Stepped, Cleared, Rung}
 use Rattle.peer_runner.specs.DoorbellPaths.{is_guarded, doorbell_path_in}
 use Rattle.peer_runner.specs.DerivedStates.{DoorbellRequest, Nowhere, Asking, At, request_after_poll, request_after_last, request_after_marks, Wake, wake_after}
 use Rattle.peer_runner.specs.Turns.{Turn, Looks, Enters, Restarts, interrupt_line, interrupt_lines, finds_nothing, is_quiet, lines_of, lines_in}
 use Rattle.peer_runner.specs.RunningRecord.{RecordReader, initial_reader, side_in, asked_now, with_carried, reader_after_line, reader_after_lines, ReaderMatches}
-use Rattle.peer_runner.specs.Runners.{Runner, initial_runner, chosen, call_chosen, place_for, place_in, value_done, IsDone, awaits_ring, due_word, turn_met, met_on, restarted_on, is_first, looked_on, held_on, stepped_on, turned, lines_on, woken_on, derived_state_of, HasMet}
+use Rattle.peer_runner.specs.Runners.{Runner, initial_runner, chosen, call_chosen, place_in, value_done, IsDone, awaits_ring, due_word, turn_met, met_on, restarted_on, is_first, looked_on, held_on, stepped_on, turned, lines_on, woken_on, derived_state_of, HasMet}
 use Rattle.peer_runner.specs.declared.sessions.SessionWord.{SessionWord}
 use Rattle.peer_runner.specs.declared.sessions.SessionWord.TheVariants.{Own, Others}
 use Rattle.peer_runner.proofs.Keys.{clash}

@@ -12,16 +12,18 @@ use Rattle.call_grammar.specs.Steps.{Mark, Accept, Step, value_given, step_of}
 use Rattle.call_grammar.specs.Ends.{End, after_reset, end_after}
 use Rattle.call_grammar.specs.Calls.{EndConfig, Call}
 use Rattle.call_grammar.specs.Calls as calls
-use Rattle.call_grammar.specs.Automatic.{Anew, choice_of}
+use Rattle.call_grammar.specs.Automatic.{Round, Anew, choice_of}
 use Rattle.call_grammar.specs.Automatic as automatic
 use Rattle.call_grammar.specs.Reach.{IsPermittedAccess}
 use Rattle.call_grammar.specs.Polls.{is_last}
 use Rattle.call_grammar.specs.Places.{Place, Closed, WritingState, Refusing, NotInRun, RingingOffer, RingingPoll, ReadingUsedIndex, ReadingAvailIndex, first_place, access_at, next_place, step_at, marks_at, is_open}
 use Rattle.link_endpoint.specs.Engine.{Engine, offered, delivered}
 use Rattle.link_endpoint.specs.Refinement.{RefinesAt, Takes, marks_between}
-use Rattle.link_endpoint.specs.Plan.{Plan, IsChoice}
+use Rattle.link_endpoint.specs.Plan as plans
+use Rattle.link_endpoint.specs.Plan.{Plan, HasCounted, IsChoice, Matches, Closes, round_after, round_since, call_of, call_chosen_by, MayOpen, MayOpenIf, place_for}
 use Rattle.link_endpoint.specs.declared.auto.Choice.{Choice}
 use Rattle.link_endpoint.specs.declared.auto.Choice.TheVariants.{Tick, Offer, Poll, Finished}
+use Rattle.link_endpoint.specs.declared.auto_endpoint.AutoEndpoint.{AutoEndpoint}
 use Rattle.lawful_history.specs.declared.line.Line.TheVariants as line
 use Rattle.lawful_history.specs.EventRecords.{access_lines, mark_line}
 use Rattle.lawful_history.specs.Peers.{Auto, counted, counted_all}
@@ -45,7 +47,7 @@ use Rattle.peer_runner.specs.declared.doorbell_paths.Done.TheVariants.{Stepped, 
 use Rattle.peer_runner.specs.DoorbellPaths.{doorbell_path_to, is_guarded, doorbell_path_in, rung_by}
 use Rattle.peer_runner.specs.Rules.{front}
 use Rattle.peer_runner.specs.Turns.{Makes, Clears, Enters, opens, is_end, cleared_by, marks_of, lines_in}
-use Rattle.peer_runner.specs.Runners.{Runner, IsFrame, chosen, round_on, call_chosen, finishes, has_finished, place_for, place_in, Matches, call_of, call_chosen_by, IsBegun, IsBegunIf, touches, taken_of, MayMake, made, value_done, done_of, stepped_turn, turn_of, stepped_lines, done_lines, IsDone, awaits_ring, MayRingBy, Closes, looked_on, due_word, state_for, memory_op_met, met_on, restarted_on, is_first, turn_on, held_on, stepped_on, turned, lines_on, derived_state_of, HasMet, RunnerRefines, IsThere, IsAutoPeer, Turns}
+use Rattle.peer_runner.specs.Runners.{Runner, IsFrame, chosen, round_on, call_chosen, finishes, has_finished, place_in, touches, taken_of, MayMake, made, value_done, done_of, stepped_turn, turn_of, stepped_lines, done_lines, IsDone, awaits_ring, MayRingBy, looked_on, due_word, state_for, memory_op_met, met_on, restarted_on, is_first, turn_on, held_on, stepped_on, turned, lines_on, derived_state_of, HasMet, RunnerRefines, IsThere, IsAutoPeer, Turns}
 use Rattle.peer_runner.specs.declared.sessions.SessionWord.{SessionWord}
 use Rattle.peer_runner.specs.declared.sessions.SessionWord.TheVariants.{Own, Others}
 use Rattle.peer_runner.specs.declared.turns.AutoPeer.{AutoPeer}
@@ -76,12 +78,48 @@ chosen_where : (b : Bool) (c : automatic.Choice) (answer : Choice) (frames : Lis
 chosen_where true c answer frames is = absurd is
 chosen_where false c answer frames is = (refl, is)
 
-pub opens_at : (config : EndConfig) (r : Runner) (answer : Choice) (frames : List (List ℕ)) → Matches (Some answer) frames (chosen r) → (r.place ≡ Closed) × (place_for config r.end Closed (call_of answer frames) ≡ place_in config r)
-opens_at config r answer frames is =
-    let both = chosen_where (is_open r.place) _ answer frames is in let closed = shut r.place both.0 in (
-      closed,
-      ap (λ (p : Place). place_for config r.end p (call_of answer frames)) (sym closed) ∙ ap (λ (c : Option Call). place_for config r.end r.place c) (told_call (Some answer) frames (chosen r) is),
-    )
+-- the call chosen is opened at the runner's place
+pub opened_in : (config : EndConfig) (r : Runner) (answer : Option Choice) (frames : List (List ℕ)) (end : Engine) → Matches answer frames (chosen r) →
+    RefinesAt end config r.end (place_for config r.end r.place (call_chosen_by answer frames)) → RefinesAt end config r.end (place_in config r)
+opened_in config r answer frames end is = subst (λ (c : Option Call). RefinesAt end config r.end (place_for config r.end r.place c)) (told_call answer frames (chosen r) is)
+
+-- what is known of a choice of the code's peer at the runner's place: the end stays as it is
+pub record Chose (r : Runner) (old new : AutoEndpoint) (answer : Option Choice) : Type 0 where
+  pub end : new.end ≡ old.end
+  pub matches : Matches answer new.auto.frames (chosen r)
+  pub planned : IsPlanOf new.auto (round_on r.auto (chosen r))
+
+round_same : (auto : Auto) (answer : Choice) (frames : List (List ℕ)) (c : automatic.Choice) → IsChoice answer frames c → record auto { round = round_after answer auto.round } ≡ round_on auto (Some c)
+round_same auto Tick frames c is = sym (ap (λ (x : automatic.Choice). round_on auto (Some x)) is)
+round_same auto Offer [] c is = absurd is
+round_same auto Offer (frame ∷ frames) c is = sym (ap (λ (x : automatic.Choice). round_on auto (Some x)) is)
+round_same auto Poll frames c is = sym (ap (λ (x : automatic.Choice). round_on auto (Some x)) is)
+round_same auto Finished frames c is = sym (ap (λ (x : automatic.Choice). round_on auto (Some x)) is)
+
+rounds_same : (auto : Auto) (answer : Option Choice) (frames : List (List ℕ)) (c : Option automatic.Choice) → Matches answer frames c → record auto { round = round_since answer auto.round } ≡ round_on auto c
+rounds_same auto None frames None is = refl
+rounds_same auto None frames (Some c) is = absurd is
+rounds_same auto (Some answer) frames None is = absurd is
+rounds_same auto (Some answer) frames (Some c) is = round_same auto answer frames c is
+
+pub chose : (config : EndConfig) (r : Runner) (old new : AutoEndpoint) (answer : Option Choice) → RefinesAt old.end config r.end r.place → IsPlanOf old.auto r.auto →
+    ((w : EndConfig) (end : End) (place : Place) (count : ℕ) → RefinesAt old.end w end place → HasCounted old.auto count → Matches answer old.auto.frames (plans.choice_at end place old.auto count)) →
+    new ≡ record old { auto = record (old.auto) { round = round_since answer old.auto.round } } → Chose r old new answer
+chose config r old new answer refines planned chooses is =
+    let At : List (List ℕ) → Round → ℕ → Type 0 = λ frames round expected.
+    Matches answer old.auto.frames (if is_open r.place then None else Some (choice_of r.end.handshake.phase round frames r.auto.delivered expected)) in
+    let matches : Matches answer old.auto.frames (chosen r) =
+    subst (λ (frames : List (List ℕ)). At frames r.auto.round r.auto.expected) planned.frames
+    (subst (λ (round : Round). At old.auto.frames round r.auto.expected) planned.round
+    (subst (At old.auto.frames old.auto.round) planned.expected (chooses config r.end r.place r.auto.delivered refines planned.delivered))) in
+    let plan : IsPlanOf (record (old.auto) { round = round_since answer old.auto.round }) (record (r.auto) { round = round_since answer r.auto.round }) =
+    record { frames = planned.frames; expected = planned.expected; delivered = planned.delivered; round = ap (round_since answer) planned.round } in
+    record {
+      end = ap (λ (h : AutoEndpoint). h.end) is;
+      matches = subst (λ (h : AutoEndpoint). Matches answer h.auto.frames (chosen r)) (sym is) matches;
+      planned = subst (λ (h : AutoEndpoint). IsPlanOf h.auto (round_on r.auto (chosen r))) (sym is)
+          (subst (IsPlanOf (record (old.auto) { round = round_since answer old.auto.round })) (rounds_same r.auto answer old.auto.frames (chosen r) matches) plan);
+    }
 
 -- an access to a word is made at a place that is not left by a doorbell
 unsettled : (config : EndConfig) (place : Place) → touches (access_at config place) ≡ true → settled_place place ≡ place
@@ -138,18 +176,18 @@ round_frames auto (Some (automatic.ChoosesOffer frame)) = refl
 round_frames auto (Some automatic.ChoosesPoll) = refl
 round_frames auto (Some automatic.IsFinished) = refl
 
--- an answer that is a choice, and does not finish, begins a call of a frame that may be offered
-begun_fits : (mtu : ℕ) (answer : Choice) (frames : List (List ℕ)) (c : automatic.Choice) → All (IsFrame mtu) frames → IsChoice answer frames c → is_end c ≡ false → IsBegun mtu answer frames
-begun_fits mtu Tick frames c are is goes = tt
-begun_fits mtu Offer [] c are is goes = absurd is
-begun_fits mtu Offer (frame ∷ frames) c are is goes = let f = first_frame mtu frame frames are in (f.0, f.1)
-begun_fits mtu Poll frames c are is goes = tt
-begun_fits mtu Finished frames c are is goes = let h : is_end automatic.IsFinished ≡ false = subst (λ (x : automatic.Choice). is_end x ≡ false) is goes in absurd (cc)
+-- a frame that was chosen may be offered
+may_open : (mtu : ℕ) (answer : Choice) (frames : List (List ℕ)) (c : automatic.Choice) → All (IsFrame mtu) frames → IsChoice answer frames c → MayOpen mtu answer frames
+may_open mtu Tick frames c are is = tt
+may_open mtu Offer [] c are is = absurd is
+may_open mtu Offer (frame ∷ frames) c are is = let f = first_frame mtu frame frames are in (f.0, f.1)
+may_open mtu Poll frames c are is = tt
+may_open mtu Finished frames c are is = tt
 
-pub begun_if_fits : (mtu : ℕ) (answer : Option Choice) (frames : List (List ℕ)) (c : Option automatic.Choice) → All (IsFrame mtu) frames → Matches answer frames c → finishes c ≡ false → IsBegunIf mtu answer frames
-begun_if_fits mtu None frames c are is goes = tt
-begun_if_fits mtu (Some answer) frames None are is goes = absurd is
-begun_if_fits mtu (Some answer) frames (Some c) are is goes = begun_fits mtu answer frames c are is goes
+pub may_open_if : (mtu : ℕ) (answer : Option Choice) (frames : List (List ℕ)) (c : Option automatic.Choice) → All (IsFrame mtu) frames → Matches answer frames c → MayOpenIf mtu answer frames
+may_open_if mtu None frames c are is = tt
+may_open_if mtu (Some answer) frames None are is = absurd is
+may_open_if mtu (Some answer) frames (Some c) are is = may_open mtu answer frames c are is
 
 -- the reported call begins if no call is open, and is no Stop
 may_offer : (key : RunSetup) (frame : List ℕ) → IsFrame key.queue.mtu frame → IsOffered (link_config_of key) frame
@@ -472,7 +510,7 @@ place_bytes config end place (Some call) fits has = call_bytes config end call c
 
 -- the frames of the place in a turn have their bytes
 pub bytes_in : (key : RunSetup) (me : ℕ) (routes : List Route) (r : Runner) (answer : Option Choice) (old : PassView) (p : AutoPeer) → Turns key me routes r answer old p → HasFrames (place_in (config_in key me) r)
-bytes_in key me routes r answer old p turns = let plan = p.auto in
+bytes_in key me routes r answer old p turns = let plan = p.driven.auto in
     let frames : Frames key (round_on r.auto (chosen r)).frames = subst (Frames key) (sym (round_frames r.auto (chosen r))) turns.there.refines.frames in
     let planned : Frames key plan.frames = subst (Frames key) (sym turns.is.planned.frames) frames in
     let fits : FitsIf key.queue.mtu (call_chosen (chosen r)) = subst (FitsIf key.queue.mtu) (told_call answer plan.frames (chosen r) turns.matches) (fits_told key.queue.mtu answer plan.frames planned) in
@@ -530,10 +568,10 @@ none_met r none = record { stored = λ number at is. none_some number (sym none 
 -- and its notes were counted
 pub turn_taken : (key : RunSetup) (me : ℕ) (routes : List Route) (done : Done) (r : Runner) (answer : Option Choice) (old pass : PassView) (p : AutoPeer) (new : Plan) (e1 e2 : Engine) (a : Access) (notes : List Note) → honest_of key me ≡ true →
     Turns key me routes r answer old p → RefinesAt e1 (config_in key me) r.end (place_in (config_in key me) r) → is_open (place_in (config_in key me) r) ≡ true → a ≡ access_at (config_in key me) (place_in (config_in key me) r) →
-    IsDone p.ringing (is_guarded (doorbell_path_in routes a)) done → awaits_ring done ≡ false → pass ≡ made old (done_of routes (call_chosen_by answer p.auto.frames) a done) → Takes e1 (value_done done) notes e2 →
-    ((auto : Auto) (one other : List ℕ) → IsPlanOf p.auto auto → IsPlanOf new (counted_all auto (marks_between one other notes))) →
+    IsDone p.ringing (is_guarded (doorbell_path_in routes a)) done → awaits_ring done ≡ false → pass ≡ made old (done_of routes (call_chosen_by answer p.driven.auto.frames) a done) → Takes e1 (value_done done) notes e2 →
+    ((auto : Auto) (one other : List ℕ) → IsPlanOf p.driven.auto auto → IsPlanOf new (counted_all auto (marks_between one other notes))) →
     IsThere key me routes (stepped_on routes (config_in key me) r done) pass e2 × IsPlanOf new (stepped_on routes (config_in key me) r done).auto
-turn_taken key me routes done r answer old pass p new e1 e2 a notes hp turns refines opens at is_done goes is took counts = let config = config_in key me in let place = place_in config r in let value = value_done done in let frames_of = p.auto.frames in
+turn_taken key me routes done r answer old pass p new e1 e2 a notes hp turns refines opens at is_done goes is took counts = let config = config_in key me in let place = place_in config r in let value = value_done done in let frames_of = p.driven.auto.frames in
     let list : done_of routes (call_chosen_by answer frames_of) a done ≡ done_of routes (call_chosen (chosen r)) (access_at config place) done = (λ i. done_of routes (told_call answer frames_of (chosen r) turns.matches i) (at i) done) in
     let marked : marks_between (offered e1) (delivered e2) notes ≡ marks_at config place value = took.marked config r.end place refines in
     let frames : Frames key (round_on r.auto (chosen r)).frames = subst (Frames key) (sym (round_frames r.auto (chosen r))) turns.there.refines.frames in (
@@ -555,9 +593,9 @@ turn_taken key me routes done r answer old pass p new e1 e2 a notes hp turns ref
 -- a turn in which the clear of a doorbell found the bit
 pub turn_held : (key : RunSetup) (me : ℕ) (routes : List Route) (done : Done) (r : Runner) (answer : Option Choice) (old pass : PassView) (p : AutoPeer) (e1 : Engine) (a : Access) →
     Turns key me routes r answer old p → RefinesAt e1 (config_in key me) r.end (place_in (config_in key me) r) → a ≡ access_at (config_in key me) (place_in (config_in key me) r) →
-    IsDone p.ringing (is_guarded (doorbell_path_in routes a)) done → awaits_ring done ≡ true → pass ≡ made old (done_of routes (call_chosen_by answer p.auto.frames) a done) → MayRingBy routes a (front pass.lists) →
-    IsThere key me routes (held_on routes (config_in key me) r done) pass e1 × IsPlanOf p.auto (held_on routes (config_in key me) r done).auto
-turn_held key me routes done r answer old pass p e1 a turns refines at is_done held is may = let config = config_in key me in let place = place_in config r in let frames_of = p.auto.frames in
+    IsDone p.ringing (is_guarded (doorbell_path_in routes a)) done → awaits_ring done ≡ true → pass ≡ made old (done_of routes (call_chosen_by answer p.driven.auto.frames) a done) → MayRingBy routes a (front pass.lists) →
+    IsThere key me routes (held_on routes (config_in key me) r done) pass e1 × IsPlanOf p.driven.auto (held_on routes (config_in key me) r done).auto
+turn_held key me routes done r answer old pass p e1 a turns refines at is_done held is may = let config = config_in key me in let place = place_in config r in let frames_of = p.driven.auto.frames in
     let guarded : is_guarded (doorbell_path_in routes a) ≡ true = held_guards p.ringing (is_guarded (doorbell_path_in routes a)) done is_done held in
     let there : is_guarded (doorbell_path_in routes (access_at config place)) ≡ true = ap (λ (x : Access). is_guarded (doorbell_path_in routes x)) (sym at) ∙ guarded in
     let none : chosen r ≡ None = none_chosen routes config r turns.goes there in let spot : place ≡ r.place = same_open config r none in
@@ -575,7 +613,7 @@ turn_held key me routes done r answer old pass p e1 a turns refines at is_done h
         from = ap (λ (h : PassView). h.from) is ∙ (made_from old (done_of routes (call_chosen_by answer frames_of) a done) ∙ turns.there.from);
         lists = lists;
       },
-      subst (λ (c : Option automatic.Choice). IsPlanOf p.auto (round_on r.auto c)) none turns.is.planned,
+      subst (λ (c : Option automatic.Choice). IsPlanOf p.driven.auto (round_on r.auto c)) none turns.is.planned,
     )
 
 -- a look
@@ -796,11 +834,11 @@ opened_on n end access.Nothing = omega arith
 
 -- the same of the runner as it is turned
 module _ (key : RunSetup) (me : ℕ) (routes : List Route) (done : Done) (r : Runner) (answer : Option Choice) (old pass : PassView) (p : AutoPeer) (e1 : Engine) (a : Access) (turns : Turns key me routes r answer old p)
-    (refines : RefinesAt e1 (config_in key me) r.end (place_in (config_in key me) r)) (at_is : a ≡ access_at (config_in key me) (place_in (config_in key me) r)) (is_done : IsDone p.ringing (is_guarded (doorbell_path_in routes a)) done) (is : pass ≡ made old (done_of routes (call_chosen_by answer p.auto.frames) a done)) where
+    (refines : RefinesAt e1 (config_in key me) r.end (place_in (config_in key me) r)) (at_is : a ≡ access_at (config_in key me) (place_in (config_in key me) r)) (is_done : IsDone p.ringing (is_guarded (doorbell_path_in routes a)) done) (is : pass ≡ made old (done_of routes (call_chosen_by answer p.driven.auto.frames) a done)) where
   pub done_there : IsDone p.ringing (is_guarded (doorbell_path_in routes (access_at (config_in key me) (place_in (config_in key me) r)))) done
   done_there = subst (λ (x : Access). IsDone p.ringing (is_guarded (doorbell_path_in routes x)) done) at_is is_done
 
-  pub held_turn : (q : AutoPeer) → awaits_ring done ≡ true → (awaits_ring done ≡ true → MayRingBy routes a (front pass.lists)) → q.auto ≡ p.auto → q.looks ≡ Some 0 → q.ringing ≡ true → q.opened ≡ p.opened → q.met ≡ p.met →
+  pub held_turn : (q : AutoPeer) → awaits_ring done ≡ true → (awaits_ring done ≡ true → MayRingBy routes a (front pass.lists)) → q.driven.auto ≡ p.driven.auto → q.looks ≡ Some 0 → q.ringing ≡ true → q.opened ≡ p.opened → q.met ≡ p.met →
       IsThere key me routes (turned routes (config_in key me) r done) pass e1 × IsAutoPeer q (turned routes (config_in key me) r done)
   held_turn q held may auto looks ringing opened met = let both = turn_held key me routes done r answer old pass p e1 a turns refines at_is is_done held is (may held) in let same = sym (turned_held routes (config_in key me) r done held) in (
     subst (λ (x : Runner). IsThere key me routes x pass e1) same both.0,
@@ -814,9 +852,9 @@ module _ (key : RunSetup) (me : ℕ) (routes : List Route) (done : Done) (r : Ru
   )
 
   pub step_turn : (q : AutoPeer) (e2 : Engine) (notes : List Note) → honest_of key me ≡ true → is_open (place_in (config_in key me) r) ≡ true → awaits_ring done ≡ false → Takes e1 (value_done done) notes e2 →
-      ((auto : Auto) (one other : List ℕ) → IsPlanOf p.auto auto → IsPlanOf q.auto (counted_all auto (marks_between one other notes))) → q.looks ≡ Some 0 → q.ringing ≡ false → q.opened ≡ p.opened + opens a → q.met ≡ None →
+      ((auto : Auto) (one other : List ℕ) → IsPlanOf p.driven.auto auto → IsPlanOf q.driven.auto (counted_all auto (marks_between one other notes))) → q.looks ≡ Some 0 → q.ringing ≡ false → q.opened ≡ p.opened + opens a → q.met ≡ None →
       IsThere key me routes (turned routes (config_in key me) r done) pass e2 × IsAutoPeer q (turned routes (config_in key me) r done)
-  step_turn q e2 notes hp opens_is goes took counts looks ringing opened met = let both = turn_taken key me routes done r answer old pass p q.auto e1 e2 a notes hp turns refines opens_is at_is is_done goes is took counts in let same = sym (turned_stepped routes (config_in key me) r done goes) in (
+  step_turn q e2 notes hp opens_is goes took counts looks ringing opened met = let both = turn_taken key me routes done r answer old pass p q.driven.auto e1 e2 a notes hp turns refines opens_is at_is is_done goes is took counts in let same = sym (turned_stepped routes (config_in key me) r done goes) in (
     subst (λ (x : Runner). IsThere key me routes x pass e2) same both.0,
     subst (IsAutoPeer q) same (record {
       planned = both.1;

@@ -12,13 +12,12 @@ use Rattle.call_grammar.specs.Calls as calls
 use Rattle.call_grammar.specs.Automatic.{Anew, AfterOffer, AfterPoll, choice_of}
 use Rattle.call_grammar.specs.Automatic as automatic
 use Rattle.pair_sessions.specs.Numbers.{Numbers, no_numbers, numbers_after, numbers_reset, with_stored, with_loaded}
-use Rattle.call_grammar.specs.Places.{Place, Closed, WritingState, remaining, first_place, access_at, next_place, step_at, marks_at, is_open}
+use Rattle.call_grammar.specs.Places.{Place, Closed, WritingState, remaining, access_at, next_place, step_at, marks_at, is_open}
 use Rattle.split_ring.specs.declared.steps.Note.{Note}
 use Rattle.link_endpoint.specs.Engine.{Engine, is_busy, offered, delivered}
 use Rattle.link_endpoint.specs.Refinement.{RefinesAt, marks_between}
-use Rattle.link_endpoint.specs.Plan.{IsChoice}
+use Rattle.link_endpoint.specs.Plan.{Matches, Closes, place_for}
 use Rattle.link_endpoint.specs.declared.auto.Choice.{Choice}
-use Rattle.link_endpoint.specs.declared.auto.Choice.TheVariants.{Tick, Offer, Poll, Finished}
 use Rattle.lawful_history.specs.declared.line.Line.{Line}
 use Rattle.lawful_history.specs.declared.line.Line.TheVariants as line
 use Rattle.lawful_history.specs.EventRecords.{access_lines, mark_line}
@@ -126,52 +125,8 @@ abbrev pub has_finished : Runner → Bool
 has_finished r = finishes (chosen r)
 
 -- the place of its next step
-abbrev pub place_for : EndConfig → End → Place → Option Call → Place
-place_for config end place None = place
-place_for config end place (Some call) = first_place config end call
-
 abbrev pub place_in : EndConfig → Runner → Place
 place_in config r = place_for config r.end r.place (call_chosen (chosen r))
-
--- What an answer of `choose` says
-
-abbrev pub Matches : Option Choice → List (List ℕ) → Option automatic.Choice → Type 0
-Matches None frames None = Unit {0}
-Matches None frames (Some c) = ⊥
-Matches (Some answer) frames None = ⊥
-Matches (Some answer) frames (Some c) = IsChoice answer frames c
-
-abbrev pub is_end_choice : Option Choice → Bool
-is_end_choice (Some Finished) = true
-is_end_choice _ = false
-
-abbrev pub call_of : Choice → List (List ℕ) → Option Call
-call_of Tick frames = Some calls.Tick
-call_of Offer [] = None
-call_of Offer (frame ∷ frames) = Some (calls.Offer frame)
-call_of Poll frames = Some calls.Poll
-call_of Finished frames = None
-
-abbrev pub call_chosen_by : Option Choice → List (List ℕ) → Option Call
-call_chosen_by None frames = None
-call_chosen_by (Some answer) frames = call_of answer frames
-
--- a call is begun, of a frame that may be offered
-abbrev pub IsBegun : ℕ → Choice → List (List ℕ) → Type 0
-IsBegun mtu Tick frames = Unit {0}
-IsBegun mtu Offer [] = ⊥
-IsBegun mtu Offer (frame ∷ frames) = (14 ≤ length frame) × (length frame ≤ mtu + 18)
-IsBegun mtu Poll frames = Unit {0}
-IsBegun mtu Finished frames = ⊥
-
-abbrev pub IsBegunIf : ℕ → Option Choice → List (List ℕ) → Type 0
-IsBegunIf mtu None frames = Unit {0}
-IsBegunIf mtu (Some answer) frames = IsBegun mtu answer frames
-
--- a choice is made where no call is open
-abbrev pub Closes : Option Choice → Bool → Type 0
-Closes None busy = busy ≡ true
-Closes (Some answer) busy = busy ≡ false
 
 -- Its actions
 
@@ -412,7 +367,7 @@ pub record IsThere (key : RunSetup) (me : ℕ) (routes : List Route) (r : Runner
 
 -- the code's peer is that of the runner
 pub record IsAutoPeer (auto_peer : AutoPeer) (r : Runner) : Type 0 where
-  pub planned : IsPlanOf auto_peer.auto r.auto
+  pub planned : IsPlanOf auto_peer.driven.auto r.auto
   pub looks : auto_peer.looks ≡ r.looks
   pub ringing : auto_peer.ringing ≡ r.ringing
   pub opened : auto_peer.opened ≡ r.numbers.log.opened
@@ -421,9 +376,9 @@ pub record IsAutoPeer (auto_peer : AutoPeer) (r : Runner) : Type 0 where
 -- a turn is to come that is no look and meets no number, for which this was chosen, with which the
 -- round went on
 pub record Turns (key : RunSetup) (me : ℕ) (routes : List Route) (r : Runner) (choice : Option Choice) (pass : PassView) (auto_peer : AutoPeer) : Type 0 where
-  pub there : IsThere key me routes r pass auto_peer.end
+  pub there : IsThere key me routes r pass auto_peer.driven.end
   pub is : IsAutoPeer auto_peer (record r { auto = round_on r.auto (chosen r) })
-  pub matches : Matches choice auto_peer.auto.frames (chosen r)
-  pub closes : Closes choice (is_busy auto_peer.end)
+  pub matches : Matches choice auto_peer.driven.auto.frames (chosen r)
+  pub closes : Closes choice (is_busy auto_peer.driven.end)
   pub goes : has_finished r ≡ false
   pub word : due_word r.place r.met ≡ None

@@ -52,7 +52,7 @@ pub record IsOnTrajectory (id : TableId) (key : RunSetup) (me : ℕ) (routes : L
     (r : Runner) (pass : PassView) (auto_peer : AutoPeer) : Type 0 where
   pub comes : Trajectory key me routes plan spans r
   pub of : IsOf id key pass
-  pub there : IsThere key me routes r pass auto_peer.end
+  pub there : IsThere key me routes r pass auto_peer.driven.end
   pub is : IsAutoPeer auto_peer r
 
 -- it went on, and has these spans now; or it is finished, and where it was

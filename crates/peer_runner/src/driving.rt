@@ -22,8 +22,8 @@ use crate::sessions::reset;
 use crate::spans::Spans;
 use crate::storms::take_step;
 use crate::turns::{
-    AutoPeer, choose, exchange_session_number, is_finished, is_look_next, look_turn, looks_due,
-    take_turn, word_due,
+    AutoPeer, exchange_session_number, is_finished, is_look_next, look_turn, looks_due, take_turn,
+    word_due,
 };
 use crate::words::{Pass, Words};
 use arrayvec::ArrayVec;
@@ -31,7 +31,7 @@ use call_grammar::places_follow_trees;
 use doorbell_irq::Route;
 use ivs_base::NoMemory;
 use lawful_history::{Line, Lines};
-use link_endpoint::{Auto, Endpoint};
+use link_endpoint::{Auto, AutoEndpoint, Endpoint};
 use record_text::OwnTrace;
 use section_map::Geometry;
 use split_ring::Queue;
@@ -84,18 +84,18 @@ fn auto_turn<G: Gate>(
         TookTurn context.now plan spans r pass.new peer.new lines.new result }
 {
     let me = context.me;
-    let due = looks_due(&peer.auto, &peer.end);
+    let due = looks_due(&peer.driven.auto, &peer.driven.end);
     if is_look_next(route_to(context.routes, me), due, peer.looks) {
         gate.pass(me, turn);
         look_turn(context, pass, &mut peer.looks, lines)?;
         return Ok(true);
     }
-    if let Some(word) = word_due(&peer.end, peer.met) {
+    if let Some(word) = word_due(&peer.driven.end, peer.met) {
         gate.pass(me, turn);
         peer.met = Some(exchange_session_number(context, pass, peer.opened, word));
         return Ok(true);
     }
-    let choice = choose(&mut peer.auto, &peer.end);
+    let choice = peer.driven.choose();
     if is_finished(choice) {
         return Ok(false);
     }
@@ -150,14 +150,13 @@ fn auto_restart<G: Gate>(
         WasReset context.now plan spans r pass.new peer.new lines.new result }
 {
     let me = context.me;
-    let choice = choose(&mut peer.auto, &peer.end);
+    let choice = peer.driven.choose();
     if is_finished(choice) {
         return Ok(false);
     }
     gate.pass(me, turn);
     reset(context.words, pass, me);
-    peer.auto.cut();
-    peer.end.reset();
+    peer.driven.reset();
     peer.looks = Some(0);
     peer.ringing = false;
     peer.met = None;
@@ -175,11 +174,11 @@ fn drive_auto<G: Gate>(
 ) -> Result<OwnTrace, NoMemory>
     requires of { IsOf context.now.words.now.shared.table_id (setup_of context.now) pass.old }
     requires alone { (pass.old.from ≡ context.now.me) × (pass.old.lists ≡ [] ∷ []) }
-    requires drives { MayBeAuto (setup_of context.now) context.now.me peer.auto peer.end }
+    requires drives { MayBeAuto (setup_of context.now) context.now.me peer.driven.auto peer.driven.end }
     requires fresh { (peer.looks ≡ Some 0) × (peer.ringing ≡ false) × (peer.opened ≡ 0) × (peer.met ≡ None) }
     requires few { all_turns spans.now < 2 ^ 32 }
     requires routes { HasRoutes context.now }
-    ensures { DroveBy (setup_of context.now) context.now.routes.now context.now.me spans.now (automatic peer.auto)
+    ensures { DroveBy (setup_of context.now) context.now.routes.now context.now.me spans.now (automatic peer.driven.auto)
         pass.old pass.new result }
 {
     places_follow_trees();
@@ -197,7 +196,7 @@ fn drive_auto<G: Gate>(
             context, pass, *span, &mut turns, &mut peer, gate, &mut lines,
         )?;
     }
-    let choice = choose(&mut peer.auto, &peer.end);
+    let choice = peer.driven.choose();
     Ok(OwnTrace {
         peer: context.me,
         lines,
@@ -297,8 +296,7 @@ fn drive_plan<G: Gate>(
     match driver {
         Driver::Auto(auto, end) => {
             let auto_peer = AutoPeer {
-                auto,
-                end,
+                driven: AutoEndpoint { end, auto },
                 looks: Some(0),
                 ringing: false,
                 opened: 0,

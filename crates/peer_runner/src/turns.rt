@@ -5,16 +5,15 @@ ghost use Rattle.call_grammar.specs.Calls.{EndConfig};
 ghost use Rattle.call_grammar.specs.Ends.{End};
 ghost use Rattle.call_grammar.specs.Places as places;
 ghost use Rattle.call_grammar.specs.Places.{WritingState};
-ghost use Rattle.link_endpoint.specs.Engine.{is_busy};
 ghost use Rattle.link_endpoint.specs.Refinement.{RefinesAt};
-ghost use Rattle.step_lines.specs.Plans.{IsPlanOf};
 ghost use Rattle.peer_runner.specs.Actions.{accessed, looked};
 ghost use Rattle.peer_runner.specs.Rules.{front};
 ghost use Rattle.peer_runner.specs.Passes.{IsOf, added};
 ghost use Rattle.peer_runner.specs.DoorbellPaths.{is_guarded, doorbell_path_in};
 ghost use Rattle.peer_runner.specs.Turns.{interrupt_lines, is_below, looks_after, opens};
-ghost use Rattle.peer_runner.specs.Runners.{Runner, round_on, choice_at, chosen, place_in, place_for, Matches, is_end_choice, call_of, call_chosen_by};
-ghost use Rattle.peer_runner.specs.Runners.{IsBegun, IsBegunIf, Closes, touches, MayMake, made, done_of, IsDone, awaits_ring, MayRingBy, due_at, looks_now};
+ghost use Rattle.peer_runner.specs.Runners.{Runner};
+ghost use Rattle.link_endpoint.specs.Plan.{is_end_choice, call_chosen_by};
+ghost use Rattle.peer_runner.specs.Runners.{touches, MayMake, made, done_of, IsDone, awaits_ring, MayRingBy, due_at, looks_now};
 ghost use Rattle.peer_runner.specs.Runners.{due_word, state_for, memory_op_met, lines_on, IsThere, IsAutoPeer};
 ghost use Rattle.peer_runner.specs.Contexts.{setup_of, end_config, IsHonest, HasRoutes, IsSeated, state_of, IsNextOf, AtItsPlace};
 ghost use Rattle.peer_runner.specs.Contexts.{IsStepDue, after_step, is_guarded_at};
@@ -31,62 +30,15 @@ use crate::words::Pass;
 use doorbell_irq::Route;
 use ivs_base::NoMemory;
 use lawful_history::Lines;
-use link_endpoint::{Auto, Call, Choice, Endpoint};
+use link_endpoint::{Auto, AutoEndpoint, Choice, Endpoint};
 use split_ring::steps::Access;
 use std::marker::Brand;
-use step_lines::count_notes;
-
-/// Returns what the peer chooses, or none if a call is open.
-pub fn choose(auto: &mut Auto, end: &Endpoint) -> Option<Choice>
-    ensures chosen { AtItsPlace end.now auto.old (λ config at place plan. Matches result auto.new.frames (choice_at at place plan)) }
-    ensures closes { Closes result (is_busy end.now) }
-    ensures plan { AtItsPlace end.now auto.old (λ config at place plan. IsPlanOf auto.new (round_on plan (choice_at at place plan))) }
-{
-    if end.busy() {
-        return None;
-    }
-    Some(auto.choose(end.phase()))
-}
 
 /// Whether the peer is finished.
 pub fn is_finished(choice: Option<Choice>) -> bool
     ensures { result ≡ is_end_choice choice }
 {
     matches!(choice, Some(Choice::Finished))
-}
-
-/// Opens the call that was chosen.
-fn begin(auto: &Auto, end: &mut Endpoint, choice: Choice)
-    requires closed { is_busy end.old ≡ false }
-    requires chosen { IsBegun end.old.config.sizes.mtu choice auto.now.frames }
-    ensures refines { (config : EndConfig) (at : End) → RefinesAt end.old config at places.Closed →
-        RefinesAt end.new config at (place_for config at places.Closed (call_of choice auto.now.frames)) }
-    ensures open { is_busy end.new ≡ true }
-    ensures config { end.new.config ≡ end.old.config }
-{
-    match choice {
-        Choice::Tick => end.begin(Call::Tick),
-        Choice::Poll => end.begin(Call::Poll),
-        Choice::Offer => match auto.head() {
-            Some(frame) => end.offer(frame),
-            None => unreachable!(),
-        },
-        Choice::Finished => unreachable!(),
-    }
-}
-
-/// Opens the call that was chosen, if one was.
-fn open_call(auto: &Auto, end: &mut Endpoint, choice: Option<Choice>)
-    requires closed { Closes choice (is_busy end.old) }
-    requires chosen { IsBegunIf end.old.config.sizes.mtu choice auto.now.frames }
-    ensures refines { (config : EndConfig) (r : Runner) → RefinesAt end.old config r.end r.place →
-        Matches choice auto.now.frames (chosen r) → RefinesAt end.new config r.end (place_in config r) }
-    ensures open { is_busy end.new ≡ true }
-    ensures config { end.new.config ≡ end.old.config }
-{
-    if let Some(choice) = choice {
-        begin(auto, end, choice);
-    }
 }
 
 /// Whether no frame is left to offer.
@@ -223,10 +175,8 @@ fn take_for(
 /// An automatic peer between two turns.
 #[derive(Debug, Drop)]
 pub struct AutoPeer {
-    /// The frames to offer, and the choices so far.
-    pub auto: Auto,
-    /// Its end of the link.
-    pub end: Endpoint,
+    /// Its end of the link, which chooses its own calls.
+    pub driven: AutoEndpoint,
     /// The number of looks since its last step, or none if the last look found a bit.
     pub looks: Option<u32>,
     /// Whether the ring of a doorbell is to come.
@@ -307,15 +257,15 @@ pub fn take_turn(
     requires turns { (r : Runner) × IsStepDue context.now r choice pass.old peer.old }
     ensures turned { (r : Runner) → IsStepDue context.now r choice pass.old peer.old →
         (done : Done) × IsDone peer.old.ringing (is_guarded_at context.now r) done
-        × IsThere (setup_of context.now) context.now.me context.now.routes.now (after_step context.now r done) pass.new peer.new.end
+        × IsThere (setup_of context.now) context.now.me context.now.routes.now (after_step context.now r done) pass.new peer.new.driven.end
         × IsAutoPeer peer.new (after_step context.now r done)
         × OnOk result (lines.new ≡ lines.old ++ lines_on (end_config context.now) r done) }
     ensures id { pass.new.table_id ≡ pass.old.table_id }
 {
     let first = choice.is_some();
-    open_call(&peer.auto, &mut peer.end, choice);
-    let access = peer.end.next();
-    let (ringing, auto) = (peer.ringing, &peer.auto);
+    peer.driven.open(choice);
+    let access = peer.driven.end.next();
+    let (ringing, auto) = (peer.ringing, &peer.driven.auto);
     let done = take_for(context, pass, access, ringing, auto, choice);
     peer.looks = Some(0);
     peer.ringing = done.awaits_ring();
@@ -330,8 +280,7 @@ pub fn take_turn(
     };
     peer.opened = opened_after(peer.opened, access);
     peer.met = None;
-    let taken = peer.end.took(done.value());
-    let (end, notes) = (&peer.end, taken.as_slice());
-    count_notes(&mut peer.auto, notes);
+    let taken = peer.driven.took(done.value());
+    let (end, notes) = (&peer.driven.end, taken.as_slice());
     record_step(context.alloc, context.me, step, done, end, notes, lines)
 }

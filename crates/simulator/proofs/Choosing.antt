@@ -13,7 +13,8 @@ use Rattle.call_grammar.specs.Places.{Place, Closed, remaining, first_place, Pla
 use Rattle.call_grammar.specs.Reach.{IsPermittedCall}
 use Rattle.link_endpoint.specs.Engine.{Engine}
 use Rattle.link_endpoint.specs.Refinement.{RefinesAt}
-use Rattle.link_endpoint.specs.Plan.{Plan, HasCounted, IsChoice, head_of, round_after}
+use Rattle.link_endpoint.specs.Plan as plans
+use Rattle.link_endpoint.specs.Plan.{Plan, HasCounted, IsChoice, head_of, round_after, MayOpen, place_for}
 use Rattle.link_endpoint.specs.declared.auto.Choice.{Choice}
 use Rattle.link_endpoint.specs.declared.auto.Choice.TheVariants as choice
 use Rattle.lawful_history.specs.Peers.{Auto, Driver, Chooses, Peer, with_choice, chosen, opened}
@@ -84,7 +85,7 @@ opens_chosen follow config peer link l plan new phase answer end call round chos
 at_closed : (config : EndConfig) (peer : Peer) (link : Link) (refines : LinkRefines config peer link) → refines.place ≡ Closed → RefinesAt link.end config peer.end Closed
 at_closed config peer link refines shut = subst (λ (p : Place). RefinesAt link.end config peer.end p) shut refines.end
 
-pub tick_chosen : PlacesFollowTrees → (config : EndConfig) (peer : Peer) (link l : Link) (plan new : Plan) (phase : Phase) (end : Engine) → Chose config peer link plan new phase choice.Tick →
+tick_chosen : PlacesFollowTrees → (config : EndConfig) (peer : Peer) (link l : Link) (plan new : Plan) (phase : Phase) (end : Engine) → Chose config peer link plan new phase choice.Tick →
     ((w : EndConfig) (e : End) → RefinesAt link.end w e Closed → RefinesAt end w e (first_place w e calls.Tick)) → l.end ≡ end → l.waiting ≡ link.waiting → l.auto ≡ Some new → LinkRefines config (chosen config peer peer.driver) l
 tick_chosen follow config peer link l plan new phase end chose begins end_is waiting_is auto_is =
     let d : (auto : Auto) × (peer.driver ≡ Chooses auto) × IsPlanOf plan auto = driver_of config peer link plan chose.refines chose.has in
@@ -93,7 +94,7 @@ tick_chosen follow config peer link l plan new phase end chose begins end_is wai
     (ap (λ (f : Phase). choice_of f d.0.round d.0.frames d.0.delivered d.0.expected) (sym chose.phase_is) ∙ c) refl chose.round
     (begins config peer.end (at_closed config peer link chose.refines chose.shut)) tt end_is waiting_is auto_is
 
-pub poll_chosen : PlacesFollowTrees → (config : EndConfig) (peer : Peer) (link l : Link) (plan new : Plan) (phase : Phase) (end : Engine) → Chose config peer link plan new phase choice.Poll →
+poll_chosen : PlacesFollowTrees → (config : EndConfig) (peer : Peer) (link l : Link) (plan new : Plan) (phase : Phase) (end : Engine) → Chose config peer link plan new phase choice.Poll →
     ((w : EndConfig) (e : End) → RefinesAt link.end w e Closed → RefinesAt end w e (first_place w e calls.Poll)) → l.end ≡ end → l.waiting ≡ link.waiting → l.auto ≡ Some new → LinkRefines config (chosen config peer peer.driver) l
 poll_chosen follow config peer link l plan new phase end chose begins end_is waiting_is auto_is =
     let d : (auto : Auto) × (peer.driver ≡ Chooses auto) × IsPlanOf plan auto = driver_of config peer link plan chose.refines chose.has in
@@ -109,7 +110,7 @@ head_offered mtu (x ∷ xs) frame all is = let same : x ≡ frame = cc in subst 
 same_head : (frames : List (List ℕ)) (a b : List ℕ) → head_of frames ≡ Some a → head_of frames ≡ Some b → a ≡ b
 same_head frames a b one other = cc
 
-pub offer_chosen : PlacesFollowTrees → (config : EndConfig) (peer : Peer) (link l : Link) (plan new : Plan) (phase : Phase) (end : Engine) (frame : List ℕ) → Chose config peer link plan new phase choice.Offer →
+offer_chosen : PlacesFollowTrees → (config : EndConfig) (peer : Peer) (link l : Link) (plan new : Plan) (phase : Phase) (end : Engine) (frame : List ℕ) → Chose config peer link plan new phase choice.Offer →
     head_of new.frames ≡ Some frame → LinkFits link →
     ((w : EndConfig) (e : End) → RefinesAt link.end w e Closed → RefinesAt end w e (first_place w e (calls.Offer frame))) → l.end ≡ end → l.waiting ≡ link.waiting → l.auto ≡ Some new → LinkRefines config (chosen config peer peer.driver) l
 offer_chosen follow config peer link l plan new phase end frame chose head fits begins end_is waiting_is auto_is =
@@ -125,12 +126,51 @@ offer_chosen follow config peer link l plan new phase end frame chose head fits 
     (begins config peer.end (at_closed config peer link chose.refines chose.shut)) given end_is waiting_is auto_is
 
 -- An offer has a first frame.
-pub no_head : (config : EndConfig) (peer : Peer) (link : Link) (plan new : Plan) (phase : Phase) → Chose config peer link plan new phase choice.Offer → new.frames ≡ [] → ⊥
+no_head : (config : EndConfig) (peer : Peer) (link : Link) (plan new : Plan) (phase : Phase) → Chose config peer link plan new phase choice.Offer → new.frames ≡ [] → ⊥
 no_head config peer link plan new phase chose none =
     let d : (auto : Auto) × (peer.driver ≡ Chooses auto) × IsPlanOf plan auto = driver_of config peer link plan chose.refines chose.has in
     let c = offer_choice d.0.frames _ (choice_is phase plan d.0 choice.Offer automatic.IsFinished d.2 chose.chooses) in
     let empty : d.0.frames ≡ [] = sym d.2.frames ∙ ap (λ (p : Plan). p.frames) (sym chose.round) ∙ none in
     let nothing : None ≡ Some c.0 = ap head_of (sym empty) ∙ c.1 in absurd (cc)
+
+finished_chosen : (config : EndConfig) (peer : Peer) (link l : Link) (plan new : Plan) (phase : Phase) (end : Engine) → Chose config peer link plan new phase choice.Finished →
+    ((w : EndConfig) (e : End) → RefinesAt link.end w e Closed → RefinesAt end w e Closed) → l.end ≡ end → l.waiting ≡ link.waiting → l.auto ≡ Some new → LinkRefines config (chosen config peer peer.driver) l
+finished_chosen config peer link l plan new phase end chose stays end_is waiting_is auto_is =
+    let d : (auto : Auto) × (peer.driver ≡ Chooses auto) × IsPlanOf plan auto = driver_of config peer link plan chose.refines chose.has in
+    let c = choice_is phase plan d.0 choice.Finished automatic.IsFinished d.2 chose.chooses in
+    let same : chosen config peer peer.driver ≡ peer =
+    ap (λ (x : Driver). chosen config peer x) d.1 ∙
+    ap (λ (x : automatic.Choice). with_choice config peer d.0 x) (ap (λ (f : Phase). choice_of f d.0.round d.0.frames d.0.delivered d.0.expected) (sym chose.phase_is) ∙ c) in
+    subst (λ (x : Peer). LinkRefines config x l) (sym same) (record {
+      place = Closed;
+      end = rw end_is (stays config peer.end (at_closed config peer link chose.refines chose.shut));
+      left = ap (λ (p : Place). remaining config p) (sym chose.shut) ∙ chose.refines.left;
+      frames = tt;
+      waiting = ap (λ w. map call_of w.items) waiting_is ∙ chose.refines.waiting;
+      driver = subst (λ (o : Option Plan). DriverIs o peer.driver) (sym (auto_is ∙ ap Some chose.round)) (d.0, d.1, d.2);
+    })
+
+-- The call that was chosen is opened.
+pub choice_opened : PlacesFollowTrees → (config : EndConfig) (peer : Peer) (link l : Link) (plan new : Plan) (phase : Phase) (answer : Choice) (frames : List (List ℕ)) (end : Engine) → Chose config peer link plan new phase answer →
+    frames ≡ new.frames → LinkFits link → ((w : EndConfig) (e : End) → RefinesAt link.end w e Closed → RefinesAt end w e (place_for w e Closed (plans.call_of answer frames))) →
+    l.end ≡ end → l.waiting ≡ link.waiting → l.auto ≡ Some new → LinkRefines config (chosen config peer peer.driver) l
+choice_opened follow config peer link l plan new phase choice.Tick frames end chose is fits opens = tick_chosen follow config peer link l plan new phase end chose opens
+choice_opened follow config peer link l plan new phase choice.Offer [] end chose is fits opens = absurd (no_head config peer link plan new phase chose (sym is))
+choice_opened follow config peer link l plan new phase choice.Offer (frame ∷ frames) end chose is fits opens =
+    offer_chosen follow config peer link l plan new phase end frame chose (ap head_of (sym is)) fits opens
+choice_opened follow config peer link l plan new phase choice.Poll frames end chose is fits opens = poll_chosen follow config peer link l plan new phase end chose opens
+choice_opened follow config peer link l plan new phase choice.Finished frames end chose is fits opens = finished_chosen config peer link l plan new phase end chose opens
+
+-- A frame that was chosen may be offered.
+pub may_open : (config : EndConfig) (peer : Peer) (link : Link) (plan new : Plan) (phase : Phase) (answer : Choice) (frames : List (List ℕ)) → Chose config peer link plan new phase answer → frames ≡ new.frames → LinkFits link →
+    MayOpen link.end.config.sizes.mtu answer frames
+may_open config peer link plan new phase choice.Tick frames chose is fits = tt
+may_open config peer link plan new phase choice.Offer [] chose is fits = absurd (no_head config peer link plan new phase chose (sym is))
+may_open config peer link plan new phase choice.Offer (frame ∷ frames) chose is fits =
+    let plan_fits : All (IsOffered link.end.config.sizes.mtu) plan.frames = subst (λ (o : Option Plan). PlanFits link.end.config.sizes.mtu o) chose.has fits.plan in
+    head_offered link.end.config.sizes.mtu plan.frames frame plan_fits (ap head_of (ap (λ (p : Plan). p.frames) (sym chose.round) ∙ sym is))
+may_open config peer link plan new phase choice.Poll frames chose is fits = tt
+may_open config peer link plan new phase choice.Finished frames chose is fits = tt
 
 given_of : (config : EndConfig) (w : Waiting) → MayWait config.sizes.mtu w → IsPermittedCall config (call_of w)
 given_of config waiting.Tick may = tt

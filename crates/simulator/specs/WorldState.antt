@@ -34,6 +34,11 @@ pub record WorldStateAfter (world : World) (output : Output) (past : List Line) 
   pub unspent : (p : ℕ) → slice_index_or world_state.unspent p 0 + lost_count past p ≡ losses p
   pub peer_states : length world_state.unspent ≡ 8
 
+-- `Holds` holds of each world, each output and all older lines whose state this is.
+abbrev pub InEachWorld : WorldState → (World → Output → List Line → (ℕ → ℕ) → Type 0) → Type 0
+InEachWorld world_state Holds = (world : World) (output : Output) (past : List Line) (losses : ℕ → ℕ) →
+    WorldStateAfter world output past losses world_state → Holds world output past losses
+
 -- The region and the devices have the peer.
 pub record HasPeer (world_state : WorldState) (me : ℕ) : Type 0 where
   pub in_region : me < world_state.region.shape.peers

@@ -2,12 +2,10 @@
 //! Repeated interrupts, and interrupts that will be lost.
 ghost use Rattle.std.specs.Prelude.{◌≡◌, ℕ, ◌<◌, ◌-◌, ◌^◌, List, ◌∷◌, true, OnOk, slice_index};
 ghost use Rattle.pci_space.specs.Fields.{is_access};
-ghost use Rattle.scenario_text.specs.Scenario.{World};
 ghost use Rattle.lawful_history.specs.declared.line.Line.TheVariants.{Interrupt};
 ghost use Rattle.lawful_history.specs.Schedule.{InterruptDropped, ReadsConfig, WritesConfig, ReadsRegister, WritesRegister, ReadsMsix, WritesMsix};
 ghost use Rattle.lawful_history.specs.Device.{device_access_line, losses_with};
-ghost use Rattle.simulator.specs.Log.{Output};
-ghost use Rattle.simulator.specs.WorldState.{WorldStateAfter, HasPeer};
+ghost use Rattle.simulator.specs.WorldState.{InEachWorld, WorldStateAfter, HasPeer};
 
 use crate::world_state::WorldState;
 use ivs_base::NoMemory;
@@ -18,8 +16,8 @@ impl WorldState {
     pub fn read_config(&mut self, me: u32, offset: u16, width: u16) -> Result<(), NoMemory>
         requires seated { HasPeer self.old me }
         requires access { is_access 256 offset width ≡ true }
-        ensures after { (world : World) (output : Output) (past : List Line) (losses : ℕ → ℕ) → WorldStateAfter world output past losses self.old →
-            OnOk result (WorldStateAfter world output (device_access_line world past me (ReadsConfig offset width) ∷ past) losses self.new) }
+        ensures after { InEachWorld self.old (λ world output past losses.
+            OnOk result (WorldStateAfter world output (device_access_line world past me (ReadsConfig offset width) ∷ past) losses self.new)) }
         ensures seated { (q : ℕ) → HasPeer self.old q → HasPeer self.new q }
     {
         match self.device.config_read(me, offset, width) {
@@ -45,8 +43,8 @@ impl WorldState {
     ) -> Result<(), NoMemory>
         requires seated { HasPeer self.old me }
         requires access { is_access 256 offset width ≡ true }
-        ensures after { (world : World) (output : Output) (past : List Line) (losses : ℕ → ℕ) → WorldStateAfter world output past losses self.old →
-            OnOk result (WorldStateAfter world output (device_access_line world past me (WritesConfig offset width value) ∷ past) losses self.new) }
+        ensures after { InEachWorld self.old (λ world output past losses.
+            OnOk result (WorldStateAfter world output (device_access_line world past me (WritesConfig offset width value) ∷ past) losses self.new)) }
         ensures seated { (q : ℕ) → HasPeer self.old q → HasPeer self.new q }
     {
         match self.device.config_write(me, offset, width, value) {
@@ -65,8 +63,8 @@ impl WorldState {
     /// Reads a register of the peer.
     pub fn read_register(&mut self, me: u32, offset: u32) -> Result<(), NoMemory>
         requires { HasPeer self.old me }
-        ensures after { (world : World) (output : Output) (past : List Line) (losses : ℕ → ℕ) → WorldStateAfter world output past losses self.old →
-            OnOk result (WorldStateAfter world output (device_access_line world past me (ReadsRegister offset) ∷ past) losses self.new) }
+        ensures after { InEachWorld self.old (λ world output past losses.
+            OnOk result (WorldStateAfter world output (device_access_line world past me (ReadsRegister offset) ∷ past) losses self.new)) }
         ensures seated { (q : ℕ) → HasPeer self.old q → HasPeer self.new q }
     {
         let value = self.device.register_read(me, offset);
@@ -81,8 +79,8 @@ impl WorldState {
     /// interrupted.
     pub fn write_register(&mut self, me: u32, offset: u32, value: u32) -> Result<(), NoMemory>
         requires { HasPeer self.old me }
-        ensures after { (world : World) (output : Output) (past : List Line) (losses : ℕ → ℕ) → WorldStateAfter world output past losses self.old →
-            OnOk result (WorldStateAfter world output (device_access_line world past me (WritesRegister offset value) ∷ past) losses self.new) }
+        ensures after { InEachWorld self.old (λ world output past losses.
+            OnOk result (WorldStateAfter world output (device_access_line world past me (WritesRegister offset value) ∷ past) losses self.new)) }
         ensures seated { (q : ℕ) → HasPeer self.old q → HasPeer self.new q }
     {
         let _ = self.device.register_write(me, offset, value);
@@ -96,8 +94,8 @@ impl WorldState {
     /// Reads the peer's MSI-X region.
     pub fn read_msix(&mut self, me: u32, offset: u32) -> Result<(), NoMemory>
         requires { HasPeer self.old me }
-        ensures after { (world : World) (output : Output) (past : List Line) (losses : ℕ → ℕ) → WorldStateAfter world output past losses self.old →
-            OnOk result (WorldStateAfter world output (device_access_line world past me (ReadsMsix offset) ∷ past) losses self.new) }
+        ensures after { InEachWorld self.old (λ world output past losses.
+            OnOk result (WorldStateAfter world output (device_access_line world past me (ReadsMsix offset) ∷ past) losses self.new)) }
         ensures seated { (q : ℕ) → HasPeer self.old q → HasPeer self.new q }
     {
         let value = self.device.msix_read(me, offset);
@@ -111,8 +109,8 @@ impl WorldState {
     /// Writes the peer's MSI-X region.
     pub fn write_msix(&mut self, me: u32, offset: u32, value: u32) -> Result<(), NoMemory>
         requires { HasPeer self.old me }
-        ensures after { (world : World) (output : Output) (past : List Line) (losses : ℕ → ℕ) → WorldStateAfter world output past losses self.old →
-            OnOk result (WorldStateAfter world output (device_access_line world past me (WritesMsix offset value) ∷ past) losses self.new) }
+        ensures after { InEachWorld self.old (λ world output past losses.
+            OnOk result (WorldStateAfter world output (device_access_line world past me (WritesMsix offset value) ∷ past) losses self.new)) }
         ensures seated { (q : ℕ) → HasPeer self.old q → HasPeer self.new q }
     {
         self.device.msix_write(me, offset, value);
@@ -125,8 +123,8 @@ impl WorldState {
 
     /// Repeats an interrupt at a peer, regardless of its registers.
     pub fn repeat(&mut self, me: u32, vector: u32) -> Result<(), NoMemory>
-        ensures after { (world : World) (output : Output) (past : List Line) (losses : ℕ → ℕ) → WorldStateAfter world output past losses self.old →
-            OnOk result (WorldStateAfter world output (Interrupt me vector ∷ past) losses self.new) }
+        ensures after { InEachWorld self.old (λ world output past losses.
+            OnOk result (WorldStateAfter world output (Interrupt me vector ∷ past) losses self.new)) }
         ensures seated { (q : ℕ) → HasPeer self.old q → HasPeer self.new q }
     {
         self.record_mark(Line::Interrupt { peer: me, vector })
@@ -136,7 +134,8 @@ impl WorldState {
     pub fn lose(&mut self, me: u32)
         requires seated { HasPeer self.old me }
         requires room { slice_index self.old.unspent me < 2 ^ 64 - 1 }
-        ensures after { (world : World) (output : Output) (past : List Line) (losses : ℕ → ℕ) → WorldStateAfter world output past losses self.old → WorldStateAfter world output past (losses_with (InterruptDropped me) losses) self.new }
+        ensures after { InEachWorld self.old (λ world output past losses.
+            WorldStateAfter world output past (losses_with (InterruptDropped me) losses) self.new) }
         ensures seated { (q : ℕ) → HasPeer self.old q → HasPeer self.new q }
     {
         self.unspent[me as usize] += 1;

@@ -1,5 +1,5 @@
 //! An honest end of the link, its queued calls, and its turns.
-ghost use Rattle.std.specs.Prelude.{◌≡◌, ℕ, ◌<◌, List, [], ◌∷◌, ◌++◌, true, false, All, OnOk, MatchOption, reverse, map, None};
+ghost use Rattle.std.specs.Prelude.{◌≡◌, ℕ, ◌<◌, List, ◌∷◌, ◌++◌, true, false, OnOk, reverse, map, None};
 ghost use Rattle.scenario_text.specs.Scenario.{World};
 ghost use Rattle.call_grammar.specs.Steps.{step_of};
 ghost use Rattle.call_grammar.specs.Ends.{End};
@@ -14,18 +14,18 @@ ghost use Rattle.link_endpoint.specs.Engine.{is_busy, offered, delivered};
 ghost use Rattle.link_endpoint.specs.Refinement.{RefinesAt, mark_between, marks_between};
 ghost use Rattle.lawful_history.specs.Frames.{has_frame, HaveFrames};
 ghost use Rattle.simulator.specs.Log.{Output};
-ghost use Rattle.simulator.specs.WorldState.{WorldStateAfter, HasPeer};
+ghost use Rattle.simulator.specs.WorldState.{InEachWorld, WorldStateAfter, HasPeer};
 ghost use Rattle.simulator.specs.PeerStates.{call_of, LinkRefines, MayWait, LinkFits, IsPlaced};
 
 use crate::world_state::WorldState;
 use call_grammar::places_follow_trees;
 use ivs_base::{Frame, NoMemory};
 use lawful_history::Line;
-use link_endpoint::{Auto, Call, Choice, Endpoint};
+use link_endpoint::{Auto, Call, Endpoint};
 use split_ring::steps::{Note, Notes};
 use std::alloc::Global;
 use std::collections::VecDeque;
-use step_lines::{count_notes, line_of};
+use step_lines::line_of;
 
 /// A queued call.
 #[derive(Debug, Drop)]
@@ -81,15 +81,8 @@ fn choose_next(link: &mut Link)
     let Some(auto) = &mut link.auto else {
         return;
     };
-    match auto.choose(phase) {
-        Choice::Tick => link.end.begin(Call::Tick),
-        Choice::Poll => link.end.begin(Call::Poll),
-        Choice::Offer => match auto.head() {
-            Some(frame) => link.end.offer(frame),
-            None => unreachable!(),
-        },
-        Choice::Finished => {}
-    }
+    let choice = auto.choose(phase);
+    auto.open(&mut link.end, choice);
 }
 
 /// Opens the next call, if no call is open: the oldest queued call, or the call that an automatic
@@ -119,8 +112,8 @@ fn record_note(
     world_state: &mut WorldState,
 ) -> Result<(), NoMemory>
     requires { has_frame (mark_line me (mark_between (offered end.now) (delivered end.now) note.now)) ≡ true }
-    ensures after { (world : World) (output : Output) (past : List Line) (losses : ℕ → ℕ) → WorldStateAfter world output past losses world_state.old →
-        OnOk result (WorldStateAfter world output (mark_line me (mark_between (offered end.now) (delivered end.now) note.now) ∷ past) losses world_state.new) }
+    ensures after { InEachWorld world_state.old (λ world output past losses.
+        OnOk result (WorldStateAfter world output (mark_line me (mark_between (offered end.now) (delivered end.now) note.now) ∷ past) losses world_state.new)) }
     ensures seated { (q : ℕ) → HasPeer world_state.old q → HasPeer world_state.new q }
 {
     let line = line_of(alloc, me, end, *note)?;
@@ -136,8 +129,8 @@ fn record_notes(
     world_state: &mut WorldState,
 ) -> Result<(), NoMemory>
     requires { HaveFrames (map (mark_line me) (marks_between (offered end.now) (delivered end.now) notes.now)) }
-    ensures after { (world : World) (output : Output) (past : List Line) (losses : ℕ → ℕ) → WorldStateAfter world output past losses world_state.old →
-        OnOk result (WorldStateAfter world output (reverse (map (mark_line me) (marks_between (offered end.now) (delivered end.now) notes.now)) ++ past) losses world_state.new) }
+    ensures after { InEachWorld world_state.old (λ world output past losses.
+        OnOk result (WorldStateAfter world output (reverse (map (mark_line me) (marks_between (offered end.now) (delivered end.now) notes.now)) ++ past) losses world_state.new)) }
     ensures seated { (q : ℕ) → HasPeer world_state.old q → HasPeer world_state.new q }
 {
     for note in notes {
@@ -169,7 +162,7 @@ fn carry_on(
     link.end.took_into(value, &mut notes);
     record_notes(alloc, me, &link.end, notes.as_slice(), world_state)?;
     if let Some(auto) = &mut link.auto {
-        count_notes(auto, notes.as_slice());
+        auto.count(notes.as_slice());
     }
     Ok(())
 }

@@ -4,7 +4,6 @@ ghost use Rattle.std.specs.Prelude.{◌≡◌, ℕ, ◌+◌, ◌-◌, ◌<◌, �
 ghost use Rattle.pci_space.specs.Fields.{is_access};
 ghost use Rattle.section_map.specs.Geometry.{word_count};
 ghost use Rattle.section_map.specs.MayWrite.{MayWrite};
-ghost use Rattle.scenario_text.specs.Scenario.{World};
 ghost use Rattle.lawful_history.specs.declared.line.Line.TheVariants.{Reset};
 ghost use Rattle.lawful_history.specs.Memory.{last_write};
 ghost use Rattle.lawful_history.specs.Schedule.{InterruptDropped, ReadsConfig, WritesConfig, ReadsRegister, WritesRegister, ReadsMsix, WritesMsix};
@@ -12,7 +11,7 @@ ghost use Rattle.lawful_history.specs.EventRecords.{region_access_lines};
 ghost use Rattle.lawful_history.specs.History.{acted_step};
 ghost use Rattle.lawful_history.specs.Device.{arrival, arrived, arrivals, brought_by, step_interrupts, device_access_line, losses_with};
 ghost use Rattle.simulator.specs.Log.{Output, Records};
-ghost use Rattle.simulator.specs.WorldState.{WorldStateAfter, HasPeer, IsMark, CanPerform, GaveLast, line_with_interrupts, accessed, with_state};
+ghost use Rattle.simulator.specs.WorldState.{InEachWorld, WorldStateAfter, HasPeer, IsMark, CanPerform, GaveLast, line_with_interrupts, accessed, with_state};
 
 use crate::log::Log;
 use arrayvec::ArrayVec;
@@ -40,7 +39,8 @@ impl WorldState {
     #[inline(always)]
     pub fn record_mark(&mut self, line: Line) -> Result<(), NoMemory>
         requires { IsMark line }
-        ensures after { (world : World) (output : Output) (past : List Line) (losses : ℕ → ℕ) → WorldStateAfter world output past losses self.old → OnOk result (WorldStateAfter world output (line ∷ past) losses self.new) }
+        ensures after { InEachWorld self.old (λ world output past losses.
+            OnOk result (WorldStateAfter world output (line ∷ past) losses self.new)) }
         ensures seated { (me : ℕ) → HasPeer self.old me → HasPeer self.new me }
     {
         self.log.push(line)
@@ -48,7 +48,8 @@ impl WorldState {
 
     /// Delivers one interrupt to its peer, or loses it.
     fn arrive_at(&mut self, delivery: &Delivery) -> Result<(), NoMemory>
-        ensures after { (world : World) (output : Output) (past : List Line) (losses : ℕ → ℕ) → WorldStateAfter world output past losses self.old → OnOk result (WorldStateAfter world output (arrival past losses delivery.now ∷ past) losses self.new) }
+        ensures after { InEachWorld self.old (λ world output past losses.
+            OnOk result (WorldStateAfter world output (arrival past losses delivery.now ∷ past) losses self.new)) }
         ensures seated { (me : ℕ) → HasPeer self.old me → HasPeer self.new me }
     {
         let Delivery { peer, vector } = *delivery;
@@ -62,7 +63,8 @@ impl WorldState {
 
     /// Delivers interrupts, in their order.
     fn arrive(&mut self, deliveries: &[Delivery]) -> Result<(), NoMemory>
-        ensures after { (world : World) (output : Output) (past : List Line) (losses : ℕ → ℕ) → WorldStateAfter world output past losses self.old → OnOk result (WorldStateAfter world output (reverse (arrived past losses deliveries.now) ++ past) losses self.new) }
+        ensures after { InEachWorld self.old (λ world output past losses.
+            OnOk result (WorldStateAfter world output (reverse (arrived past losses deliveries.now) ++ past) losses self.new)) }
         ensures seated { (me : ℕ) → HasPeer self.old me → HasPeer self.new me }
     {
         for delivery in deliveries {
@@ -76,8 +78,8 @@ impl WorldState {
     pub fn read(&mut self, me: u32, word: u32) -> Result<u32, NoMemory>
         requires seated { HasPeer self.old me }
         requires inside { word < word_count self.old.region.shape }
-        ensures after { (world : World) (output : Output) (past : List Line) (losses : ℕ → ℕ) → WorldStateAfter world output past losses self.old →
-            IfOk result (λ value. (value ≡ last_write past word) × WorldStateAfter world output (Line.Read me word value ∷ past) losses self.new) }
+        ensures after { InEachWorld self.old (λ world output past losses.
+            IfOk result (λ value. (value ≡ last_write past word) × WorldStateAfter world output (Line.Read me word value ∷ past) losses self.new)) }
         ensures seated { (q : ℕ) → HasPeer self.old q → HasPeer self.new q }
     {
         let value = match self.region.read(me, word) {
@@ -99,7 +101,8 @@ impl WorldState {
     pub fn write(&mut self, me: u32, word: u32, value: u32) -> Result<(), NoMemory>
         requires seated { HasPeer self.old me }
         requires may { MayWrite self.old.region.shape me word }
-        ensures after { (world : World) (output : Output) (past : List Line) (losses : ℕ → ℕ) → WorldStateAfter world output past losses self.old → OnOk result (WorldStateAfter world output (Line.Write me word value ∷ past) losses self.new) }
+        ensures after { InEachWorld self.old (λ world output past losses.
+            OnOk result (WorldStateAfter world output (Line.Write me word value ∷ past) losses self.new)) }
         ensures seated { (q : ℕ) → HasPeer self.old q → HasPeer self.new q }
     {
         match self.region.write(me, word, value) {
@@ -115,8 +118,8 @@ impl WorldState {
     /// Writes a word if the peer may write it, and denies the write otherwise.
     pub fn poke(&mut self, me: u32, word: u32, value: u32) -> Result<(), NoMemory>
         requires { HasPeer self.old me }
-        ensures after { (world : World) (output : Output) (past : List Line) (losses : ℕ → ℕ) → WorldStateAfter world output past losses self.old →
-            OnOk result (WorldStateAfter world output (reverse (region_access_lines me (Access.Write word value) (acted_step world me (Access.Write word value) past) []) ++ past) losses self.new) }
+        ensures after { InEachWorld self.old (λ world output past losses.
+            OnOk result (WorldStateAfter world output (reverse (region_access_lines me (Access.Write word value) (acted_step world me (Access.Write word value) past) []) ++ past) losses self.new)) }
         ensures seated { (q : ℕ) → HasPeer self.old q → HasPeer self.new q }
     {
         match self.region.write(me, word, value) {
@@ -155,8 +158,8 @@ impl WorldState {
     /// Writes a peer's State.
     pub fn set_state(&mut self, me: u32, value: u32) -> Result<(), NoMemory>
         requires { HasPeer self.old me }
-        ensures after { (world : World) (output : Output) (past : List Line) (losses : ℕ → ℕ) → WorldStateAfter world output past losses self.old →
-            OnOk result (WorldStateAfter world output (reverse (line_with_interrupts world past losses (Line.State me value)) ++ past) losses self.new) }
+        ensures after { InEachWorld self.old (λ world output past losses.
+            OnOk result (WorldStateAfter world output (reverse (line_with_interrupts world past losses (Line.State me value)) ++ past) losses self.new)) }
         ensures seated { (q : ℕ) → HasPeer self.old q → HasPeer self.new q }
     {
         let effect = self.device.register_write(me, REGISTER_STATE, value);
@@ -169,8 +172,8 @@ impl WorldState {
         requires seated { HasPeer self.old me }
         requires target { target < 2 ^ 16 }
         requires vector { vector < 2 ^ 16 }
-        ensures after { (world : World) (output : Output) (past : List Line) (losses : ℕ → ℕ) → WorldStateAfter world output past losses self.old →
-            OnOk result (WorldStateAfter world output (reverse (line_with_interrupts world past losses (Line.Doorbell me target vector)) ++ past) losses self.new) }
+        ensures after { InEachWorld self.old (λ world output past losses.
+            OnOk result (WorldStateAfter world output (reverse (line_with_interrupts world past losses (Line.Doorbell me target vector)) ++ past) losses self.new)) }
         ensures seated { (q : ℕ) → HasPeer self.old q → HasPeer self.new q }
     {
         let word = doorbell_word(target, vector);
@@ -187,8 +190,8 @@ impl WorldState {
     /// Resets the device of a peer.
     pub fn reset(&mut self, me: u32) -> Result<(), NoMemory>
         requires { HasPeer self.old me }
-        ensures after { (world : World) (output : Output) (past : List Line) (losses : ℕ → ℕ) → WorldStateAfter world output past losses self.old →
-            OnOk result (WorldStateAfter world output (reverse (line_with_interrupts world past losses (Reset me)) ++ past) losses self.new) }
+        ensures after { InEachWorld self.old (λ world output past losses.
+            OnOk result (WorldStateAfter world output (reverse (line_with_interrupts world past losses (Reset me)) ++ past) losses self.new)) }
         ensures seated { (q : ℕ) → HasPeer self.old q → HasPeer self.new q }
     {
         let effect = self.device.reset(me);
@@ -202,8 +205,8 @@ impl WorldState {
     pub fn perform(&mut self, me: u32, access: Access) -> Result<u32, NoMemory>
         requires seated { HasPeer self.old me }
         requires can { CanPerform self.old me access }
-        ensures after { (world : World) (output : Output) (past : List Line) (losses : ℕ → ℕ) → WorldStateAfter world output past losses self.old →
-            IfOk result (λ value. GaveLast past access value × WorldStateAfter world output (reverse (accessed world past losses me access value) ++ past) losses self.new) }
+        ensures after { InEachWorld self.old (λ world output past losses.
+            IfOk result (λ value. GaveLast past access value × WorldStateAfter world output (reverse (accessed world past losses me access value) ++ past) losses self.new)) }
         ensures seated { (q : ℕ) → HasPeer self.old q → HasPeer self.new q }
     {
         match access {

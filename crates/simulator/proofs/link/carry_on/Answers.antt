@@ -8,7 +8,7 @@ use Rattle.lawful_history.specs.Sides.{config_of}
 use Rattle.lawful_history.specs.EventRecords.{mark_line}
 use Rattle.lawful_history.specs.Frames.{HaveFrames}
 use Rattle.simulator.specs.PeerStates.{DriverIs}
-use Rattle.step_lines.proofs.Marks.{busy_is, busy_next}
+use Rattle.step_lines.proofs.Marks.{busy_is, busy_next, plan_counted}
 use Rattle.simulator.proofs.Turning.{can, rings_of, frames_now, carried, driver_counts, driver_waits}
 use Rattle.simulator.proofs.link.carry_on.Goals as goal
 
@@ -47,8 +47,8 @@ returns-in-Some-clause-steps c = λ world output past losses peer after refines.
     (sym (busy_is c.args.link.now.end config peer.end refines.place refines.end) ∙ c.requires.open)
     (c.next-access.ensures.access config peer.end refines.place refines.end) (c.in_ok-value.ensures.after world output past losses after) took
     (busy_next c.args.link.now.end c.took_into.new.self c.in_ok-value.value c.took_into.new.notes.items config peer.end refines.place took refines.end) refl
-    (driver_counts c.in-Some.auto c.count_notes.new.auto peer.driver _ driver
-    (λ auto is. rw c.as_slice-in-Some.ensures.value at (c.count_notes.ensures auto (offered c.took_into.new.self) (delivered c.took_into.new.self) is)))
+    (driver_counts c.in-Some.auto c.count.new.self peer.driver _ driver
+    (λ auto is. plan_counted c.in-Some.auto c.count.new.self auto _ (rw c.as_slice-in-Some.ensures.value at (c.count.ensures (offered c.took_into.new.self) (delivered c.took_into.new.self))) is))
     (λ w p l b. rw c.as_slice.ensures.value at (c.in_ok-record_notes.ensures.after w p l b))
 
 pub returns-in_default-clause-steps : goal.returns-in_default-clause-steps

@@ -1,9 +1,9 @@
 -- The notes of a step as marks of the grammar.
-use Rattle.std.proofs.Common.{◌≡◌, ℕ, ◌+◌, ◌<◌, Bool, true, false, List, [], ◌∷◌, ◌++◌, length, take, get_or, refl, sym, ◌∙◌, ap, subst}
+use Rattle.std.proofs.Common.{◌≡◌, ℕ, ◌+◌, ◌<◌, true, List, [], ◌∷◌, ◌++◌, length, take, get_or, refl, sym, ◌∙◌, ap, subst, arith, add-zero}
 use Rattle.std.specs.Prelude.{map}
 use Rattle.std.proofs.lemmas.List.{take_more, map-append}
 use Rattle.split_ring.specs.declared.steps.Note.{Note}
-use Rattle.call_grammar.specs.Steps.{Mark}
+use Rattle.call_grammar.specs.Steps.{Mark, Saw, Reclaim, Full, Accept, Look, Deliver, Return, Done, Down, Refuse, Over}
 use Rattle.call_grammar.specs.Ends.{End, end_after}
 use Rattle.call_grammar.specs.Calls.{EndConfig}
 use Rattle.call_grammar.specs.Places as places
@@ -12,21 +12,38 @@ use Rattle.link_endpoint.specs.declared.place.Place as ends
 use Rattle.link_endpoint.specs.declared.place.Place.TheVariants as seats
 use Rattle.link_endpoint.specs.Engine.{Engine, is_open_at, is_busy, offered, delivered}
 use Rattle.link_endpoint.specs.Refinement.{RefinesAt, IsAt, goes_on, Takes, mark_between, marks_between}
+use Rattle.link_endpoint.specs.Plan.{Plan, left_after, delivered_by, Counts}
 use Rattle.lawful_history.specs.EventRecords.{mark_line}
 use Rattle.lawful_history.specs.Peers.{Auto, counted, counted_all}
+use Rattle.step_lines.specs.Plans.{IsPlanOf}
 use Rattle.step_lines.proofs.Framing.{marks_after}
 
--- One more count.
-counted-snoc : (auto : Auto) (marks : List Mark) (mark : Mark) → counted_all auto (marks ++ mark ∷ []) ≡ counted (counted_all auto marks) mark
-counted-snoc auto [] mark = refl
-counted-snoc auto (x ∷ marks) mark = counted-snoc (counted auto x) marks mark
+-- The counts of a step
 
-pub one_count : (auto : Auto) (one other : List ℕ) (notes : List Note) (i : ℕ) (note : Note) → i < length notes → note ≡ get_or notes i note →
-    counted_all auto (marks_between one other (take (i + 1) notes)) ≡ counted (counted_all auto (marks_between one other (take i notes))) (mark_between one other note)
-one_count auto one other notes i note inside is =
-    let taken : take (i + 1) notes ≡ take i notes ++ note ∷ [] = take_more notes i note inside ∙ ap (λ (n : Note). take i notes ++ n ∷ []) (sym is) in
-    ap (λ ns. counted_all auto (marks_between one other ns)) taken ∙ ap (λ ms. counted_all auto ms) (map-append (mark_between one other) (take i notes) (note ∷ []))
-    ∙ counted-snoc auto (marks_between one other (take i notes)) (mark_between one other note)
+marks_counted : (auto : Auto) (marks : List Mark) → counted_all auto marks ≡ record auto { frames = left_after auto.frames marks; delivered = auto.delivered + length (delivered_by marks) }
+marks_counted auto [] = ap (λ (n : ℕ). record auto { delivered = n }) (sym (add-zero auto.delivered))
+marks_counted auto (Deliver frame ∷ marks) =
+    marks_counted (counted auto (Deliver frame)) marks ∙
+    ap (λ (n : ℕ). record auto { frames = left_after auto.frames marks; delivered = n }) (let one : ℕ = length (delivered_by marks) in omega arith)
+marks_counted auto (Accept frame ∷ marks) = marks_counted (counted auto (Accept frame)) marks
+marks_counted auto (Saw value ∷ marks) = marks_counted auto marks
+marks_counted auto (Reclaim count ∷ marks) = marks_counted auto marks
+marks_counted auto (Full ∷ marks) = marks_counted auto marks
+marks_counted auto (Look count ∷ marks) = marks_counted auto marks
+marks_counted auto (Return ∷ marks) = marks_counted auto marks
+marks_counted auto (Done ∷ marks) = marks_counted auto marks
+marks_counted auto (Down ∷ marks) = marks_counted auto marks
+marks_counted auto (Refuse refused ∷ marks) = marks_counted auto marks
+marks_counted auto (Over ∷ marks) = marks_counted auto marks
+
+-- A plan that counted these marks is that of an automatic end that counted them.
+pub plan_counted : (plan new : Plan) (auto : Auto) (marks : List Mark) → Counts plan marks new → IsPlanOf plan auto → IsPlanOf new (counted_all auto marks)
+plan_counted plan new auto marks counts is = subst (λ (a : Auto). IsPlanOf new a) (sym (marks_counted auto marks)) (record {
+  frames = counts.frames ∙ ap (λ (fs : List (List ℕ)). left_after fs marks) is.frames;
+  expected = counts.expected ∙ is.expected;
+  delivered = counts.delivered auto.delivered is.delivered;
+  round = counts.round ∙ is.round;
+})
 
 -- One more line.
 pub one_told : (me : ℕ) (one other : List ℕ) (notes : List Note) (i : ℕ) (note : Note) → i < length notes → note ≡ get_or notes i note →

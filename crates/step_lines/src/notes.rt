@@ -1,15 +1,12 @@
 //! The notes of a step.
-ghost use Rattle.std.specs.Prelude.{◌≡◌, ℕ, List, IfOk};
+ghost use Rattle.std.specs.Prelude.{◌≡◌, IfOk};
 ghost use Rattle.lawful_history.specs.EventRecords.{mark_line};
-ghost use Rattle.lawful_history.specs.Peers as peers;
-ghost use Rattle.lawful_history.specs.Peers.{counted, counted_all};
 ghost use Rattle.link_endpoint.specs.Engine.{offered, delivered};
-ghost use Rattle.link_endpoint.specs.Refinement.{mark_between, marks_between};
-ghost use Rattle.step_lines.specs.Plans.{IsPlanOf};
+ghost use Rattle.link_endpoint.specs.Refinement.{mark_between};
 
 use ivs_base::{Frame, NoMemory};
 use lawful_history::Line;
-use link_endpoint::{Auto, Endpoint};
+use link_endpoint::Endpoint;
 use split_ring::steps::Note;
 use std::alloc::Global;
 
@@ -38,37 +35,4 @@ pub fn line_of(alloc: Global, me: u32, end: &Endpoint, note: Note) -> Result<Lin
         Note::Refuse(refused) => Line::Refuse { peer: me, refused },
         Note::Over => Line::Over { peer: me },
     })
-}
-
-/// Counts one note in the plan of an automatic end.
-fn count_note(auto: &mut Auto, note: &Note)
-    ensures { (plan : peers.Auto) (one other : List ℕ) → IsPlanOf auto.old plan → IsPlanOf auto.new (counted plan (mark_between one other note.now)) }
-{
-    match note {
-        Note::Accept => {
-            if auto.head().is_some() {
-                auto.accepted();
-            }
-        }
-        Note::Deliver => auto.delivered(),
-        Note::Saw(_)
-        | Note::Reclaim(_)
-        | Note::Full
-        | Note::Look(_)
-        | Note::Return
-        | Note::Done
-        | Note::Down
-        | Note::Refuse(_)
-        | Note::Over => {}
-    }
-}
-
-/// Counts the frames that a step accepted and delivered in the plan of an automatic end.
-// claim: The frames and deliveries of an automatic peer are counted by the marks of a step.
-pub fn count_notes(auto: &mut Auto, notes: &[Note])
-    ensures { (plan : peers.Auto) (one other : List ℕ) → IsPlanOf auto.old plan → IsPlanOf auto.new (counted_all plan (marks_between one other notes.now)) }
-{
-    for note in notes {
-        count_note(auto, note);
-    }
 }

@@ -1,16 +1,17 @@
 -- The spelling of a record is read as the record.
-use Rattle.std.proofs.Common.{◌≡◌, ℕ, suc, ◌^◌, ◌<◌, true, false, eqb, List, [], ◌∷◌, ◌++◌, length, map, Some, None, Result, Ok, refl, sym, ap, subst, ◌∙◌, append_assoc, arith, eq-eqb}
+use Rattle.std.proofs.Common.{◌≡◌, ℕ, suc, ◌+◌, ◌^◌, ◌<◌, true, false, eqb, List, [], ◌∷◌, ◌++◌, length, map, Some, None, Result, Ok, refl, sym, ap, subst, ◌∙◌, append_assoc, arith, eq-eqb}
 use Rattle.std.specs.List.{list_all}
-use Rattle.std.proofs.lemmas.List.{append-nil, map-append}
+use Rattle.std.proofs.lemmas.List.{append-nil, map-append, length-append, length-map}
 use Rattle.std.proofs.lemmas.List.Concat.{flat_map-append, flat_map-cons}
 use Rattle.line_format.specs.Forms.{numbers_of, hex_of, hex_bytes, is_printable}
 use Rattle.line_format.specs.Rows.{Row, row, text_of, fields_of_row}
 use Rattle.line_format.specs.Machine.{Leads, HasNoNewline, text_of_lines}
 use Rattle.line_format.proofs.SpellLaws.{both_true, numbers_of-spell}
 use Rattle.line_format.proofs.LineLaws.{free_of}
-use Rattle.line_format.proofs.MachineLaws.{Goes, goes-append, goes-leads, reads}
+use Rattle.line_format.proofs.MachineLaws.{Goes, goes-append, goes-leads}
 use Rattle.line_format.proofs.TableLaws.{finds}
 use Rattle.line_format.proofs.RowLaws.{IsRow, bare, row_plain, row_printable, row_cut, hex_of-spell, text_is_lines}
+use Rattle.line_format.proofs.TextLaws.{IsForward, spelled_is_read}
 use Rattle.lawful_history.specs.declared.line.Line.{Line}
 use Rattle.scenario_text.specs.Scenario.{World}
 use Rattle.scenario_text.specs.Table as scenario_table
@@ -26,7 +27,8 @@ use Rattle.record_text.specs.Versions.{first_line}
 use Rattle.record_text.specs.Table.{pieces_of, all_forms}
 use Rattle.record_text.specs.LineRows.{row_of_line, entry_of, is_frame}
 use Rattle.record_text.specs.Spelling.{Record, Fits, AllFit, IsRecord, history_rows, spelling, IsSpelling}
-use Rattle.record_text.specs.Judge.{AtFirst, InScenario, InHistory, Whole, History, Longer, Counted, put, judge, history_step, step, machine, reading, faulted, answer_in, answer}
+use Rattle.record_text.specs.Judge.{AtFirst, InScenario, InHistory, Whole, History, Longer, Counted, put, judge, history_step, step, machine, sense, answer}
+use Rattle.record_text.specs.Laws.{line_count}
 use Rattle.record_text.proofs.VersionLaws.{IsOneOrTwo, One, Two, one_or_two}
 use Rattle.record_text.proofs.TableLaws.{is_table}
 use Rattle.record_text.proofs.EntryLaws.{entry_of-row, frame_is}
@@ -140,7 +142,23 @@ text_is r =
     let first = first_line r.version in
     append_assoc first (10 ∷ scenario.spelling r.world) (text_of pieces_of (history_rows r.lines)) ∙ ap (λ (t : List ℕ). first ++ 10 ∷ t) parts ∙ sym (line-cons first (scenario_lines r.world ++ history_lines r.lines ++ count_line r.lines ∷ []))
 
+counted : (r : Record) → 0 + length (body r ++ count_line r.lines ∷ []) + 1 ≡ line_count r + 1
+counted r =
+    let all : length (body r ++ count_line r.lines ∷ []) ≡ length (body r) + 1 = length-append (body r) (count_line r.lines ∷ []) in
+    let two : length (scenario_lines r.world ++ history_lines r.lines) ≡ length (scenario_lines r.world) + length (history_lines r.lines) = length-append (scenario_lines r.world) (history_lines r.lines) in
+    let rows : length (scenario_lines r.world) ≡ length (scenario.rows_of r.world) = length-map (scenario.rows_of r.world) (bare scenario_table.pieces_of) in
+    let lines : length (history_lines r.lines) ≡ length r.lines = length-map (map row_of_line r.lines) (bare pieces_of) ∙ length-map r.lines row_of_line in
+    omega arith
+
+pub is_forward : IsForward machine sense IsSpelling line_count
+is_forward r bytes is = record {
+  lines = body r ++ count_line r.lines ∷ [];
+  at_end = Whole r.version r.world r.lines;
+  text = is.1 ∙ text_is r;
+  leads = spelled_leads r is.0;
+  says = refl;
+  counted = counted r;
+}
+
 pub is_answered : (r : Record) (bytes : List ℕ) → IsSpelling r bytes → answer bytes ≡ Ok r
-is_answered r bytes is =
-    let read : reading (text_of_lines (body r ++ count_line r.lines ∷ [])) ≡ Ok (Whole r.version r.world r.lines) = reads machine AtFirst 0 (body r ++ count_line r.lines ∷ []) (Whole r.version r.world r.lines) (spelled_leads r is.0) in
-    ap (λ (t : List ℕ). answer_in (faulted (reading t))) (is.1 ∙ text_is r) ∙ ap (λ x. answer_in (faulted x)) read
+is_answered r bytes is = spelled_is_read machine sense IsSpelling line_count is_forward r bytes is

@@ -28,15 +28,15 @@ use Rattle.record_text.specs.Growing.{history_text}
 use Rattle.record_text.specs.Positions.{is_before_history}
 use Rattle.record_text.specs.Drafts.{part_at}
 use Rattle.record_text.specs.Judge as parts
-use Rattle.record_text.specs.Judge.{Part, InHistory, Whole, is_whole, History, Longer, Counted, after_first, after_scenario, history_step, with_world, step, machine, reading, faulted, answer}
+use Rattle.record_text.specs.Judge.{Part, InHistory, Whole, is_whole, History, Longer, Counted, after_first, after_scenario, history_step, with_world, step, machine, reading, answer}
 use Rattle.record_text.specs.Answers.{Refuses, fault_of_text}
-use Rattle.record_text.proofs.ReadLaws.{text_fails, same_fault}
+use Rattle.record_text.proofs.ReadLaws.{refuses}
 use Rattle.record_text.proofs.ForwardLaws.{history_goes}
 use Rattle.record_text.proofs.BackLaws.{is_read, Reads as HasSpelling}
 
--- what is wrong with the lines is the fault that is answered
+-- The fault of the lines is the fault that is returned.
 pub refused : (bytes : List ℕ) (part : Part) (fault : TextFault RecordCause) → Reads {U = Unit {0}} part (Err fault) (reading bytes) → Refuses (fault_of_text fault) (answer bytes)
-refused bytes part fault is = same_fault (fault_of_text fault) (faulted (reading bytes)) (text_fails part fault (reading bytes) is)
+refused bytes part fault is = refuses part fault (reading bytes) is
 
 abbrev whole_record : Part → Record
 whole_record (Whole version w lines) = record { version = version; world = w; lines = lines }

@@ -1,4 +1,4 @@
--- The spelling of a schedule is read as the schedule.
+-- The rows of a schedule follow one another up to its end.
 use Rattle.std.proofs.Common.{mul-le-mul_right, ◌≡◌, ℕ, ◌+◌, ◌*◌, ◌/◌, ◌%◌, ◌^◌, ◌<◌, ◌≤◌, Bool, true, false, cond, eqb, not, List, [], ◌∷◌, ◌++◌, length, map, Option, Some, None, Ok, refl, sym, ap, subst, ◌∙◌, append_assoc, arith, eq-eqb}
 use Rattle.std.specs.Prelude.{decimal}
 use Rattle.std.specs.List.{AllByRecursion}
@@ -9,10 +9,10 @@ use Rattle.std.proofs.lemmas.List.Elements.{recursion_from_All}
 use Rattle.std.proofs.lemmas.List.Sums.{sum_by_push, sum_by-append}
 use Rattle.line_format.specs.Numbers.{number_of}
 use Rattle.line_format.specs.Rows.{Row, row}
-use Rattle.line_format.specs.Machine.{Leads, HasNoNewline, text_of_lines}
 use Rattle.line_format.proofs.NumberLaws.{number_of-decimal}
-use Rattle.line_format.proofs.MachineLaws.{reads}
-use Rattle.line_format.proofs.RowLaws.{bare, row_plain, text_is_lines}
+use Rattle.line_format.proofs.TextLaws.{IsForward}
+use Rattle.line_format.proofs.RowTexts as all
+use Rattle.line_format.proofs.RowTexts.{Reaches, rows_are_lines}
 use Rattle.section_map.specs.Geometry.{Shape, IsShape}
 use Rattle.scenario_text.specs.Sizes.{is_geometry}
 use Rattle.scenario_text.proofs.SizeLaws.{HasRegion, is_geometry-true}
@@ -25,36 +25,19 @@ use Rattle.port_text.specs.Acts.{cost, turns_of}
 use Rattle.port_text.specs.Table.{pieces_of, all_forms}
 use Rattle.port_text.specs.ActRows.{row_of_act}
 use Rattle.port_text.specs.Scenario.{World, IsWorld, IsAllowed}
-use Rattle.port_text.specs.Spelling.{row_of_peer, rows_of_peers, rows_of, spelling, IsSpelling}
-use Rattle.port_text.specs.Judge.{SoFar, world_so_far, ordinal_of, at_start, has_ended, machine, reading, faulted, world_in, answer}
+use Rattle.port_text.specs.Spelling.{row_of_peer, rows_of_peers, rows_of, IsSpelling}
+use Rattle.port_text.specs.Judge.{SoFar, world_so_far, ordinal_of, at_start, has_ended, rules, machine, sense}
+use Rattle.port_text.specs.Laws.{line_count}
 use Rattle.port_text.proofs.TableLaws.{is_table}
 use Rattle.port_text.proofs.SizeLaws.{has_port-true}
-use Rattle.port_text.proofs.Follows.{CanFollow, with_row, step-row, row_of_follows}
+use Rattle.port_text.proofs.Follows.{CanFollow, with_row, follows}
 use Rattle.port_text.proofs.ActRowLaws.{act_of-row, follows_act}
 
--- ---- rows that follow one another
-
--- Each row can follow, and none is the end.
 abbrev Along : SoFar → List (Row Form) → SoFar → Type 0
-Along d [] e = d ≡ e
-Along d (r ∷ rs) e = CanFollow d r × (has_ended (with_row r d) ≡ false) × Along (with_row r d) rs e
+Along d rs e = all.Along rules d rs e
 
 along-append : (d : SoFar) (rs ss : List (Row Form)) (e f : SoFar) → Along d rs e → Along e ss f → Along d (rs ++ ss) f
-along-append d [] ss e f here later = subst (λ (x : SoFar). Along x ss f) (sym here) later
-along-append d (r ∷ rs) ss e f here later = (here.0, here.1, along-append (with_row r d) rs ss e f here.2 later)
-
-leads-cons : (d now : SoFar) (line : List ℕ) (lines : List (List ℕ)) (e : SoFar) → HasNoNewline line → machine.step d line ≡ Ok now → has_ended now ≡ false → Leads machine now lines e → Leads machine d (line ∷ lines) e
-leads-cons d now line [] e plain is on leads = absurd leads
-leads-cons d now line (next ∷ more) e plain is on leads = (now, plain, is, on, leads)
-
--- Rows up to the last are lines that lead to the end.
-leads : (d : SoFar) (rs : List (Row Form)) (e : SoFar) (r : Row Form) (f : SoFar) → Along d rs e → CanFollow e r → with_row r e ≡ f → has_ended f ≡ true → Leads machine d (map (bare pieces_of) (rs ++ r ∷ [])) f
-leads d [] e r f along can gives ended =
-    let can' = subst (λ (x : SoFar). CanFollow x r) (sym along) can in
-    let gives' = ap (with_row r) along ∙ gives in
-    (row_plain pieces_of all_forms is_table r (row_of_follows d r can'), step-row d r can' ∙ ap (λ (x : SoFar). Ok x) gives', ended)
-leads d (s ∷ rs) e r f along can gives ended =
-    leads-cons d (with_row s d) (bare pieces_of s) (map (bare pieces_of) (rs ++ r ∷ [])) f (row_plain pieces_of all_forms is_table s (row_of_follows d s along.0)) (step-row d s along.0) along.1 (leads (with_row s d) rs e r f along.2 can gives ended)
+along-append d rs ss e f here later = all.along-append rules d rs ss e f here later
 
 -- ---- the head
 
@@ -73,16 +56,16 @@ sizes_along : (peers out most : ℕ) → (2 ≤ peers) × (peers ≤ 8) → out 
     → Along at_start (sizes_rows peers out most) (at_peers peers out most [])
 sizes_along peers out most few o m geometry port =
     let open_ : eqb 0 peers ≡ false = ne_eqb 0 peers (λ none. omega arith) in (
-      record { values = (omega arith, omega arith, tt); bytes = refl; order = quiet _; range = refl; peer = refl; message = refl; sizes = refl; turns = omega arith },
+      follows _ _ (record { values = (omega arith, omega arith, tt); bytes = refl; order = quiet _; range = refl; peer = refl; message = refl; sizes = refl; turns = omega arith }),
       refl,
       (
-        record { values = (few.0, few.1, tt); bytes = refl; order = quiet _; range = refl; peer = refl; message = refl; sizes = refl; turns = omega arith },
+        follows _ _ (record { values = (few.0, few.1, tt); bytes = refl; order = quiet _; range = refl; peer = refl; message = refl; sizes = refl; turns = omega arith }),
         refl,
         (
-          record { values = (omega arith, omega arith, tt); bytes = refl; order = quiet _; range = refl; peer = refl; message = refl; sizes = geometry; turns = omega arith },
+          follows _ _ (record { values = (omega arith, omega arith, tt); bytes = refl; order = quiet _; range = refl; peer = refl; message = refl; sizes = geometry; turns = omega arith }),
           refl,
           (
-            record { values = (omega arith, omega arith, tt); bytes = refl; order = quiet _; range = refl; peer = refl; message = refl; sizes = port; turns = omega arith },
+            follows _ _ (record { values = (omega arith, omega arith, tt); bytes = refl; order = quiet _; range = refl; peer = refl; message = refl; sizes = port; turns = omega arith }),
             refl,
             rw open_ refl,
           ),
@@ -119,7 +102,7 @@ peers_along peers out most front (b ∷ rest) p same all few =
     let later = subst (λ (bs : List Bool). Along (at_peers peers out most (front ++ b ∷ [])) (rows_of_peers (p + 1) rest) (at_peers peers out most bs)) whole
     (peers_along peers out most (front ++ b ∷ []) rest (p + 1) (omega arith) (omega arith) few) in
     let t = subst P (sym (peer_gives peers out most front p b)) (not_ended _, later) in
-    (peer_follows peers out most front p b same (omega arith) few, t.0, t.1)
+    (follows _ _ (peer_follows peers out most front p b same (omega arith) few), t.0, t.1)
 
 -- ---- the acts
 
@@ -152,7 +135,7 @@ acts_along w front (a ∷ rest) is allowed all =
     let later = subst (λ (acts : List Act). Along (at_acts w (front ++ a ∷ [])) (map row_of_act rest) (at_acts w acts)) whole (acts_along w (front ++ a ∷ []) rest is allowed.1 (all ∙ sym whole)) in
     let P : SoFar → Type 0 = λ x. (has_ended x ≡ false) × Along x (map row_of_act rest) (at_acts w (front ++ a ∷ rest)) in
     let t = subst P (sym (act_gives (at_acts w front) a)) (refl, later) in
-    (follows_act (at_acts w front) a refl then_ few, t.0, t.1)
+    (follows _ _ (follows_act (at_acts w front) a refl then_ few), t.0, t.1)
 
 -- ---- the whole text
 
@@ -212,25 +195,28 @@ head_along w is =
     let full : eqb (length w.honest) g.peers ≡ true = eq-eqb _ _ flags in
     let full_state : SoFar = at_peers g.peers (4 * g.out) w.most w.honest in
     let begin : CanFollow full_state (row Begin [] []) = record { values = tt; bytes = refl; order = rw full refl; range = refl; peer = refl; message = refl; sizes = refl; turns = omega arith } in
-    let last : Along full_state (row Begin [] [] ∷ []) (at_acts w []) = (begin, refl, refl) in
+    let last : Along full_state (row Begin [] [] ∷ []) (at_acts w []) = (follows _ _ begin, refl, refl) in
     along-append at_start (flagged w) (row Begin [] [] ∷ []) full_state (at_acts w [])
     (along-append at_start (measured w) (rows_of_peers 0 w.honest) sized full_state sizes peers) last
   where
     grows : (p n : ℕ) → 1 ≤ p → n ≤ p * n
     grows p n le = let one : 1 * n ≤ p * n = mul-le-mul_right n le in omega arith
 
--- The lines of a schedule's rows lead to its end.
-pub spelled_leads : (w : World) → IsWorld w → Leads machine at_start (map (bare pieces_of) (rows_of w)) (at_end w)
-spelled_leads w world =
+-- The rows of a schedule lead to its end.
+spelled_reaches : (w : World) → IsWorld w → Reaches rules at_start (rows_of w) (at_end w)
+spelled_reaches w world =
     let acts = acts_along w [] w.acts world (recursion_from_All (IsAllowed w) w.acts world.allowed) refl in
-    let all = along-append at_start (begun w) (map row_of_act w.acts) (at_acts w []) (at_acts w w.acts) (head_along w world) acts in
     let end : CanFollow (at_acts w w.acts) (row End [] []) = record { values = tt; bytes = refl; order = refl; range = refl; peer = refl; message = refl; sizes = refl; turns = omega arith } in
-    leads at_start (acted w) (at_acts w w.acts) (row End [] []) (at_end w) all end refl refl
+    record {
+      front = acted w;
+      last = row End [] [];
+      before = at_acts w w.acts;
+      parts = refl;
+      along = along-append at_start (begun w) (map row_of_act w.acts) (at_acts w []) (at_acts w w.acts) (head_along w world) acts;
+      follows = follows _ _ end;
+      gives = refl;
+      ended = refl;
+    }
 
-pub text_is : (w : World) → spelling w ≡ text_of_lines (map (bare pieces_of) (rows_of w))
-text_is w = text_is_lines pieces_of (rows_of w)
-
-pub is_answered : (w : World) (bytes : List ℕ) → IsSpelling w bytes → answer bytes ≡ Ok w
-is_answered w bytes is =
-    let read : reading (text_of_lines (map (bare pieces_of) (rows_of w))) ≡ Ok (at_end w) = reads machine at_start 0 (map (bare pieces_of) (rows_of w)) (at_end w) (spelled_leads w is.0) in
-    ap (λ (t : List ℕ). world_in (faulted (reading t))) (is.1 ∙ text_is w) ∙ ap (λ x. world_in (faulted x)) read ∙ ap (λ (x : World). Ok x) (world_is w w.acts is.0)
+pub is_forward : IsForward machine sense IsSpelling line_count
+is_forward w bytes is = rows_are_lines rules sense rows_of is_table w (at_end w) (spelled_reaches w is.0) (ap (λ (x : World). Ok x) (world_is w w.acts is.0)) bytes is.1

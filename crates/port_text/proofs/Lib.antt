@@ -8,4 +8,3 @@ pub mod ReadLaws
 pub mod WholeLaws
 pub mod ForwardLaws
 pub mod PrintLaws
-pub mod LawLaws

@@ -13,6 +13,7 @@ use Rattle.line_format.specs.Rows.{Row, row}
 use Rattle.line_format.proofs.FitLaws.{counted, list_0, list_1}
 use Rattle.line_format.proofs.NumberLaws.{number_of-decimal}
 use Rattle.line_format.proofs.StepLaws.{not_false}
+use Rattle.line_format.proofs.RowTexts.{Keeps, AreKept}
 use Rattle.scenario_text.specs.Table.{any_number}
 use Rattle.scenario_text.proofs.SizeLaws.{HasRegion, has_region}
 use Rattle.port_text.specs.declared.acts.Act.{Act}
@@ -25,9 +26,9 @@ use Rattle.port_text.specs.Table.{pieces_of}
 use Rattle.port_text.specs.ActRows.{row_of_act}
 use Rattle.port_text.specs.Scenario.{World, IsAllowed}
 use Rattle.port_text.specs.Spelling.{row_of_peer, rows_of_peers}
-use Rattle.port_text.specs.Judge.{SoFar, world_so_far, ordinal_of, position_of, is_act, with_act}
+use Rattle.port_text.specs.Judge.{SoFar, world_so_far, ordinal_of, position_of, is_act, with_act, rules}
 use Rattle.port_text.proofs.SizeLaws.{HasPort, port_of}
-use Rattle.port_text.proofs.Follows.{CanFollow, with_row}
+use Rattle.port_text.proofs.Follows.{CanFollow, tests}
 use Rattle.port_text.proofs.ActRowLaws.{same_row, act_row, allowed_act}
 
 -- ---- the rows before a position
@@ -85,9 +86,8 @@ Good AtBegin d = IsMeasured d × (d.acts ≡ []) × (length d.honest ≡ d.peers
 Good AtActs d = IsMeasured d × Acted d
 Good Ended d = IsMeasured d × Acted d
 
-pub record Adds (d : SoFar) (r : Row Form) : Type 0 where
-  pub rows : before (with_row r d).position (with_row r d) ≡ before d.position d ++ r ∷ []
-  pub good : Good (with_row r d).position (with_row r d)
+abbrev Adds : SoFar → Row Form → Type 0
+Adds d r = Keeps rules (λ e. before e.position e) (λ e. Good e.position e) d r
 
 -- ---- positions
 
@@ -250,5 +250,5 @@ adds End ns frame d can good =
 adds form ns frame d can good = adds_act d form ns frame refl refl can good
 
 -- A row that can follow preserves the invariant, and adds its line.
-pub row_adds : (d : SoFar) (r : Row Form) → CanFollow d r → Good d.position d → Adds d r
-row_adds d r can good = adds r.form r.numbers r.frame d can good
+pub are_kept : AreKept rules (λ e. before e.position e) (λ e. Good e.position e)
+are_kept d r can good = adds r.form r.numbers r.frame d (tests d r can) good

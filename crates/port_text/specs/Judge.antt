@@ -1,12 +1,13 @@
 -- Reading line by line: the effect of a line, and the fault of a faulty one.
-use Rattle.std.specs.Prelude.{ℕ, ◌+◌, ◌==◌, ◌||◌, not, nat_lt, if◌then◌else◌, Bool, true, false, List, [], ◌∷◌, ◌++◌, length, slice_index, slice_get, Option, Some, None, Result, Ok, Err, option_and_then}
-use Rattle.std.specs.List.{list_all}
+use Rattle.std.specs.Prelude.{ℕ, ◌+◌, ◌==◌, ◌||◌, not, nat_lt, if◌then◌else◌, Bool, true, false, List, [], ◌∷◌, ◌++◌, length, slice_index, slice_get, Option, Some, None, Result, Ok, option_and_then}
 use Rattle.std.specs.Option.{option_map_or}
 use Rattle.line_format.specs.Numbers.{number_of}
-use Rattle.line_format.specs.Forms.{fields_of, numbers_of, hex_of, hex_bytes, is_printable}
-use Rattle.line_format.specs.Rows.{find_form}
-use Rattle.line_format.specs.Steps.{◌>>=◌, some_or}
-use Rattle.line_format.specs.Machine.{Machine, Wrong, At, After, NoEnd, read}
+use Rattle.line_format.specs.declared.grammar.Test.{Test}
+use Rattle.line_format.specs.declared.grammar.Test.TheVariants.{Line, Order, Number, Bytes}
+use Rattle.line_format.specs.Machine.{Machine}
+use Rattle.line_format.specs.Grammar.{Rules, machine_of}
+use Rattle.line_format.specs.Texts as texts
+use Rattle.line_format.specs.Texts.{Sense}
 use Rattle.scenario_text.specs.Sizes.{is_geometry}
 use Rattle.port_text.specs.declared.acts.Act.{Act}
 use Rattle.port_text.specs.declared.acts.Act.TheVariants as acts
@@ -73,18 +74,13 @@ is_out_of_order d form fields =
     not (ordinal_of (position_of form) == ordinal_of d.position)
     || option_map_or (is_out_of_turn d form) (option_and_then number_of (slice_get fields 1)) false
 
--- BadNumber
+-- BadNumber, and then BadPeer
 
-abbrev pub numbers_in : SoFar → Form → List (List ℕ) → Option (List ℕ)
-numbers_in d form fields =
-    option_and_then (λ ns. if is_in_range (world_so_far d) form ns then Some ns else None) (numbers_of (pieces_of form) fields)
-
--- BadMessage
-
-abbrev pub message_in : SoFar → Form → List (List ℕ) → Option (List ℕ)
-message_in d form fields =
-    option_and_then (λ bytes. if is_message_length (world_so_far d) form (length bytes) then Some bytes else None)
-    (hex_bytes (hex_of (pieces_of form) fields))
+abbrev pub wrong_numbers : SoFar → Form → List ℕ → Option Cause
+wrong_numbers d form ns =
+    if not (is_in_range (world_so_far d) form ns) then Some BadNumber
+    else if not (is_its_peer (world_so_far d) form ns) then Some BadPeer
+    else None
 
 -- BadGeometry
 
@@ -143,22 +139,21 @@ abbrev pub add : Form → List ℕ → Option Act → SoFar → SoFar
 add form ns (Some act) d = with_act act d
 add form ns None d = add_head form ns d
 
--- A line: the tests in their order
+-- BadGeometry, and then TooManyTurns
 
-unfoldable pub judge : SoFar → Form → List (List ℕ) → Result SoFar Cause
-judge d form fields =
-    if is_out_of_order d form fields then Err BadOrder else do
-      ns ← some_or BadNumber (numbers_in d form fields)
-      if not (is_its_peer (world_so_far d) form ns) then Err BadPeer else do
-        bytes ← some_or BadMessage (message_in d form fields)
-        if not (fits_sizes d form ns) then Err BadGeometry else
-            if nat_lt 4000000 (turns_with d (act_of form ns bytes)) then Err TooManyTurns else Ok (add form ns (act_of form ns bytes) d)
+abbrev pub wrong_row : SoFar → Form → List ℕ → List ℕ → Option Cause
+wrong_row d form ns bytes =
+    if not (fits_sizes d form ns) then Some BadGeometry
+    else if nat_lt 4000000 (turns_with d (act_of form ns bytes)) then Some TooManyTurns
+    else None
 
-unfoldable pub step : SoFar → List ℕ → Result SoFar Cause
-step d line =
-    if list_all is_printable line then (do
-      form ← some_or BadLine (find_form pieces_of all_forms (fields_of line))
-      judge d form (fields_of line)) else Err BadLine
+-- The fault of a line that fails a test
+
+abbrev pub cause : Test → Cause
+cause Line = BadLine
+cause Order = BadOrder
+cause Number = BadNumber
+cause Bytes = BadMessage
 
 -- The text
 
@@ -168,12 +163,21 @@ at_start = record { position = AtVersion; peers = 0; out = 0; most = 0; honest =
 abbrev pub has_ended : SoFar → Bool
 has_ended d = ordinal_of d.position == 7
 
-abbrev pub machine : Machine SoFar Cause
-machine = record { step = step; ended = has_ended }
+abbrev pub rules : Rules SoFar Form Cause
+rules = record {
+  pieces_of = pieces_of;
+  forms = all_forms;
+  cause = cause;
+  is_out_of_order = is_out_of_order;
+  wrong_numbers = wrong_numbers;
+  fits = λ d form size. is_message_length (world_so_far d) form size;
+  wrong_row = wrong_row;
+  add = λ form ns bytes d. add form ns (act_of form ns bytes) d;
+  ended = has_ended;
+}
 
--- The value of a text, or its first fault.
-abbrev pub reading : List ℕ → Result SoFar (Wrong Cause)
-reading bytes = read machine at_start bytes
+abbrev pub machine : Machine SoFar Cause
+machine = machine_of rules
 
 -- Answers
 
@@ -187,20 +191,9 @@ fault_at BadGeometry n = faults.BadGeometry n
 fault_at TooManyTurns n = faults.TooManyTurns n
 
 -- Bytes after the end are a faulty line.
-abbrev pub fault_of : Wrong Cause → PortsFault
-fault_of (At cause n) = fault_at cause n
-fault_of (After n) = faults.BadLine n
-fault_of NoEnd = faults.NoEnd
-
--- The same with the fault that is returned.
-abbrev pub faulted : Result SoFar (Wrong Cause) → Result SoFar PortsFault
-faulted (Ok d) = Ok d
-faulted (Err wrong) = Err (fault_of wrong)
-
-abbrev pub world_in : Result SoFar PortsFault → Result World PortsFault
-world_in (Ok d) = Ok (world_so_far d)
-world_in (Err fault) = Err fault
+abbrev pub sense : Sense SoFar Cause World PortsFault
+sense = record { start = at_start; value = λ d. Ok (world_so_far d); at = fault_at; after = λ n. faults.BadLine n; no_end = faults.NoEnd }
 
 -- The schedule that a text spells, or its first fault.
 abbrev pub answer : List ℕ → Result World PortsFault
-answer bytes = world_in (faulted (reading bytes))
+answer bytes = texts.answer machine sense bytes

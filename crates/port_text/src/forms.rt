@@ -1,10 +1,9 @@
 //! The forms of the lines of a text of ports, as a table.
 ghost use Rattle.std.specs.Prelude.{◌≡◌, ◌≤◌, length};
-ghost use Rattle.line_format.specs.Forms.{pieces, texts};
-ghost use Rattle.line_format.specs.Rows.{find_form};
-ghost use Rattle.port_text.specs.Table.{pieces_of, all_forms};
+ghost use Rattle.line_format.specs.Forms.{pieces};
+ghost use Rattle.port_text.specs.Table.{pieces_of};
 
-use line_format::{FieldKind, has_form};
+use line_format::FieldKind;
 
 /// A form of a line. Two words at one position make two forms.
 #[derive(Clone, Copy, Debug, PartialEq, Eq)]
@@ -35,7 +34,7 @@ pub enum Form {
     End,
 }
 
-const FORMS: [Form; 12] = [
+pub const FORMS: [Form; 12] = [
     Form::Version,
     Form::Peers,
     Form::Out,
@@ -79,15 +78,4 @@ impl Form {
             Form::End => &[FieldKind::Word(b"end")],
         }
     }
-}
-
-/// Returns the form of a line with these fields, if it has one.
-#[tactic(auto, unfolding(line_format::specs::Rows::find_form))]
-pub fn form_of(fields: &[&[u8]]) -> Option<Form>
-    ensures { result ≡ find_form pieces_of all_forms (texts fields.now) }
-{
-    FORMS
-        .iter()
-        .copied()
-        .find(|form| has_form(form.slots(), fields))
 }

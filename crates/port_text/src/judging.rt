@@ -43,7 +43,7 @@ fn is_out_of_turn(draft: &Draft, form: Form, p: u64) -> bool
 pub fn is_out_of_order(draft: &Draft, form: Form, fields: &[&[u8]]) -> bool
     ensures { result ≡ is_out_of_order (so_far draft.now) form (texts fields.now) }
 {
-    if Position::of(form).ordinal() != draft.position.ordinal() {
+    if Position::of(form) != draft.position {
         return true;
     }
     match fields.get(1) {

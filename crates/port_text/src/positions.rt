@@ -1,6 +1,6 @@
 //! The position of the next line in a text of ports.
 ghost use Rattle.std.specs.Prelude.{◌≡◌};
-ghost use Rattle.port_text.specs.Judge.{ordinal_of, position_of};
+ghost use Rattle.port_text.specs.Judge.{position_of};
 
 use crate::forms::Form;
 
@@ -18,22 +18,6 @@ pub enum Position {
 }
 
 impl Position {
-    /// Returns the number of the position, from 0.
-    pub fn ordinal(self) -> u8
-        ensures { result ≡ ordinal_of self }
-    {
-        match self {
-            Position::AtVersion => 0,
-            Position::AtPeers => 1,
-            Position::AtOut => 2,
-            Position::AtLongest => 3,
-            Position::AtPeer => 4,
-            Position::AtBegin => 5,
-            Position::AtActs => 6,
-            Position::Ended => 7,
-        }
-    }
-
     /// Returns the position at which lines of the form can be.
     pub fn of(form: Form) -> Position
         ensures { result ≡ position_of form }

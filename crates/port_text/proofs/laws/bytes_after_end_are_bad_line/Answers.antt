@@ -1,5 +1,9 @@
-use Rattle.port_text.proofs.LawLaws.{bytes_after_end_are_bad_line_lem}
+use Rattle.line_format.proofs.TextLaws.{bytes_after_end_are_a_line}
+use Rattle.port_text.specs.Spelling.{IsSpelling}
+use Rattle.port_text.specs.Judge.{machine, sense}
+use Rattle.port_text.specs.Laws.{line_count}
+use Rattle.port_text.proofs.ForwardLaws.{is_forward}
 use Rattle.port_text.proofs.laws.bytes_after_end_are_bad_line.Goals as goal
 
 pub returns : goal.returns
-returns c = bytes_after_end_are_bad_line_lem
+returns c = bytes_after_end_are_a_line machine sense IsSpelling line_count is_forward

@@ -1,5 +1,6 @@
-use Rattle.port_text.proofs.LawLaws.{fault_is_first_lem}
+use Rattle.line_format.proofs.TextLaws.{fault_is_first}
+use Rattle.port_text.specs.Judge.{machine, sense}
 use Rattle.port_text.proofs.laws.fault_is_first.Goals as goal
 
 pub returns : goal.returns
-returns c = fault_is_first_lem
+returns c = fault_is_first machine sense

@@ -1,5 +1,10 @@
-use Rattle.port_text.proofs.LawLaws.{read_again}
+use Rattle.std.proofs.Common.{refl}
+use Rattle.line_format.proofs.TextLaws.{spelled_is_read}
+use Rattle.port_text.specs.Spelling.{world_of, IsSpelling}
+use Rattle.port_text.specs.Judge.{machine, sense}
+use Rattle.port_text.specs.Laws.{line_count}
+use Rattle.port_text.proofs.ForwardLaws.{is_forward}
 use Rattle.port_text.proofs.laws.printed_is_read_again.Goals as goal
 
 pub returns : goal.returns
-returns c = read_again
+returns c = λ scenario. spelled_is_read machine sense IsSpelling line_count is_forward (world_of scenario) _ (scenario.world, refl)

@@ -107,9 +107,9 @@ told_at whole paired agree key seat acc words id from lists fit f m start all = 
     let same : (p : ℕ) → p < key.geometry.peers → list_of lists p ≡ acc p = λ p lt. tells_all key.geometry.peers seat acc id lists (subst (λ k. Fits key.geometry.peers seat acc id (view k lists)) start f) p (omega arith) in record {
       pair = λ a b. same_two key (accesses_by acc) (accesses_by (list_of lists)) (λ p p2. ap accesses_in (same p (omega arith)))
           (are_told whole paired agree key (region key words) (session_words key words) (accesses_by acc) (is_ground key fit) a b (reached_by key fit _ _ _ deeds) (never_borne whole agree key fit a b _ _ _ deeds));
-      woken = λ ev a b p number p2 asked. let one = same p (omega arith) in let other = same (1 - p) (omega arith) in
-          subst (λ l. ¬ Contains (derived_state key (1 - p) (accesses_in l)).wake.missed number) (sym other)
-          (never_missed (link_config_of key) (is_ground key fit) ev (honest_of key) a b (region key words) (session_words key words) (λ q. derived_state key q (accesses_by acc q)) (reached_by key fit _ _ _ deeds) p number p2 (sym (ap (λ l. (derived_state key p (accesses_in l)).wake.asked) one) ∙ asked));
+      woken = λ ev a b p frame p2 asked. let one = same p (omega arith) in let other = same (1 - p) (omega arith) in
+          subst (λ l. ¬ Contains (derived_state key (1 - p) (accesses_in l)).wake.missed frame) (sym other)
+          (never_missed (link_config_of key) (is_ground key fit) ev (honest_of key) a b (region key words) (session_words key words) (λ q. derived_state key q (accesses_by acc q)) (reached_by key fit _ _ _ deeds) p frame p2 (sym (ap (λ l. (derived_state key p (accesses_in l)).wake.asked) one) ∙ asked));
       neighbour_word = λ p p2 h other. subst (λ l. CarriesNone (derived_state key p (accesses_in l)).numbers.log) (sym (same p (omega arith))) (carries_none key (region key words) (session_words key words) (accesses_by acc) deeds p h other);
       rung = same_rung key acc (list_of lists) same (are_rung key (λ w. get_or words w 0) acc (interrupts_by key words acc fit m));
     }

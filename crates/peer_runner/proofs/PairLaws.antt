@@ -107,4 +107,4 @@ module _ (key : RunSetup) (fit : IsFit key) (a : honest_of key 0 ≡ true) (b : 
 
 -- what one asks for, the other doesn't miss
 pub woken_lem : (key : RunSetup) → IsFit key → honest_of key 0 ≡ true → honest_of key 1 ≡ true → (memory words : ℕ → ℕ) (acc : ℕ → List (MemoryOp CallAccess)) → Made key memory words acc → (p : ℕ) → p < 2 → AskedIsRung key memory acc p
-woken_lem key fit a b memory words acc m p p2 = λ ev number asked. never_missed (link_config_of key) (is_ground key fit) ev (honest_of key) a b memory words (λ q. derived_state key q (acc q)) (reached_by key fit memory words acc m) p number p2 asked
+woken_lem key fit a b memory words acc m p p2 = λ ev frame asked. never_missed (link_config_of key) (is_ground key fit) ev (honest_of key) a b memory words (λ q. derived_state key q (acc q)) (reached_by key fit memory words acc m) p frame p2 asked

@@ -23,7 +23,7 @@ use Rattle.peer_runner.specs.declared.run_setup.RunSetup.{RunSetup}
 use Rattle.peer_runner.specs.PassView.{PassView}
 use Rattle.peer_runner.specs.RunSetups.{world_in, config_in, honest_of, IsMadeFor}
 use Rattle.peer_runner.specs.Actions.{Action, accesses_in}
-use Rattle.peer_runner.specs.DerivedStates.{CallAccess, MemoryOp, DerivedState, initial_derived_state, derived_state, NeverMarked}
+use Rattle.peer_runner.specs.DerivedStates.{CallAccess, MemoryOp, event_word, DerivedState, initial_derived_state, derived_state, NeverMarked}
 use Rattle.doorbell_irq.specs.Routes.{is_intx}
 use Rattle.peer_runner.specs.Interrupts.{weigh, tally, one_if, rings, finds, AreRung}
 use Rattle.peer_runner.specs.Rules.{accesses_by, list_of, SessionsAreLearned, CarriesNone, NoneIsMissed, AllIsLearned, IsLearned}
@@ -32,7 +32,7 @@ use Rattle.doorbell_irq.specs.declared.route.Route.{Route}
 use Rattle.peer_runner.specs.DoorbellPaths.{AreRoutesOf}
 use Rattle.peer_runner.specs.Turns.{Running, comes_to, all_turns, TakesTurns, lines_of_turns}
 use Rattle.peer_runner.specs.OwnRecord.{IsTraceOf, start_of, spans_of, IsOwnRecord}
-use Rattle.peer_runner.specs.RunningRecord.{RecordReader, initial_reader, reader_after_lines, reader_of_lines, side_in, ReaderMatches, AreWoken, lines_if, lines_by, refuses, how_many, is_interrupt, is_interrupt_by, is_bell, bells_in, InterruptsMatch, ArePaired, CarryNone, IsRunOf}
+use Rattle.peer_runner.specs.RunningRecord.{RecordReader, initial_reader, reader_after_lines, reader_of_lines, reader_of_part, side_in, ReaderMatches, AreWoken, lines_if, lines_by, refuses, how_many, is_interrupt, is_interrupt_by, is_bell, bells_in, InterruptsMatch, ArePaired, CarryNone, IsRunOf}
 use Rattle.peer_runner.specs.Drives.{storm_in, Did, HasRun, RanIf, RanOne, RanAll}
 use Rattle.peer_runner.proofs.Standings.{standing_none}
 use Rattle.peer_runner.proofs.Actions.{accesses_none}
@@ -133,17 +133,17 @@ lines_beside part p isnt = lines_one part p ∙ ap (λ (b : Bool). if b then par
 
 -- what a list and the lines of its peer say of it, where it is honest
 record Says (key : RunSetup) (p : ℕ) (list : List (Action (MemoryOp CallAccess))) (lines : List Line) : Type 0 where
-  told : ReaderMatches (derived_state key p (accesses_in list)) (reader_of_lines lines)
+  told : ReaderMatches (derived_state key p (accesses_in list)) (reader_of_lines (event_word (config_in key p)) lines)
   refused : NeverMarked key p (accesses_in list) → list_any refuses lines ≡ false
 
 -- a peer without lines stands where it began
-nothing_told : reader_of_lines [] ≡ initial_reader
+nothing_told : (event : ℕ) → reader_of_lines event [] ≡ initial_reader
 unfolding reader_after_lines
-nothing_told = refl
+nothing_told event = refl
 
 says_none : (key : RunSetup) (p : ℕ) → Says key p [] []
 says_none key p = record {
-  told = subst (λ (s : DerivedState). ReaderMatches s (reader_of_lines [])) (sym at) (subst (ReaderMatches initial_derived_state) (sym nothing_told) (record { side = refl; log = refl; asked = refl; missed = refl }));
+  told = subst (λ (s : DerivedState). ReaderMatches s (reader_of_lines (event_word (config_in key p)) [])) (sym at) (subst (ReaderMatches initial_derived_state) (sym (nothing_told (event_word (config_in key p)))) (record { side = refl; log = refl; asked = refl; missed = refl }));
   refused = λ never. refl;
 }
   where
@@ -189,29 +189,37 @@ both_honest key a b (suc (suc p)) lt = absurd (omega arith)
 says_of : (world : World) (key : RunSetup) (lists : List (List (Action (MemoryOp CallAccess)))) (traces : List OwnTrace) → 2 ≤ length lists → RanAll world key 0 lists traces → (p : ℕ) → p < 2 → honest_of key p ≡ true → Says key p (list_of lists p) (lines_by (map part_of traces) p)
 says_of world key lists traces two ran p p2 honest = let e : 0 + p ≡ p = omega arith in subst (λ q. Says key q (get_or lists p []) (lines_by (map part_of traces) q)) e (says_at world key 0 p lists traces (omega arith) (ap (honest_of key) e ∙ honest) ran)
 
+-- the own event word by the scenario and by the key that was made for it
+event_is : (world : World) (key : RunSetup) → IsMadeFor world key → (p : ℕ) → event_word (config_in key p) ≡ event_word (config_of world p)
+event_is world key made p = ap event_word (same_who world key p made)
+
+reader_matches_in : (world : World) (key : RunSetup) (parts : List Part) → IsMadeFor world key → (p : ℕ) (list : List (Action (MemoryOp CallAccess))) → Says key p list (lines_by parts p) → ReaderMatches (derived_state key p (accesses_in list)) (reader_of_part world parts p)
+reader_matches_in world key parts made p list says = subst (λ event. ReaderMatches (derived_state key p (accesses_in list)) (reader_of_lines event (lines_by parts p))) (event_is world key made p) says.told
+
 -- what the lines record of two sides is what their lists leave
 delivers_by : (one other : RecordReader) (s o : DerivedState) → ReaderMatches s one → ReaderMatches o other → DeliversInOrder (own_side s.end) (own_side o.end) s.numbers.log o.numbers.log → DeliversInOrder (side_in one) (side_in other) one.log other.log
 delivers_by one other s o mine theirs d = subst (λ (x : Side). DeliversInOrder x (side_in other) one.log other.log) (sym mine.side) (subst (λ (x : Side). DeliversInOrder (own_side s.end) x one.log other.log) (sym theirs.side)
     (subst (λ (l : Log). DeliversInOrder (own_side s.end) (own_side o.end) l other.log) (sym mine.log) (subst (λ (l : Log). DeliversInOrder (own_side s.end) (own_side o.end) s.numbers.log l) (sym theirs.log) d)))
 
-pairs : (world : World) (key : RunSetup) (lists : List (List (Action (MemoryOp CallAccess)))) (traces : List OwnTrace) → 2 ≤ length lists → honest_of key 0 ≡ true → honest_of key 1 ≡ true → RanAll world key 0 lists traces → SessionsAreLearned key (accesses_by (list_of lists)) → ArePaired (map part_of traces)
-pairs world key lists traces two a b ran told = record {
-  deliver = λ p p2. let q2 : 1 - p < 2 = omega arith in delivers_by _ _ (derived_state key p (accesses_in (list_of lists p))) (derived_state key (1 - p) (accesses_in (list_of lists (1 - p)))) (says p p2).told (says (1 - p) q2).told (told.deliver p p2);
+pairs : (world : World) (key : RunSetup) (lists : List (List (Action (MemoryOp CallAccess)))) (traces : List OwnTrace) → IsMadeFor world key → 2 ≤ length lists → honest_of key 0 ≡ true → honest_of key 1 ≡ true → RanAll world key 0 lists traces → SessionsAreLearned key (accesses_by (list_of lists)) → ArePaired world (map part_of traces)
+pairs world key lists traces made two a b ran told = record {
+  deliver = λ p p2. let q2 : 1 - p < 2 = omega arith in delivers_by _ _ (derived_state key p (accesses_in (list_of lists p))) (derived_state key (1 - p) (accesses_in (list_of lists (1 - p)))) (reader_matches_in world key (map part_of traces) made p _ (says p p2)) (reader_matches_in world key (map part_of traces) made (1 - p) _ (says (1 - p) q2)) (told.deliver p p2);
   never_refuse = λ p p2. (says p p2).refused (told.never_refuse p p2).1;
 }
   where
     says : (p : ℕ) → p < 2 → Says key p (list_of lists p) (lines_by (map part_of traces) p)
     says p p2 = says_of world key lists traces two ran p p2 (both_honest key a b p p2)
 
-wakes : (world : World) (key : RunSetup) (lists : List (List (Action (MemoryOp CallAccess)))) (traces : List OwnTrace) → 2 ≤ length lists → honest_of key 0 ≡ true → honest_of key 1 ≡ true → RanAll world key 0 lists traces → NoneIsMissed key (accesses_by (list_of lists)) → AreWoken (map part_of traces)
-wakes world key lists traces two a b ran none p number p2 asked =
-    let says : (q : ℕ) → q < 2 → Says key q (list_of lists q) (lines_by (map part_of traces) q) = λ q q2. says_of world key lists traces two ran q q2 (both_honest key a b q q2) in
-    subst (λ l. ¬ Contains l number) (sym (says (1 - p) (omega arith)).told.missed) (none p number p2 (sym (says p p2).told.asked ∙ asked))
+wakes : (world : World) (key : RunSetup) (lists : List (List (Action (MemoryOp CallAccess)))) (traces : List OwnTrace) → IsMadeFor world key → 2 ≤ length lists → honest_of key 0 ≡ true → honest_of key 1 ≡ true → RanAll world key 0 lists traces → NoneIsMissed key (accesses_by (list_of lists)) → AreWoken world (map part_of traces)
+wakes world key lists traces made two a b ran none p frame p2 asked =
+    let says : (q : ℕ) → q < 2 → ReaderMatches (derived_state key q (accesses_in (list_of lists q))) (reader_of_part world (map part_of traces) q) =
+    λ q q2. reader_matches_in world key (map part_of traces) made q (list_of lists q) (says_of world key lists traces two ran q q2 (both_honest key a b q q2)) in
+    subst (λ l. ¬ Contains l frame) (sym (says (1 - p) (omega arith)).missed) (none p frame p2 (sym (says p p2).asked ∙ asked))
 
 -- beside a hostile peer
 carries : (world : World) (key : RunSetup) (lists : List (List (Action (MemoryOp CallAccess)))) (traces : List OwnTrace) → IsMadeFor world key → 2 ≤ length lists → RanAll world key 0 lists traces → AllIsLearned key (list_of lists) → CarryNone world (map part_of traces)
 carries world key lists traces made two ran told p p2 one other = let honest = made.honest p ∙ one in
-    subst (λ (l : Log). CarriesNone l) (sym (says_of world key lists traces two ran p p2 honest).told.log) (told.neighbour_word p p2 honest (made.honest (1 - p) ∙ other))
+    subst (λ (l : Log). CarriesNone l) (sym (reader_matches_in world key (map part_of traces) made p _ (says_of world key lists traces two ran p p2 honest)).log) (told.neighbour_word p p2 honest (made.honest (1 - p) ∙ other))
 
 -- Interrupts that came
 
@@ -300,9 +308,9 @@ is_run world key h lists traces parts made two size here is ran told = record {
       (own_each world key made (λ p. get_or h.lists p []) 0 lists traces (λ k lt. let e : 0 + k ≡ k = omega arith in ap (λ p. get_or h.lists p []) e ∙ ap (λ l. get_or l k []) here) ran));
   idle = λ p off. ap shown (ap (λ l. get_or l p []) here ∙ idle_at world key 0 lists traces p ran (let e : 0 + p ≡ p = omega arith in ap (has_turn world.acts) e ∙ off));
   interrupt_lines = subst (InterruptsMatch world) (sym is) (are_heard world key lists traces made size ran told.rung);
-  paired = λ one other. subst ArePaired (sym is) (pairs world key lists traces two (made.honest 0 ∙ one) (made.honest 1 ∙ other) ran (told.pair (made.honest 0 ∙ one) (made.honest 1 ∙ other)));
+  paired = λ one other. subst (ArePaired world) (sym is) (pairs world key lists traces made two (made.honest 0 ∙ one) (made.honest 1 ∙ other) ran (told.pair (made.honest 0 ∙ one) (made.honest 1 ∙ other)));
   neighbour_word = subst (CarryNone world) (sym is) (carries world key lists traces made two ran told);
-  woken = λ ev one other. let a = made.honest 0 ∙ one in let b = made.honest 1 ∙ other in subst AreWoken (sym is) (wakes world key lists traces two a b ran (told.woken (ap has_events made.queue ∙ ev) a b));
+  woken = λ ev one other. let a = made.honest 0 ∙ one in let b = made.honest 1 ∙ other in subst (AreWoken world) (sym is) (wakes world key lists traces made two a b ran (told.woken (ap has_events made.queue ∙ ev) a b));
 }
 
 -- the lists of the pass at the end

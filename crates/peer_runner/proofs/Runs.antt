@@ -39,7 +39,7 @@ use Rattle.peer_runner.specs.declared.sessions.SessionWord.{SessionWord}
 use Rattle.peer_runner.specs.declared.sessions.SessionWord.TheVariants.{Own, Others}
 use Rattle.peer_runner.specs.PassView.{PassView}
 use Rattle.peer_runner.specs.RunSetups.{config_in}
-use Rattle.peer_runner.specs.DerivedStates.{CallAccess, MemoryOp, memory_op_by, touch_of, restarted, DerivedState, initial_derived_state, derived_state, NeverMarked}
+use Rattle.peer_runner.specs.DerivedStates.{event_word, CallAccess, MemoryOp, memory_op_by, touch_of, restarted, DerivedState, initial_derived_state, derived_state, NeverMarked}
 use Rattle.peer_runner.specs.Actions.{Action, accessed, looked, seen_by, accesses_in}
 use Rattle.peer_runner.specs.Passes.{shown, held}
 use Rattle.doorbell_irq.specs.declared.route.Route.{Route}
@@ -514,7 +514,7 @@ record TurnsTo (key : RunSetup) (me : ℕ) (routes : List Route) (r next : Runne
   turned_to : next.turns ≡ r.turns ++ turn ∷ []
   shows : shown acts ≡ acted_in routes turn
   owned : AreOwn me (lines_in me turn)
-  tells : Told next (reader_after_lines (reader_of_lines (lines_of_turns me r.turns)) (lines_in me turn))
+  tells : Told next (reader_after_lines (event_word (config_in key me)) (reader_of_lines (event_word (config_in key me)) (lines_of_turns me r.turns)) (lines_in me turn))
   takes : TakesTurn (config_in key me) (storm_in key me) routes (running_of (config_in key me) r) turn (running_of (config_in key me) next)
 
 -- The turns of the runner are turns of its peer, and the actions of the runner are those of the
@@ -523,14 +523,14 @@ pub record Far (key : RunSetup) (me : ℕ) (routes : List Route) (plan : Plan) (
   pub takes : TakesTurns (config_in key me) (storm_in key me) routes (comes_to (automatic plan) spans) r.turns (running_of (config_in key me) r)
   pub made : shown r.actions ≡ actions_in routes r.turns
   pub own : AreOwn me (lines_of_turns me r.turns)
-  pub told : Told r (reader_of_lines (lines_of_turns me r.turns))
+  pub told : Told r (reader_of_lines (event_word (config_in key me)) (lines_of_turns me r.turns))
 
 far_first : (key : RunSetup) (me : ℕ) (routes : List Route) (plan : Plan) (spans : List ℕ) → Far key me routes plan spans (initial_runner plan.frames plan.expected spans)
 far_first key me routes plan spans = let first = initial_runner plan.frames plan.expected spans in record {
   takes = takes_none (config_in key me) (storm_in key me) routes (comes_to (automatic plan) spans);
   made = sym (actions_none routes);
   own = subst (AreOwn me) (sym (told_none me)) refl;
-  told = subst (λ ls. Told first (reader_of_lines ls)) (sym (told_none me)) (subst (Told first) (sym (tells_none initial_reader)) (told_first plan.frames plan.expected spans));
+  told = subst (λ ls. Told first (reader_of_lines (event_word (config_in key me)) ls)) (sym (told_none me)) (subst (Told first) (sym (tells_none (event_word (config_in key me)) initial_reader)) (told_first plan.frames plan.expected spans));
 }
 
 far_on : (key : RunSetup) (me : ℕ) (routes : List Route) (plan : Plan) (spans : List ℕ) (r next : Runner) → TurnsTo key me routes r next → Far key me routes plan spans r → Far key me routes plan spans next
@@ -539,7 +539,7 @@ far_on key me routes plan spans r next g far = let config = config_in key me in 
       (takes_snoc config (storm_in key me) routes r.turns g.turn (comes_to (automatic plan) spans) (running_of config r) (running_of config next) far.takes g.takes);
   made = ap shown g.listed ∙ (shown_on routes r.actions g.acts r.turns g.turn g.shows far.made ∙ ap (actions_in routes) (sym g.turned_to));
   own = subst (AreOwn me) (sym lines) (all_append (is_own me) (lines_of_turns me r.turns) (lines_in me g.turn) far.own g.owned);
-  told = subst (λ ls. Told next (reader_of_lines ls)) (sym lines) (subst (Told next) (sym (tells_both initial_reader (lines_of_turns me r.turns) (lines_in me g.turn))) g.tells);
+  told = subst (λ ls. Told next (reader_of_lines (event_word (config_in key me)) ls)) (sym lines) (subst (Told next) (sym (tells_both (event_word (config_in key me)) initial_reader (lines_of_turns me r.turns) (lines_in me g.turn))) g.tells);
 }
 
 -- whether the step is held or goes on
@@ -560,7 +560,7 @@ turned_opens routes config r done = by_hold routes config r done (λ next. next.
     (let is = opened_on r.numbers r.end (access_at config (place_in config r)) in let most = opens_one (access_at config (place_in config r)) in omega arith)
 
 -- each turn goes so
-goes_so : PlacesFollowTrees → (key : RunSetup) (me : ℕ) (routes : List Route) (r next : Runner) (end : Engine) → RunnerRefines key me routes r end → Told r (reader_of_lines (lines_of_turns me r.turns)) → GoesOn (config_in key me) routes r next → TurnsTo key me routes r next
+goes_so : PlacesFollowTrees → (key : RunSetup) (me : ℕ) (routes : List Route) (r next : Runner) (end : Engine) → RunnerRefines key me routes r end → Told r (reader_of_lines (event_word (config_in key me)) (lines_of_turns me r.turns)) → GoesOn (config_in key me) routes r next → TurnsTo key me routes r next
 goes_so follow key me routes r next end refines told (by_look found left now) = let config = config_in key me in record {
   acts = looked found ∷ [];
   turn = Looks found;
@@ -568,7 +568,7 @@ goes_so follow key me routes r next end refines told (by_look found left now) = 
   turned_to = refl;
   shows = refl;
   owned = look_own me found;
-  tells = looked_told me found r (reader_of_lines (lines_of_turns me r.turns)) told;
+  tells = looked_told me (event_word (config_in key me)) found r (reader_of_lines (event_word (config_in key me)) (lines_of_turns me r.turns)) told;
   takes = (left, looks_same follow config (route_to routes me) r ∙ now, refl);
 }
 goes_so follow key me routes r next end refines told (by_word word number now due is) = record {
@@ -578,7 +578,7 @@ goes_so follow key me routes r next end refines told (by_word word number now du
   turned_to = refl;
   shows = met_actions routes word number;
   owned = met_own me number word;
-  tells = met_told me number word r (reader_of_lines (lines_of_turns me r.turns)) told;
+  tells = met_told me (event_word (config_in key me)) number word r (reader_of_lines (event_word (config_in key me)) (lines_of_turns me r.turns)) told;
   takes = meet_takes follow key me routes r end word number refines now due is;
 }
 goes_so follow key me routes r next end refines told (by_step done now due goes is bytes) = let config = config_in key me in let place = place_in config r in record {
@@ -588,7 +588,7 @@ goes_so follow key me routes r next end refines told (by_step done now due goes 
   turned_to = turned_turns routes config r done;
   shows = done_actions routes (call_chosen (chosen r)) (is_first r) r.numbers.log.opened r.met (access_at config place) done (marks_at config place (value_done done));
   owned = turn_own me (is_first r) r.numbers.log.opened r.met (step_of_turn config r done) done (marks_frames me config place (value_done done) bytes);
-  tells = turned_told routes config r done (reader_of_lines (lines_of_turns me r.turns)) told is refines.met due;
+  tells = turned_told routes config r done (reader_of_lines (event_word (config_in key me)) (lines_of_turns me r.turns)) told is refines.met due;
   takes = turn_takes follow routes config (storm_in key me) r done refines.met due now goes is;
 }
 goes_so follow key me routes r next end refines told (by_reset over goes) = let config = config_in key me in record {
@@ -598,7 +598,7 @@ goes_so follow key me routes r next end refines told (by_reset over goes) = let 
   turned_to = refl;
   shows = refl;
   owned = restart_own me;
-  tells = restarted_told me r (reader_of_lines (lines_of_turns me r.turns)) told;
+  tells = restarted_told me (event_word (config_in key me)) r (reader_of_lines (event_word (config_in key me)) (lines_of_turns me r.turns)) told;
   takes = (over, sym (finished_same follow config r) ∙ goes, restarts_same config r);
 }
 
@@ -697,7 +697,7 @@ did key me routes plan spans r end far refines refused = record {
   made = far.made;
   left = λ honest. record {
     end = ap (λ (s : DerivedState). s.end) refines.derived_state;
-    told = subst (λ (s : DerivedState). ReaderMatches s (reader_of_lines (lines_of_turns me r.turns))) (sym refines.derived_state) (told_is r (reader_of_lines (lines_of_turns me r.turns)) far.told);
+    told = subst (λ (s : DerivedState). ReaderMatches s (reader_of_lines (event_word (config_in key me)) (lines_of_turns me r.turns))) (sym refines.derived_state) (told_is r (reader_of_lines (event_word (config_in key me)) (lines_of_turns me r.turns)) far.told);
     refused = refused;
   };
 }

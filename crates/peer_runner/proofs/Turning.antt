@@ -28,6 +28,7 @@ use Rattle.lawful_history.specs.declared.line.Line.TheVariants as line
 use Rattle.lawful_history.specs.EventRecords.{access_lines, mark_line}
 use Rattle.lawful_history.specs.Peers.{Auto, counted, counted_all}
 use Rattle.link_invariant.specs.LinkConfig.{IsOffered}
+use Rattle.link_machine.specs.LinkMachine.{Log}
 use Rattle.pair_sessions.specs.Numbers.{Numbers, numbers_after, IsNumbered}
 use Rattle.step_lines.specs.Plans.{IsPlanOf}
 use Rattle.step_lines.specs.Places.{HasFrames}
@@ -36,7 +37,7 @@ use Rattle.step_lines.proofs.Marks.{busy_next, marks_now}
 use Rattle.peer_runner.specs.declared.run_setup.RunSetup.{RunSetup}
 use Rattle.peer_runner.specs.PassView.{PassView}
 use Rattle.peer_runner.specs.RunSetups.{config_in, link_config_of, honest_of, IsFit}
-use Rattle.peer_runner.specs.DerivedStates.{CallAccess, MemoryOp, called, numbered, carried, restarted, taken, Wake, wake_after, DerivedState, begun_if, moved, settled_place, settled, after_access, after_memory_op, derived_state, Begins, IsNext}
+use Rattle.peer_runner.specs.DerivedStates.{CallAccess, MemoryOp, called, numbered, carried, restarted, taken, Wake, wake_on, DerivedState, begun_if, moved, settled_place, settled, after_access, after_memory_op, derived_state, Begins, IsNext}
 use Rattle.peer_runner.specs.Actions.{Action, accessed, looked, accesses_in}
 use Rattle.peer_runner.specs.Passes.{added, held}
 use Rattle.doorbell_irq.specs.declared.route.Route.{Route}
@@ -135,14 +136,14 @@ pub record Untouching (config : EndConfig) (end : End) (place : Place) (value : 
   pub next : next_place config place value ≡ Closed
   pub settles : settled_place place ≡ Closed
   pub numbered : (n : Numbers) → numbers_after n end (access_at config place) ≡ n
-  pub wakes : (accepted delivered : ℕ) (wake : Wake) → wake_after accepted delivered wake (access_at config place) (marks_at config place value) ≡ wake
+  pub wakes : (log : Log) (wake : Wake) → wake_on config end log wake (access_at config place) (marks_at config place value) ≡ wake
 
 untouching : (config : EndConfig) (end : End) (place : Place) (value : ℕ) → is_open place ≡ true → touches (access_at config place) ≡ false → Untouching config end place value
 unfolding settled_place
 untouching config end Closed value is still = absurd (cc)
-untouching config end NotInRun value is still = record { end_is = refl; next = refl; settles = refl; numbered = λ n. refl; wakes = λ accepted delivered wake. refl }
-untouching config end RingingOffer value is still = record { end_is = refl; next = refl; settles = refl; numbered = λ n. refl; wakes = λ accepted delivered wake. refl }
-untouching config end RingingPoll value is still = record { end_is = refl; next = refl; settles = refl; numbered = λ n. refl; wakes = λ accepted delivered wake. refl }
+untouching config end NotInRun value is still = record { end_is = refl; next = refl; settles = refl; numbered = λ n. refl; wakes = λ log wake. refl }
+untouching config end RingingOffer value is still = record { end_is = refl; next = refl; settles = refl; numbered = λ n. refl; wakes = λ log wake. refl }
+untouching config end RingingPoll value is still = record { end_is = refl; next = refl; settles = refl; numbered = λ n. refl; wakes = λ log wake. refl }
 untouching config end place value is still = absurd (cc)
 
 pub settled_closed : settled_place Closed ≡ Closed
@@ -418,7 +419,7 @@ stands_stepped key me routes ringing done r hp opens is goes refines = let confi
     (λ f. let u = untouching config r.end place (value_done done) opens f in
     let spot : settled_place r.place ≡ settled_place (next_place config place (value_done done)) = settled_before config r (is_open r.place) refl u.settles ∙ sym (ap settled_place u.next ∙ settled_closed) in
     stays_standing key me r (done_of routes call a done) (not_touched routes call a done f) refines
-    ∙ (λ i. at (sym u.end_is i) (spot i) (sym (u.numbered r.numbers) i) (sym (u.wakes (length r.end.accepted) (length r.end.delivered) r.wake) i)))
+    ∙ (λ i. at (sym u.end_is i) (spot i) (sym (u.numbered r.numbers) i) (sym (u.wakes r.numbers.log r.wake) i)))
 
 stands_held : (key : RunSetup) (me : ℕ) (routes : List Route) (done : Done) (r : Runner) → touches (access_at (config_in key me) (place_in (config_in key me) r)) ≡ false → awaits_ring done ≡ true → derived_state key me (accesses_in r.actions) ≡ derived_state_of r →
     derived_state key me (accesses_in (held_on routes (config_in key me) r done).actions) ≡ derived_state_of (held_on routes (config_in key me) r done)

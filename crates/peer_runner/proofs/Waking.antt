@@ -11,17 +11,15 @@ use Rattle.split_ring.specs.declared.ranges.FieldName.TheVariants as field_name
 use Rattle.link_handshake.specs.declared.Move.{Move}
 use Rattle.link_handshake.specs.declared.Move.TheVariants.{Stay, Set, ClearThenSet}
 use Rattle.link_handshake.specs.HandshakeState.{move_of}
-use Rattle.call_grammar.specs.Steps.{Mark, Reclaim, Full, Accept, Look, Deliver, Refuse, Done, Over}
+use Rattle.call_grammar.specs.Steps.{Mark, Reclaim, Full, Accept, Look, Deliver, Return, Done, Over}
 use Rattle.call_grammar.specs.Ends.{End, with_access, with_mark, with_marks, end_after}
 use Rattle.call_grammar.specs.Calls.{EndConfig, Call, Tick, Stop, Offer, Poll, in_run, pending_of}
 use Rattle.call_grammar.specs.Ticks.{tick_marks}
 use Rattle.call_grammar.specs.Words.{words_for, address_of, frame_in}
 use Rattle.call_grammar.specs.Offers.{PendingOffer, frame_fits, wants_doorbell, refusal, full_marks, returned_by, reclaim_marks, used_index_marks, used_id_marks, descriptor_of}
 use Rattle.call_grammar.specs.Polls.{is_entry, is_address, is_length, entry_in, published_by, is_last, look_marks}
-use Rattle.link_invariant.specs.LinkConfig.{LinkConfig, config_of}
-use Rattle.link_invariant.specs.Wake.{EventIndexIs}
-use Rattle.peer_runner.specs.DerivedStates.{DoorbellRequest, Nowhere, Asking, At, request_after_poll, request_after_last, request_after_marks, missed_by, Wake, wake_after}
-use Rattle.call_grammar.specs.Places.{Place, Closed, ReadingOtherState, Clearing, WritingState, Refusing, NotInRun, ReadingUsedIndex, ReadingUsedId, WritingFrameWord, WritingAvailIndex, ReadingAvailEvent, RingingOffer, ReadingAvailIndex, WritingAvailEvent, ReadingAvailEntry, ReadingDescAddressLow, ReadingDescAddressHigh, ReadingDescLength, ReadingDescFlags, ReadingFrameWord, WritingUsedIndex, first_place, access_at, next_place, marks_at, step_at, is_open, clear_place, tick_place, fill_place, ids_place, none_place, items_place, words_place}
+use Rattle.peer_runner.specs.DerivedStates.{FrameNumber, DoorbellRequest, Nowhere, Written, At, request_after_access, lapsed, request_after_look, request_after_mark, request_after_marks, missed_by, Wake, wake_after}
+use Rattle.call_grammar.specs.Places.{Place, Closed, ReadingOtherState, Clearing, WritingState, Refusing, NotInRun, ReadingUsedIndex, ReadingUsedId, WritingFrameWord, WritingAvailIndex, ReadingAvailEvent, RingingOffer, ReadingAvailIndex, WritingAvailEvent, ReadingAvailEntry, ReadingDescAddressLow, ReadingDescAddressHigh, ReadingDescLength, ReadingDescFlags, ReadingFrameWord, WritingUsedIndex, RingingPoll, first_place, access_at, next_place, marks_at, step_at, is_open, clear_place, tick_place, fill_place, ids_place, none_place, items_place, words_place}
 
 -- Which steps change what is asked for and what is missed
 
@@ -61,12 +59,45 @@ plain_id : (config : EndConfig) (pending : PendingOffer) (freed more value : ℕ
 plain_id config pending freed more value = plain_if (value == descriptor_of config freed) (if more == 0 then full_marks config pending (freed + 1) else []) (refusal field_name.UsedId value)
     (plain_if (more == 0) (full_marks config pending (freed + 1)) [] (plain_full config pending (freed + 1)) tt) tt
 
-plain_asked : (n : ℕ) (was : DoorbellRequest) (marks : List Mark) → IsPlain marks → request_after_marks n was marks ≡ was
-plain_asked n was [] is = refl
-plain_asked n was (Look count ∷ marks) is = absurd is
-plain_asked n was (mark ∷ marks) is = refl
+-- marks without a look, one after another
+abbrev pub lapsed_by : List Mark → DoorbellRequest → DoorbellRequest
+lapsed_by [] a = a
+lapsed_by (mark ∷ marks) a = lapsed_by marks (lapsed a)
 
-plain_missed : (n : ℕ) (was : List ℕ) (marks : List Mark) → IsPlain marks → missed_by n was marks ≡ was
+pub lapsed_not : (a : DoorbellRequest) → lapsed a ≢ Written
+lapsed_not Nowhere = λ e. cc
+lapsed_not Written = λ e. cc
+lapsed_not (At frame) = λ e. cc
+
+pub lapsed_free : (a : DoorbellRequest) → a ≢ Written → lapsed a ≡ a
+lapsed_free Nowhere ne = refl
+lapsed_free Written ne = absurd (ne refl)
+lapsed_free (At frame) ne = refl
+
+pub lapsed_again : (a : DoorbellRequest) → lapsed (lapsed a) ≡ lapsed a
+lapsed_again Nowhere = refl
+lapsed_again Written = refl
+lapsed_again (At frame) = refl
+
+pub lapsed_by_free : (marks : List Mark) (a : DoorbellRequest) → a ≢ Written → lapsed_by marks a ≡ a
+lapsed_by_free [] a ne = refl
+lapsed_by_free (mark ∷ marks) a ne = lapsed_by_free marks (lapsed a) (lapsed_not a) ∙ lapsed_free a ne
+
+pub no_look_asked : (next : FrameNumber) (a : DoorbellRequest) (marks : List Mark) → HasNoLook marks → request_after_marks next a marks ≡ lapsed_by marks a
+no_look_asked next a [] is = refl
+no_look_asked next a (Look count ∷ marks) is = absurd is
+no_look_asked next a (mark ∷ marks) is = no_look_asked next (lapsed a) marks is
+
+plain_none : (marks : List Mark) → IsPlain marks → HasNoLook marks
+plain_none [] is = tt
+plain_none (Look count ∷ marks) is = absurd is
+plain_none (Over ∷ marks) is = absurd is
+plain_none (mark ∷ marks) is = is
+
+pub plain_asked : (next : FrameNumber) (a : DoorbellRequest) (marks : List Mark) → IsPlain marks → request_after_marks next a marks ≡ lapsed_by marks a
+plain_asked next a marks is = no_look_asked next a marks (plain_none marks is)
+
+pub plain_missed : (n : FrameNumber) (was : List FrameNumber) (marks : List Mark) → IsPlain marks → missed_by n was marks ≡ was
 plain_missed n was [] is = refl
 plain_missed n was (Over ∷ marks) is = absurd is
 plain_missed n was (mark ∷ marks) is = refl
@@ -95,18 +126,19 @@ plain_marks config (ReadingDescFlags number more entry address bytes) value is n
 plain_marks config (ReadingFrameWord number more entry address bytes read words) value is ne = plain_if (words == 0) (Deliver (frame_in bytes (read ++ value ∷ [])) ∷ []) [] tt tt
 plain_marks config place value is ne = tt
 
-pub plain_wake : (n m : ℕ) (w : Wake) (a : Access) (marks : List Mark) → ((state : ℕ) → a ≢ access.State state) → IsPlain marks → wake_after n m w a marks ≡ w
-plain_wake n m w (access.Read word) marks ne is = λ i. record { asked = plain_asked m w.asked marks is i; missed = plain_missed n w.missed marks is i }
-plain_wake n m w (access.State state) marks ne is = absurd (ne state refl)
-plain_wake n m w (access.Write word written) marks ne is = refl
-plain_wake n m w (access.Ring target vector) marks ne is = refl
-plain_wake n m w access.Nothing marks ne is = refl
+-- an access to a word
+pub plain_wake_missed : (event : ℕ) (n m : FrameNumber) (w : Wake) (a : Access) (marks : List Mark) → IsPlain marks → (wake_after event n m w a marks).missed ≡ w.missed
+plain_wake_missed event n m w (access.Read word) marks is = plain_missed n w.missed marks is
+plain_wake_missed event n m w (access.State state) marks is = refl
+plain_wake_missed event n m w (access.Write word written) marks is = refl
+plain_wake_missed event n m w (access.Ring target vector) marks is = refl
+plain_wake_missed event n m w access.Nothing marks is = refl
 
-pub kept_wake : (config : EndConfig) (n m : ℕ) (w : Wake) (place : Place) (value : ℕ) → is_waking place ≡ false → wake_after n m w (access_at config place) (marks_at config place value) ≡ w
-kept_wake config n m w (WritingState state) value is = absurd (cc)
-kept_wake config n m w Refusing value is = absurd (cc)
-kept_wake config n m w RingingOffer value is = refl
-kept_wake config n m w place value is = plain_wake n m w (access_at config place) (marks_at config place value) (λ state e. cc) (plain_marks config place value is (λ e. cc))
+kept_missed : (config : EndConfig) (event : ℕ) (n m : FrameNumber) (w : Wake) (place : Place) (value : ℕ) → is_waking place ≡ false → (wake_after event n m w (access_at config place) (marks_at config place value)).missed ≡ w.missed
+kept_missed config event n m w (WritingState state) value is = absurd (cc)
+kept_missed config event n m w Refusing value is = absurd (cc)
+kept_missed config event n m w RingingOffer value is = refl
+kept_missed config event n m w place value is = plain_wake_missed event n m w (access_at config place) (marks_at config place value) (plain_marks config place value is (λ e. cc))
 
 -- Where a step leads
 
@@ -184,32 +216,42 @@ pub pending_most : (place : Place) → unpublished place ≤ 1
 pending_most (ReadingAvailEvent number) = omega arith
 pending_most place = omega arith
 
--- What an end asks for, at its place: before the write of its event it asks; before a look it asks
--- only where that look is the poll's last and the event stands
+-- What an end asks for, at its place: if it wrote its event word, it hasn't ended the call since,
+-- nor accepted or returned a frame; and before a look the event stands
 
-abbrev pub AsksAt : LinkConfig → (ℕ → ℕ) → ℕ → DoorbellRequest → Place → Type 0
-AsksAt link_config memory p a (WritingAvailEvent taken) = a ≡ Asking
-AsksAt link_config memory p a (ReadingAvailIndex taken last) = a ≡ Asking → (last ≡ true) × EventIndexIs link_config memory p taken
-AsksAt link_config memory p a Refusing = Unit {0}
-AsksAt link_config memory p a place = a ≢ Asking
+abbrev pub AsksAt : (Stands : ℕ → Type 0) → DoorbellRequest → Place → Type 0
+AsksAt Stands a Closed = a ≢ Written
+AsksAt Stands a NotInRun = a ≢ Written
+AsksAt Stands a RingingOffer = a ≢ Written
+AsksAt Stands a RingingPoll = a ≢ Written
+AsksAt Stands a (ReadingAvailEvent number) = a ≢ Written
+AsksAt Stands a (ReadingAvailIndex taken last) = a ≡ Written → Stands taken
+AsksAt Stands a place = Unit {0}
 
-pub still_asks : (link_config : LinkConfig) (memory : ℕ → ℕ) (p : ℕ) (a : DoorbellRequest) (place : Place) → is_still place ≡ true → a ≢ Asking → AsksAt link_config memory p a place
-still_asks link_config memory p a (WritingAvailEvent taken) is ne = absurd (cc)
-still_asks link_config memory p a (ReadingAvailIndex taken last) is ne = absurd (cc)
-still_asks link_config memory p a (ReadingAvailEvent number) is ne = absurd (cc)
-still_asks link_config memory p a Refusing is ne = tt
-still_asks link_config memory p a place is ne = ne
+pub free_asks : (Stands : ℕ → Type 0) (a : DoorbellRequest) (place : Place) → a ≢ Written → AsksAt Stands a place
+free_asks Stands a Closed ne = ne
+free_asks Stands a NotInRun ne = ne
+free_asks Stands a RingingOffer ne = ne
+free_asks Stands a RingingPoll ne = ne
+free_asks Stands a (ReadingAvailEvent number) ne = ne
+free_asks Stands a (ReadingAvailIndex taken last) ne = λ e. absurd (ne e)
+free_asks Stands a place ne = tt
 
--- as a call begins
-asks_if : (link_config : LinkConfig) (memory : ℕ → ℕ) (p : ℕ) (a : DoorbellRequest) (b : Bool) (x y : Place) → AsksAt link_config memory p a x → AsksAt link_config memory p a y → AsksAt link_config memory p a (if b then x else y)
-asks_if link_config memory p a true x y mine theirs = mine
-asks_if link_config memory p a false x y mine theirs = theirs
+asks_if : (Stands : ℕ → Type 0) (a : DoorbellRequest) (b : Bool) (x y : Place) → AsksAt Stands a x → AsksAt Stands a y → AsksAt Stands a (if b then x else y)
+asks_if Stands a true x y mine theirs = mine
+asks_if Stands a false x y mine theirs = theirs
 
-pub first_asks : (link_config : LinkConfig) (memory : ℕ → ℕ) (p : ℕ) (a : DoorbellRequest) (config : EndConfig) (end : End) (call : Call) → a ≢ Asking → AsksAt link_config memory p a (first_place config end call)
-first_asks link_config memory p a config end Tick ne = ne
-first_asks link_config memory p a config end Stop ne = ne
-first_asks link_config memory p a config end (Offer frame) ne = asks_if link_config memory p a (in_run end.handshake.phase) (ReadingUsedIndex (pending_of config end frame) end.freed) NotInRun ne ne
-first_asks link_config memory p a config end Poll ne = asks_if link_config memory p a (in_run end.handshake.phase) (ReadingAvailIndex (length end.delivered) (is_last config end.found_none)) NotInRun (λ e. absurd (ne e)) ne
+clear_asks : (Stands : ℕ → Type 0) (a : DoorbellRequest) (at count state : ℕ) → AsksAt Stands a (clear_place at count state)
+clear_asks Stands a at zero state = tt
+clear_asks Stands a at (suc more) state = tt
+
+fill_asks : (Stands : ℕ → Type 0) (a : DoorbellRequest) (pending : PendingOffer) (at count : ℕ) → AsksAt Stands a (fill_place pending at count)
+fill_asks Stands a pending at zero = tt
+fill_asks Stands a pending at (suc more) = tt
+
+words_asks : (Stands : ℕ → Type 0) (a : DoorbellRequest) (number more entry address bytes : ℕ) (read : List ℕ) (count : ℕ) → AsksAt Stands a (words_place number more entry address bytes read count)
+words_asks Stands a number more entry address bytes read zero = tt
+words_asks Stands a number more entry address bytes read (suc words) = tt
 
 pub first_pending : (config : EndConfig) (end : End) (call : Call) → unpublished (first_place config end call) ≡ 0
 first_pending config end Tick = refl
@@ -217,123 +259,209 @@ first_pending config end Stop = refl
 first_pending config end (Offer frame) = elim (in_run end.handshake.phase) as (λ b. unpublished (if b then ReadingUsedIndex (pending_of config end frame) end.freed else NotInRun) ≡ 0) [ true ↦ refl | false ↦ refl ]
 first_pending config end Poll = elim (in_run end.handshake.phase) as (λ b. unpublished (if b then ReadingAvailIndex (length end.delivered) (is_last config end.found_none) else NotInRun) ≡ 0) [ true ↦ refl | false ↦ refl ]
 
-pub last_ne : (n : ℕ) (a : DoorbellRequest) → request_after_last n a ≢ Asking
-last_ne n Nowhere = λ e. cc
-last_ne n Asking = λ e. cc
-last_ne n (At number) = λ e. cc
-
-pub on_ne : (a : DoorbellRequest) (more : ℕ) → request_after_poll a (suc more) ≢ Asking
-on_ne Nowhere more = λ e. cc
-on_ne Asking more = λ e. cc
-on_ne (At number) more = λ e. cc
-
 pub more_than : (d : ℕ) → (suc d == 0) ≡ false
 more_than d = ne_eqb (suc d) 0 (λ e. omega arith)
 
 abbrev pub empty_marks : Bool → List Mark
 empty_marks last = if last then Look 0 ∷ Done ∷ [] else Look 0 ∷ []
 
--- after a look
-looked_at : (link_config : LinkConfig) (memory : ℕ → ℕ) (p : ℕ) (n : ℕ) (a : DoorbellRequest) (taken d value : ℕ) (last within : Bool) →
-    AsksAt link_config memory p (request_after_marks n a (if within then look_marks last d else refusal field_name.AvailIndex value)) (if within then (if d == 0 then none_place taken last else items_place taken d) else Refusing)
-looked_at link_config memory p n a taken zero value true true = last_ne n a
-looked_at link_config memory p n a taken zero value false true = refl
-looked_at link_config memory p n a taken (suc d) value last true = subst (λ (b : Bool). AsksAt link_config memory p (request_after_marks n a (if b then empty_marks last else Look (suc d) ∷ [])) (if b then none_place taken last else items_place taken (suc d))) (sym (more_than d)) (on_ne a d)
-looked_at link_config memory p n a taken d value last false = tt
+-- after a mark nothing is written
 
-pub event_asked : (n : ℕ) (a : DoorbellRequest) (b : Bool) → request_after_marks n a (if b then [] else Over ∷ []) ≡ a
-event_asked n a true = refl
-event_asked n a false = refl
+look_free : (next : FrameNumber) (a : DoorbellRequest) (count : ℕ) → request_after_look next a count ≢ Written
+look_free next Nowhere zero = λ e. cc
+look_free next Written zero = λ e. cc
+look_free next (At frame) zero = λ e. cc
+look_free next a (suc more) = lapsed_not a
 
-pub asks_on : (link_config : LinkConfig) (memory after : ℕ → ℕ) (p n m value : ℕ) (w : Wake) (place : Place) → ((taken : ℕ) → place ≡ WritingAvailEvent taken → EventIndexIs link_config after p taken) → AsksAt link_config memory p w.asked place →
-    AsksAt link_config after p (wake_after n m w (access_at (config_of link_config p) place) (marks_at (config_of link_config p) place value)).asked (next_place (config_of link_config p) place value)
-asks_on link_config memory after p n m value w (WritingAvailEvent taken) armed asks = λ e. (refl, armed taken refl)
-asks_on link_config memory after p n m value w (ReadingAvailIndex taken last) armed asks = looked_at link_config after p m w.asked taken (published_by taken value) (high_half value) last (nat_le (published_by taken value) (size_of link_config.sizes))
-asks_on link_config memory after p n m value w (WritingState state) armed asks = λ e. cc
-asks_on link_config memory after p n m value w Refusing armed asks = λ e. cc
-asks_on link_config memory after p n m value w (ReadingAvailEvent number) armed asks = let config = config_of link_config p in
-    still_asks link_config after p _ (next_place config (ReadingAvailEvent number) value) (next_still config (ReadingAvailEvent number) value refl) (λ e. asks (sym (event_asked m w.asked (wants_doorbell (low_half value) number)) ∙ e))
-asks_on link_config memory after p n m value w (WritingAvailIndex pending) armed asks = elim (has_events link_config.sizes) as (λ b. AsksAt link_config after p w.asked (if b then ReadingAvailEvent pending.number else RingingOffer)) [ true ↦ asks | false ↦ asks ]
-asks_on link_config memory after p n m value w place armed asks = let config = config_of link_config p in
-    subst (λ (x : Wake). AsksAt link_config after p x.asked (next_place config place value)) (sym (kept_wake config n m w place value refl)) (still_asks link_config after p w.asked (next_place config place value) (next_still config place value refl) asks)
+mark_free : (next : FrameNumber) (a : DoorbellRequest) (mark : Mark) → request_after_mark next a mark ≢ Written
+mark_free next a (Look count) = look_free next a count
+mark_free next a mark = lapsed_not a
 
--- a doorbell was asked for at the frame before, or is by this look, which found none
-abbrev pub IsNew : (n value k : ℕ) → DoorbellRequest → Place → Type 0
-IsNew n value k a place = (taken : ℕ) × (place ≡ ReadingAvailIndex taken true) × (published_by taken value ≡ 0) × (a ≡ Asking) × (k ≡ n)
+free_on : (next : FrameNumber) (a : DoorbellRequest) (marks : List Mark) → a ≢ Written → request_after_marks next a marks ≢ Written
+free_on next a [] ne = ne
+free_on next a (mark ∷ marks) ne = free_on next (request_after_mark next a mark) marks (mark_free next a mark)
 
-number_is : {m k : ℕ} → At m ≡ At k → k ≡ m
-number_is e = cc
+pub free_after : (next : FrameNumber) (a : DoorbellRequest) (mark : Mark) (marks : List Mark) → request_after_marks next a (mark ∷ marks) ≢ Written
+free_after next a mark marks = free_on next (request_after_mark next a mark) marks (mark_free next a mark)
 
-last_from : (n k : ℕ) (a : DoorbellRequest) → request_after_last n a ≡ At k → (a ≡ At k) ⊎ ((a ≡ Asking) × (k ≡ n))
-last_from n k Nowhere e = inl e
-last_from n k Asking e = inr (refl, number_is e)
-last_from n k (At number) e = inl e
+-- marks of which one is there
+abbrev HasMark : List Mark → Type 0
+HasMark [] = ⊥
+HasMark (mark ∷ marks) = Unit {0}
 
-on_from : (k : ℕ) (a : DoorbellRequest) (more : ℕ) → request_after_poll a (suc more) ≡ At k → a ≡ At k
-on_from k Nowhere more e = e
-on_from k Asking more e = absurd (cc)
-on_from k (At number) more e = e
+has_free : (next : FrameNumber) (a : DoorbellRequest) (marks : List Mark) → HasMark marks → request_after_marks next a marks ≢ Written
+has_free next a [] has = absurd has
+has_free next a (mark ∷ marks) has = free_after next a mark marks
 
-looked_from : (n k : ℕ) (a : DoorbellRequest) (d value : ℕ) (last within : Bool) → request_after_marks n a (if within then look_marks last d else refusal field_name.AvailIndex value) ≡ At k → (a ≡ At k) ⊎ ((last ≡ true) × (d ≡ 0) × (a ≡ Asking) × (k ≡ n))
-looked_from n k a zero value true true e = ⊎_elim (λ h. inl h) (λ h. inr (refl, refl, h.0, h.1)) (last_from n k a e)
-looked_from n k a zero value false true e = absurd (cc)
-looked_from n k a (suc d) value last true e = inl (on_from k a d (sym (ap (λ (b : Bool). request_after_marks n a (if b then empty_marks last else Look (suc d) ∷ [])) (more_than d)) ∙ e))
-looked_from n k a d value last false e = inl e
+has_if : (b : Bool) (m n : List Mark) → HasMark m → HasMark n → HasMark (if b then m else n)
+has_if true m n mine theirs = mine
+has_if false m n mine theirs = theirs
 
-pub asked_from : (config : EndConfig) (n m k value : ℕ) (w : Wake) (place : Place) → (wake_after n m w (access_at config place) (marks_at config place value)).asked ≡ At k → (w.asked ≡ At k) ⊎ IsNew m value k w.asked place
-asked_from config n m k value w (WritingState state) e = absurd (cc)
-asked_from config n m k value w Refusing e = absurd (cc)
-asked_from config n m k value w (ReadingAvailEvent number) e = inl (sym (event_asked m w.asked (wants_doorbell (low_half value) number)) ∙ e)
-asked_from config n m k value w (ReadingAvailIndex taken last) e = ⊎_elim (λ h. inl h) (λ h. inr (taken, ap (λ (b : Bool). ReadingAvailIndex taken b) h.0, h.1, h.2, h.3))
-    (looked_from m k w.asked (published_by taken value) (high_half value) last (nat_le (published_by taken value) (size_of config.sizes)) e)
-asked_from config n m k value w place e = inl (sym (ap (λ (x : Wake). x.asked) (kept_wake config n m w place value refl)) ∙ e)
+has_tick : (value : ℕ) (move : Move) → HasMark (tick_marks value move)
+has_tick value Stay = tt
+has_tick value (Set state) = tt
+has_tick value (ClearThenSet state) = tt
+
+has_used : (config : EndConfig) (pending : PendingOffer) (freed value : ℕ) → HasMark (used_index_marks config pending freed value)
+has_used config pending freed value = let d = returned_by freed value in has_if (nat_le d (pending.number - freed)) (reclaim_marks config pending freed d) (refusal field_name.UsedIndex (high_half value))
+    (has_if (d == 0) (Reclaim 0 ∷ full_marks config pending freed) (Reclaim d ∷ []) tt tt) tt
+
+look_has : (last : Bool) (d : ℕ) → HasMark (look_marks last d)
+look_has last d = has_if (d == 0) (if last then Look 0 ∷ Done ∷ [] else Look 0 ∷ []) (Look d ∷ []) (has_if last (Look 0 ∷ Done ∷ []) (Look 0 ∷ []) tt tt) tt
+
+-- after the read of the last id: the frame has room, or the ring is full
+id_asks : (Stands : ℕ → Type 0) (next : FrameNumber) (a : DoorbellRequest) (pending : PendingOffer) (value : ℕ) (fits found : Bool) →
+    AsksAt Stands (request_after_marks next a (if found then (if fits then [] else Full ∷ []) else refusal field_name.UsedId value))
+    (if found then (if fits then fill_place pending 0 (words_for (length pending.frame)) else Closed) else Refusing)
+id_asks Stands next a pending value true true = fill_asks Stands a pending 0 (words_for (length pending.frame))
+id_asks Stands next a pending value false true = lapsed_not a
+id_asks Stands next a pending value fits false = tt
+
+pub event_asked : (next : FrameNumber) (a : DoorbellRequest) (b : Bool) → a ≢ Written → request_after_marks next a (if b then [] else Over ∷ []) ≢ Written
+event_asked next a true ne = ne
+event_asked next a false ne = lapsed_not a
+
+-- what is asked for after the step at a place
+module _ (config : EndConfig) (Stands : ℕ → Type 0) (event : ℕ) (n m : FrameNumber) (value : ℕ) (w : Wake) where
+  abbrev asked_at : Place → DoorbellRequest
+  asked_at place = (wake_after event n m w (access_at config place) (marks_at config place value)).asked
+
+  by_mark : (place : Place) → asked_at place ≢ Written → AsksAt Stands (asked_at place) (next_place config place value)
+  by_mark place ne = free_asks Stands (asked_at place) (next_place config place value) ne
+
+  pub asks_on : (Stood : ℕ → Type 0) (place : Place) → ((taken : ℕ) → place ≡ WritingAvailEvent taken → Stands taken) → AsksAt Stood w.asked place →
+      AsksAt Stands (asked_at place) (next_place config place value)
+  asks_on Stood Closed armed asks = asks
+  asks_on Stood (ReadingOtherState handshake) armed asks = by_mark (ReadingOtherState handshake) (has_free m w.asked _ (has_tick value (move_of handshake value)))
+  asks_on Stood (Clearing at more state) armed asks = clear_asks Stands _ (at + 1) more state
+  asks_on Stood (WritingState state) armed asks = free_after m w.asked Over []
+  asks_on Stood Refusing armed asks = free_after m w.asked Over []
+  asks_on Stood NotInRun armed asks = asks
+  asks_on Stood (ReadingUsedIndex pending freed) armed asks = by_mark (ReadingUsedIndex pending freed) (has_free m w.asked _ (has_used config pending freed value))
+  asks_on Stood (ReadingUsedId pending freed zero) armed asks = id_asks Stands m w.asked pending value (frame_fits config pending (freed + 1)) (value == descriptor_of config freed)
+  asks_on Stood (ReadingUsedId pending freed (suc more)) armed asks = asks_if Stands _ (value == descriptor_of config freed) (ReadingUsedId pending (freed + 1) more) Refusing tt tt
+  asks_on Stood (WritingFrameWord pending at more) armed asks = fill_asks Stands _ pending (at + 1) more
+  asks_on Stood (WritingAvailIndex pending) armed asks = by_mark (WritingAvailIndex pending) (free_after m (request_after_access event w.asked (access_at config (WritingAvailIndex pending))) (Accept pending.frame) [])
+  asks_on Stood (ReadingAvailEvent number) armed asks = by_mark (ReadingAvailEvent number) (event_asked m w.asked (wants_doorbell (low_half value) number) asks)
+  asks_on Stood RingingOffer armed asks = asks
+  asks_on Stood (ReadingAvailIndex taken last) armed asks = by_mark (ReadingAvailIndex taken last) (has_free m w.asked _ (has_if (nat_le (published_by taken value) (size_of config.sizes)) (look_marks last (published_by taken value)) (refusal field_name.AvailIndex (high_half value)) (look_has last (published_by taken value)) tt))
+  asks_on Stood (WritingAvailEvent taken) armed asks = λ e. armed taken refl
+  asks_on Stood (ReadingAvailEntry number more) armed asks = let e = entry_in config number value in asks_if Stands _ (is_entry config.sizes e) (ReadingDescAddressLow number more e) Refusing tt tt
+  asks_on Stood (ReadingDescAddressHigh number more entry low) armed asks = let x = address_of low value in asks_if Stands _ (is_address config.sizes x) (ReadingDescLength number more entry x) Refusing tt tt
+  asks_on Stood (ReadingDescLength number more entry address) armed asks = asks_if Stands _ (is_length config.sizes address value) (ReadingDescFlags number more entry address value) Refusing tt tt
+  asks_on Stood (ReadingDescFlags number more entry address bytes) armed asks = asks_if Stands _ (low_half value == 0) (words_place number more entry address bytes [] (words_for bytes)) Refusing (words_asks Stands _ number more entry address bytes [] (words_for bytes)) tt
+  asks_on Stood (ReadingFrameWord number more entry address bytes read words) armed asks = words_asks Stands _ number more entry address bytes (read ++ value ∷ []) words
+  asks_on Stood (WritingUsedIndex number more) armed asks = by_mark (WritingUsedIndex number more) (free_after m (request_after_access event w.asked (access_at config (WritingUsedIndex number more))) Return [])
+  asks_on Stood RingingPoll armed asks = asks
+  asks_on Stood place armed asks = tt
+
+-- Where a request at a frame comes from
+
+abbrev IsEmptyLook : List Mark → Type 0
+IsEmptyLook (Look zero ∷ marks) = Unit {0}
+IsEmptyLook marks = ⊥
+
+frame_is : {m k : FrameNumber} → At m ≡ At k → k ≡ m
+frame_is e = cc
+
+lapsed_from : (f : FrameNumber) (a : DoorbellRequest) → lapsed a ≡ At f → a ≡ At f
+lapsed_from f Nowhere e = e
+lapsed_from f Written e = absurd (cc)
+lapsed_from f (At frame) e = e
+
+pub lapsed_at : (f : FrameNumber) (a : DoorbellRequest) → lapsed a ≡ At f → a ≡ At f
+lapsed_at f a e = lapsed_from f a e
+
+look_from : (next f : FrameNumber) (a : DoorbellRequest) → request_after_look next a zero ≡ At f → (a ≡ At f) ⊎ ((a ≡ Written) × (f ≡ next))
+look_from next f Nowhere e = inl e
+look_from next f Written e = inr (refl, frame_is e)
+look_from next f (At frame) e = inl e
+
+marks_from : (next f : FrameNumber) (a : DoorbellRequest) (marks : List Mark) → request_after_marks next a marks ≡ At f → (a ≡ At f) ⊎ ((a ≡ Written) × IsEmptyLook marks × (f ≡ next))
+marks_from next f a [] e = inl e
+marks_from next f a (Look zero ∷ marks) e = ⊎_elim (λ h. ⊎_elim (λ i. inl i) (λ i. inr (i.0, tt, i.1)) (look_from next f a h)) (λ h. absurd (look_free next a zero h.0)) (marks_from next f (request_after_look next a zero) marks e)
+marks_from next f a (Look (suc more) ∷ marks) e = ⊎_elim (λ h. inl (lapsed_from f a h)) (λ h. absurd (lapsed_not a h.0)) (marks_from next f (lapsed a) marks e)
+marks_from next f a (mark ∷ marks) e = ⊎_elim (λ h. inl (lapsed_from f a h)) (λ h. absurd (lapsed_not a h.0)) (marks_from next f (lapsed a) marks e)
+
+-- an access that writes no event word
+abbrev pub LeavesEvent : (event : ℕ) → Access → Type 0
+LeavesEvent event (access.Write word written) = word ≢ event
+LeavesEvent event a = Unit {0}
+
+written_from : (f : FrameNumber) (word event : ℕ) (was : DoorbellRequest) → (if word == event then Written else was) ≡ At f → (was ≡ At f) × (word ≢ event)
+written_from f word event was e = (by (word == event) refl e, λ same. absurd (taken same))
+  where
+    by : (b : Bool) → (word == event) ≡ b → (if b then Written else was) ≡ At f → was ≡ At f
+    by true is e = absurd (cc)
+    by false is e = e
+
+    taken : word ≡ event → ⊥
+    taken same = let e : Written ≡ At f = sym (ap (λ (b : Bool). if b then Written else was) (eq-eqb word event same)) ∙ e in absurd (cc)
+
+none_empty : (marks : List Mark) → HasNoLook marks → ¬ IsEmptyLook marks
+none_empty [] is = λ e. e
+none_empty (Look count ∷ marks) is = absurd is
+none_empty (mark ∷ marks) is = λ e. e
+
+access_from : (event : ℕ) (n m f : FrameNumber) (w : Wake) (a : Access) (marks : List Mark) → ¬ IsEmptyLook marks → (wake_after event n m w a marks).asked ≡ At f → (w.asked ≡ At f) × LeavesEvent event a
+access_from event n m f w (access.Read word) marks quiet e = (⊎_elim (λ h. h) (λ h. absurd (quiet h.1)) (marks_from m f w.asked marks e), tt)
+access_from event n m f w (access.Write word written) marks quiet e = written_from f word event w.asked (⊎_elim (λ h. h) (λ h. absurd (quiet h.1)) (marks_from m f (request_after_access event w.asked (access.Write word written)) marks e))
+access_from event n m f w (access.State state) marks quiet e = (⊎_elim (λ h. h) (λ h. absurd (quiet h.1)) (marks_from m f w.asked marks e), tt)
+access_from event n m f w (access.Ring target vector) marks quiet e = (e, tt)
+access_from event n m f w access.Nothing marks quiet e = (e, tt)
+
+-- it is by this look, which found none
+abbrev pub IsNew : (m : FrameNumber) (value : ℕ) (f : FrameNumber) → DoorbellRequest → Place → Type 0
+IsNew m value f a place = (taken : ℕ) × (last : Bool) × (place ≡ ReadingAvailIndex taken last) × (published_by taken value ≡ 0) × (a ≡ Written) × (f ≡ m)
+
+look_empty : (last within : Bool) (d value : ℕ) → IsEmptyLook (if within then look_marks last d else refusal field_name.AvailIndex value) → d ≡ 0
+look_empty last true zero value is = refl
+look_empty last true (suc d) value is = absurd (subst (λ (b : Bool). IsEmptyLook (if b then (if last then Look 0 ∷ Done ∷ [] else Look 0 ∷ []) else Look (suc d) ∷ [])) (more_than d) is)
+look_empty last false d value is = absurd is
+
+event_empty : (b : Bool) → ¬ IsEmptyLook (if b then [] else Over ∷ [])
+event_empty true = λ x. x
+event_empty false = λ x. x
+
+pub asked_from : (config : EndConfig) (event : ℕ) (n m f : FrameNumber) (value : ℕ) (w : Wake) (place : Place) → (wake_after event n m w (access_at config place) (marks_at config place value)).asked ≡ At f →
+    ((w.asked ≡ At f) × LeavesEvent event (access_at config place)) ⊎ IsNew m value f w.asked place
+asked_from config event n m f value w (ReadingAvailIndex taken last) e = ⊎_elim (λ h. inl (h, tt)) (λ h. inr (taken, last, refl, look_empty last (nat_le (published_by taken value) (size_of config.sizes)) (published_by taken value) (high_half value) h.1, h.0, h.2))
+    (marks_from m f w.asked (marks_at config (ReadingAvailIndex taken last) value) e)
+asked_from config event n m f value w (WritingState state) e = inl (access_from event n m f w (access.State state) (Over ∷ []) (λ x. x) e)
+asked_from config event n m f value w Refusing e = inl (access_from event n m f w (access.State 0) (Over ∷ []) (λ x. x) e)
+asked_from config event n m f value w (ReadingAvailEvent number) e = inl (access_from event n m f w (access_at config (ReadingAvailEvent number)) _ (event_empty (wants_doorbell (low_half value) number)) e)
+asked_from config event n m f value w RingingOffer e = inl (e, tt)
+asked_from config event n m f value w place e = inl (access_from event n m f w (access_at config place) (marks_at config place value) (none_empty (marks_at config place value) (plain_none (marks_at config place value) (plain_marks config place value refl (λ x. cc)))) e)
 
 -- What it missed
 
 none_in : (k : ℕ) → Contains [] k → ⊥
 none_in k (i, lt, e) = omega arith
 
-event_missed : (n : ℕ) (was : List ℕ) (b : Bool) (k : ℕ) → Contains (missed_by n was (if b then [] else Over ∷ [])) k → Contains was k ⊎ ((b ≡ false) × (k ≡ n - 1))
-event_missed n was true k c = inl c
-event_missed n was false k c = ⊎_elim (λ h. inl h) (λ h. inr (refl, one_in (n - 1) k h)) (Contains-append_cases was ((n - 1) ∷ []) k c)
+event_missed : (n : FrameNumber) (was : List FrameNumber) (b : Bool) (f : FrameNumber) → Contains (missed_by n was (if b then [] else Over ∷ [])) f → Contains was f ⊎ ((b ≡ false) × (f ≡ n))
+event_missed n was true f c = inl c
+event_missed n was false f c = ⊎_elim (λ h. inl h) (λ h. inr (refl, one_in n f h)) (Contains-append_cases was (n ∷ []) f c)
   where
-    one_in : (a b : ℕ) → Contains (a ∷ []) b → b ≡ a
+    one_in : (a b : FrameNumber) → Contains (a ∷ []) b → b ≡ a
     one_in a b (zero, lt, e) = sym e
     one_in a b (suc k, lt, e) = absurd (omega arith)
 
--- a write of State misses nothing more, and one of 2 leaves nothing missed
-kept_missed : (state : ℕ) (was : List ℕ) (k : ℕ) → Contains (if state == 2 then [] else was) k → Contains was k
-kept_missed state was k c = elim (state == 2) as (λ (b : Bool). Contains (if b then [] else was) k → Contains was k) [ true ↦ λ h. absurd (none_in k h) | false ↦ λ h. h ] c
-
-opens_none : (state : ℕ) (was : List ℕ) (k : ℕ) → Contains (if state == 2 then [] else was) k → state ≢ 2
-opens_none state was k c two = none_in k (subst (λ (b : Bool). Contains (if b then [] else was) k) (eq-eqb state 2 two) c)
-
-state_is : {m n : ℕ} → access.State m ≡ access.State n → m ≡ n
-state_is e = cc
-
-pub missed_stays : (n m k : ℕ) (w : Wake) (a : Access) (marks : List Mark) → Contains (wake_after n m w a marks).missed k → a ≢ access.State 2
-missed_stays n m k w (access.State state) marks c e = opens_none state w.missed k c (state_is e)
-missed_stays n m k w (access.Read word) marks c e = absurd (cc)
-missed_stays n m k w (access.Write word written) marks c e = absurd (cc)
-missed_stays n m k w (access.Ring target vector) marks c e = absurd (cc)
-missed_stays n m k w access.Nothing marks c e = absurd (cc)
-
 -- what was missed before, or the frame whose event is read now and doesn't ask for it
-abbrev pub IsMissed : (n value k : ℕ) → Place → Type 0
-IsMissed n value k place = (number : ℕ) × (place ≡ ReadingAvailEvent number) × (wants_doorbell (low_half value) number ≡ false) × (k ≡ n - 1)
+abbrev pub IsMissed : (n : FrameNumber) (value : ℕ) (f : FrameNumber) → Place → Type 0
+IsMissed n value f place = (number : ℕ) × (place ≡ ReadingAvailEvent number) × (wants_doorbell (low_half value) number ≡ false) × (f ≡ n)
 
-looked_missed : (n : ℕ) (was : List ℕ) (d value : ℕ) (last within : Bool) → missed_by n was (if within then look_marks last d else refusal field_name.AvailIndex value) ≡ was
+looked_missed : (n : FrameNumber) (was : List FrameNumber) (d value : ℕ) (last within : Bool) → missed_by n was (if within then look_marks last d else refusal field_name.AvailIndex value) ≡ was
 looked_missed n was zero value true true = refl
 looked_missed n was zero value false true = refl
 looked_missed n was (suc d) value last true = ap (λ (b : Bool). missed_by n was (if b then empty_marks last else Look (suc d) ∷ [])) (more_than d)
 looked_missed n was d value last false = refl
 
-pub missed_from : (config : EndConfig) (n m k value : ℕ) (w : Wake) (place : Place) → Contains (wake_after n m w (access_at config place) (marks_at config place value)).missed k → Contains w.missed k ⊎ IsMissed n value k place
-missed_from config n m k value w (WritingState state) c = inl (kept_missed state w.missed k c)
-missed_from config n m k value w Refusing c = inl c
-missed_from config n m k value w (ReadingAvailEvent number) c = ⊎_elim (λ h. inl h) (λ h. inr (number, refl, h.0, h.1)) (event_missed n w.missed (wants_doorbell (low_half value) number) k c)
-missed_from config n m k value w (ReadingAvailIndex taken last) c = inl (subst (λ l. Contains l k) (looked_missed n w.missed (published_by taken value) (high_half value) last (nat_le (published_by taken value) (size_of config.sizes))) c)
-missed_from config n m k value w place c = inl (subst (λ (x : Wake). Contains x.missed k) (kept_wake config n m w place value refl) c)
+pub missed_from : (config : EndConfig) (event : ℕ) (n m f : FrameNumber) (value : ℕ) (w : Wake) (place : Place) → Contains (wake_after event n m w (access_at config place) (marks_at config place value)).missed f → Contains w.missed f ⊎ IsMissed n value f place
+missed_from config event n m f value w (WritingState state) c = inl c
+missed_from config event n m f value w Refusing c = inl c
+missed_from config event n m f value w (ReadingAvailEvent number) c = ⊎_elim (λ h. inl h) (λ h. inr (number, refl, h.0, h.1)) (event_missed n w.missed (wants_doorbell (low_half value) number) f c)
+missed_from config event n m f value w (ReadingAvailIndex taken last) c = inl (subst (λ l. Contains l f) (looked_missed n w.missed (published_by taken value) (high_half value) last (nat_le (published_by taken value) (size_of config.sizes))) c)
+missed_from config event n m f value w place c = inl (subst (λ l. Contains l f) (kept_missed config event n m w place value refl) c)
 
 -- Where it rings
 
@@ -429,22 +557,6 @@ bound_on config end (WritingAvailIndex pending) value k ne h = let n = length-ap
 bound_on config end (ReadingAvailIndex taken last) value k ne h = let none = look_pending taken (published_by taken value) last (nat_le (published_by taken value) (size_of config.sizes)) in let more = grows config end (ReadingAvailIndex taken last) value ne in omega arith
 bound_on config end (WritingAvailEvent taken) value k ne h = omega arith
 bound_on config end place value k ne h = let none = still_pending (next_place config place value) (next_still config place value refl) in let more = grows config end place value ne in omega arith
-
-noted_phase : (end : End) (marks : List Mark) → (with_marks end marks).handshake.phase ≡ end.handshake.phase
-noted_phase end [] = refl
-noted_phase end (mark ∷ marks) = noted_phase (with_mark end mark) marks ∙ once end mark
-  where
-    once : (end : End) (mark : Mark) → (with_mark end mark).handshake.phase ≡ end.handshake.phase
-    once end (Refuse refused) = refl
-    once end mark = refl
-
--- the phase stays while a doorbell is asked for
-pub phase_stays : (n m k : ℕ) (w : Wake) (end : End) (a : Access) (marks : List Mark) → (wake_after n m w a marks).asked ≡ At k → (with_marks (with_access end a) marks).handshake.phase ≡ end.handshake.phase
-phase_stays n m k w end (access.State state) marks e = absurd (cc)
-phase_stays n m k w end (access.Read word) marks e = noted_phase end marks
-phase_stays n m k w end (access.Write word written) marks e = noted_phase (with_access end (access.Write word written)) marks
-phase_stays n m k w end (access.Ring target vector) marks e = noted_phase end marks
-phase_stays n m k w end access.Nothing marks e = noted_phase end marks
 
 -- the read of the event accepts no frame
 pub event_accepted : (config : EndConfig) (end : End) (number value : ℕ) → (end_after end (step_at config (ReadingAvailEvent number) value)).accepted ≡ end.accepted

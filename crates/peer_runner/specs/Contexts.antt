@@ -23,7 +23,7 @@ use Rattle.peer_runner.specs.DerivedStates.{DerivedState}
 use Rattle.peer_runner.specs.DoorbellPaths.{AreRoutes, is_guarded, doorbell_path_in}
 use Rattle.peer_runner.specs.Passes.{IsFirstIn, state_in, IsNextIn}
 use Rattle.peer_runner.specs.Turns.{all_turns, has_turn_left, spent, later, lines_of_turns}
-use Rattle.peer_runner.specs.Runners.{Runner, has_finished, place_in, IsDone, turned, lines_on, IsThere, IsAutoPeer, Turns}
+use Rattle.peer_runner.specs.Runners.{Runner, has_finished, place_in, turned, Turns}
 use Rattle.peer_runner.specs.Trajectories.{IsOnTrajectory, WentTo}
 
 -- the run setup of the words that the peer shares

@@ -1,11 +1,13 @@
 -- What a peer does to the words, and where its list of memory operations leaves it.
-use Rattle.std.specs.Prelude.{ℕ, zero, suc, ◌≡◌, ◌≢◌, ◌-◌, ◌==◌, true, false, Option, Some, None, List, [], ◌∷◌, ◌++◌, length, if◌then◌else◌}
+use Rattle.std.specs.Prelude.{ℕ, zero, suc, ◌≡◌, ◌≢◌, ◌+◌, ◌-◌, ◌==◌, true, false, Option, Some, None, List, [], ◌∷◌, ◌++◌, length, if◌then◌else◌}
+use Rattle.split_ring.specs.Layout.{word_offset, AvailEvent}
 use Rattle.split_ring.specs.declared.steps.Access.{Access}
 use Rattle.split_ring.specs.declared.steps.Access.TheVariants as access
-use Rattle.call_grammar.specs.Steps.{Mark, Look, Done, Over, value_given}
+use Rattle.call_grammar.specs.Steps.{Mark, Look, Over, value_given}
 use Rattle.call_grammar.specs.Ends.{End, fresh, after_reset, end_after}
 use Rattle.call_grammar.specs.Calls.{EndConfig, Call, Stop}
 use Rattle.call_grammar.specs.Places.{Place, Closed, NotInRun, RingingOffer, RingingPoll, first_place, access_at, next_place, marks_at, step_at, is_open}
+use Rattle.link_machine.specs.LinkMachine.{Log}
 use Rattle.link_invariant.specs.LinkConfig.{LinkConfig, IsGivenTo}
 use Rattle.pair_sessions.specs.Numbers.{Numbers, no_numbers, numbers_after, numbers_reset, with_stored, with_loaded, IsNumbered}
 use Rattle.peer_runner.specs.declared.run_setup.RunSetup.{RunSetup}
@@ -52,56 +54,83 @@ memory_op_by f (numbered number) = numbered number
 memory_op_by f (carried number) = carried number
 memory_op_by f restarted = restarted
 
--- The doorbell that a receiver asks for:
+-- A frame of a link peer, by the number of the peer's session and its own number in that session,
+-- from 0. `accepted_last` is the frame that was accepted last, in the session opened last, and
+-- `delivered_next` the next frame to deliver, of the other's session that is carried
+pub record FrameNumber : Type 0 where
+  pub session : ℕ
+  pub number : ℕ
+
+abbrev pub accepted_last : Log → (accepted : List (List ℕ)) → FrameNumber
+accepted_last log accepted = record { session = log.opened; number = length accepted - 1 }
+
+abbrev pub delivered_next : Log → (delivered : List (List ℕ)) → FrameNumber
+delivered_next log delivered = record { session = log.carried; number = length delivered }
+
+-- The doorbell that a receiver asks for by its event word, as it wrote that word last:
 -- * `Nowhere`: none;
--- * `Asking`: none yet. A look of its open poll found no frame, and the poll then writes the event;
--- * `At`: a doorbell at the frame with number `number`. The second look of that poll found no frame
---   either
+-- * `Written`: none yet. It wrote the word, and no mark has come since;
+-- * `At`: a doorbell at this frame of the other. The look after that write found no frame.
+-- No State write and no reset ends what was asked for
 pub data DoorbellRequest : Type 0 where
   Nowhere : DoorbellRequest
-  Asking : DoorbellRequest
-  At : (number : ℕ) → DoorbellRequest
+  Written : DoorbellRequest
+  At : (frame : FrameNumber) → DoorbellRequest
 
--- the request after a look that found `count` frames, if its poll continues; and the request after
--- a look that found none, which completes the poll
-abbrev pub request_after_poll : DoorbellRequest → (count : ℕ) → DoorbellRequest
-request_after_poll was zero = Asking
-request_after_poll Asking (suc more) = Nowhere
-request_after_poll was (suc more) = was
+-- the own event word
+abbrev pub event_word : EndConfig → ℕ
+event_word config = config.own + word_offset config.sizes AvailEvent
 
-abbrev pub request_after_last : (delivered : ℕ) → DoorbellRequest → DoorbellRequest
-request_after_last delivered Asking = At delivered
-request_after_last delivered was = was
+-- after an access: a write of the event word takes back what was asked for, also one that clears it
+abbrev pub request_after_access : (event : ℕ) → DoorbellRequest → Access → DoorbellRequest
+request_after_access event was (access.Write word value) = if word == event then Written else was
+request_after_access event was other = was
 
--- the request after a read with these marks, if `delivered` frames were delivered in the session
-abbrev pub request_after_marks : (delivered : ℕ) → DoorbellRequest → List Mark → DoorbellRequest
-request_after_marks delivered was (Look count ∷ []) = request_after_poll was count
-request_after_marks delivered was (Look count ∷ Done ∷ []) = request_after_last delivered was
-request_after_marks delivered was marks = was
+-- after another mark than the look, or a reset: the write asks for nothing
+abbrev pub lapsed : DoorbellRequest → DoorbellRequest
+lapsed Written = Nowhere
+lapsed was = was
 
--- The numbers of the session's frames for which no doorbell was rung, after a read with these
--- marks, if `accepted` frames were accepted. A read of the other's event that ends the offer of the
--- last frame adds the number of this frame
-abbrev pub missed_by : (accepted : ℕ) → List ℕ → List Mark → List ℕ
-missed_by accepted was (Over ∷ []) = was ++ (accepted - 1) ∷ []
-missed_by accepted was marks = was
+-- after a look, if `next` is the next frame to deliver
+abbrev pub request_after_look : (next : FrameNumber) → DoorbellRequest → (count : ℕ) → DoorbellRequest
+request_after_look next Written zero = At next
+request_after_look next was zero = was
+request_after_look next was (suc more) = lapsed was
 
--- what a peer asks for, and for which frames of its session it didn't ring; frames are numbered in
--- their session, from 0
+abbrev pub request_after_mark : (next : FrameNumber) → DoorbellRequest → Mark → DoorbellRequest
+request_after_mark next was (Look count) = request_after_look next was count
+request_after_mark next was mark = lapsed was
+
+abbrev pub request_after_marks : (next : FrameNumber) → DoorbellRequest → List Mark → DoorbellRequest
+request_after_marks next was [] = was
+request_after_marks next was (mark ∷ marks) = request_after_marks next (request_after_mark next was mark) marks
+
+-- The frames for which no doorbell was rung, after a read with these marks, if `last` is the frame
+-- accepted last. A read of the other's event that ends the offer of this frame adds it
+abbrev pub missed_by : (last : FrameNumber) → List FrameNumber → List Mark → List FrameNumber
+missed_by last was (Over ∷ []) = was ++ last ∷ []
+missed_by last was marks = was
+
+-- what a peer asks for, and for which frames of all its sessions it didn't ring
 pub record Wake : Type 0 where
   pub asked : DoorbellRequest
-  pub missed : List ℕ
+  pub missed : List FrameNumber
 
 abbrev pub at_rest : Wake
 at_rest = record { asked = Nowhere; missed = [] }
 
--- after a step with these marks; a write of State ends what was asked for, and one of 2 opens a
--- session, in which none was missed
-abbrev pub wake_after : (accepted delivered : ℕ) → Wake → Access → List Mark → Wake
-wake_after accepted delivered wake (access.Read word) marks =
-    record { asked = request_after_marks delivered wake.asked marks; missed = missed_by accepted wake.missed marks }
-wake_after accepted delivered wake (access.State state) marks = record { asked = Nowhere; missed = if state == 2 then [] else wake.missed }
-wake_after accepted delivered wake _ marks = wake
+-- after a step with these marks; a doorbell and a call that is down touch no word
+abbrev pub wake_after : (event : ℕ) → (last next : FrameNumber) → Wake → Access → List Mark → Wake
+wake_after event last next wake (access.Read word) marks =
+    record { asked = request_after_marks next wake.asked marks; missed = missed_by last wake.missed marks }
+wake_after event last next wake (access.Write word value) marks =
+    record { asked = request_after_marks next (request_after_access event wake.asked (access.Write word value)) marks; missed = wake.missed }
+wake_after event last next wake (access.State state) marks = record { asked = request_after_marks next wake.asked marks; missed = wake.missed }
+wake_after event last next wake _ marks = wake
+
+abbrev pub wake_on : EndConfig → End → Log → Wake → Access → List Mark → Wake
+wake_on config end log wake a marks =
+    wake_after (event_word config) (accepted_last log end.accepted) (delivered_next log end.delivered) wake a marks
 
 -- an end, its place in the open call, its sessions by their numbers, and which doorbells it asks
 -- for and didn't ring
@@ -123,7 +152,7 @@ moved config s value = record {
   end = end_after s.end (step_at config s.place value);
   place = next_place config s.place value;
   numbers = numbers_after s.numbers s.end (access_at config s.place);
-  wake = wake_after (length s.end.accepted) (length s.end.delivered) s.wake (access_at config s.place) (marks_at config s.place value);
+  wake = wake_on config s.end s.numbers.log s.wake (access_at config s.place) (marks_at config s.place value);
 }
 
 -- the session word is stored, or the other's is loaded
@@ -133,10 +162,10 @@ numbers_stored s = record s { numbers = with_stored s.numbers }
 abbrev pub numbers_loaded : DerivedState → ℕ → DerivedState
 numbers_loaded s number = record s { numbers = with_loaded s.numbers number }
 
--- the device is reset: no call is open, and nothing is asked for
+-- the device is reset: no call is open, and what was asked for stays
 abbrev pub derived_state_after_reset : DerivedState → DerivedState
 derived_state_after_reset s =
-    record { end = after_reset s.end; place = Closed; numbers = numbers_reset s.numbers s.end; wake = record (s.wake) { asked = Nowhere } }
+    record { end = after_reset s.end; place = Closed; numbers = numbers_reset s.numbers s.end; wake = record (s.wake) { asked = lapsed s.wake.asked } }
 
 -- a doorbell and a call that is down touch no word, and leave the call closed
 unfoldable pub settled_place : Place → Place

@@ -22,7 +22,7 @@ use Rattle.peer_runner.specs.declared.driving.PeerPlan.{PeerPlan}
 use Rattle.peer_runner.specs.declared.driving.Driver.{Driver}
 use Rattle.peer_runner.specs.declared.driving.Driver.TheVariants.{Auto, Storm}
 use Rattle.peer_runner.specs.RunSetups.{world_in, config_in, honest_of, IsMadeFor}
-use Rattle.peer_runner.specs.DerivedStates.{CallAccess, MemoryOp, derived_state, NeverMarked}
+use Rattle.peer_runner.specs.DerivedStates.{CallAccess, MemoryOp, event_word, derived_state, NeverMarked}
 use Rattle.peer_runner.specs.Actions.{Action, accesses_in}
 use Rattle.peer_runner.specs.PassView.{PassView}
 use Rattle.peer_runner.specs.Passes.{shown, held}
@@ -71,7 +71,7 @@ MayDrive key p (Storm seed geometry queue) = (p < key.geometry.peers) × (honest
 -- refusal
 pub record IsLeft (key : RunSetup) (p : ℕ) (list : List (Action (MemoryOp CallAccess))) (taken : List Turn) (after : Peer) : Type 0 where
   pub end : (derived_state key p (accesses_in list)).end ≡ after.end
-  pub told : ReaderMatches (derived_state key p (accesses_in list)) (reader_of_lines (lines_of_turns p taken))
+  pub told : ReaderMatches (derived_state key p (accesses_in list)) (reader_of_lines (event_word (config_in key p)) (lines_of_turns p taken))
   pub refused : NeverMarked key p (accesses_in list) → list_any refuses (lines_of_turns p taken) ≡ false
 
 -- In a scenario

@@ -14,7 +14,7 @@ use Rattle.pair_sessions.specs.Numbers.{own_side}
 use Rattle.peer_runner.specs.declared.run_setup.RunSetup.{RunSetup}
 use Rattle.peer_runner.specs.declared.view.View.{View}
 use Rattle.peer_runner.specs.RunSetups.{honest_of, IsFit}
-use Rattle.peer_runner.specs.DerivedStates.{At, CallAccess, taken, MemoryOp, called, numbered, carried, restarted, derived_state, NeverMarked}
+use Rattle.peer_runner.specs.DerivedStates.{FrameNumber, At, CallAccess, taken, MemoryOp, called, numbered, carried, restarted, derived_state, NeverMarked}
 use Rattle.peer_runner.specs.Actions.{Action, accessed, rang, looked, cleared, accesses_in}
 use Rattle.peer_runner.specs.Interrupts.{session_word, all_words, IsOneShot, MayRing, AreRung}
 pub use Rattle.peer_runner.specs.SharedMemory.{IsOwned}
@@ -134,11 +134,11 @@ pub record SessionsAreLearned (key : RunSetup) (acc : ℕ → List (MemoryOp Cal
 abbrev pub CarriesNone : Log → Type 0
 CarriesNone log = (log.carried ≡ 0) × All (λ (session : Ended). session.carried ≡ 0) log.ended
 
--- where one of them asks for a doorbell at a frame, the other's offer of that frame didn't end
--- without one
+-- where one of them asks for a doorbell at a frame of the session that it carried then, the other's
+-- offer of that frame didn't end without one
 abbrev pub NoneIsMissed : RunSetup → (ℕ → List (MemoryOp CallAccess)) → Type 0
-NoneIsMissed key acc = (p number : ℕ) → p < 2 → (derived_state key p (acc p)).wake.asked ≡ At number →
-    ¬ Contains (derived_state key (1 - p) (acc (1 - p))).wake.missed number
+NoneIsMissed key acc = (p : ℕ) (frame : FrameNumber) → p < 2 → (derived_state key p (acc p)).wake.asked ≡ At frame →
+    ¬ Contains (derived_state key (1 - p) (acc (1 - p))).wake.missed frame
 
 -- What is learned if all lists are here. Interrupts were rung as the lists say. Two honest peers
 -- agree, and in a link with events each rings if the other asks. The sessions of an honest peer

@@ -27,7 +27,7 @@ use Rattle.step_lines.specs.Places.{HasFrames}
 use Rattle.peer_runner.specs.declared.run_setup.RunSetup.{RunSetup}
 use Rattle.peer_runner.specs.PassView.{PassView}
 use Rattle.peer_runner.specs.RunSetups.{config_in}
-use Rattle.peer_runner.specs.DerivedStates.{CallAccess, taken, MemoryOp, called, numbered, carried, restarted, Nowhere, Wake, at_rest, wake_after, DerivedState, settled_place, derived_state}
+use Rattle.peer_runner.specs.DerivedStates.{CallAccess, taken, MemoryOp, called, numbered, carried, restarted, lapsed, Wake, at_rest, wake_on, DerivedState, settled_place, derived_state}
 use Rattle.peer_runner.specs.Actions.{Action, accessed, looked, accesses_in}
 use Rattle.peer_runner.specs.Passes.{added}
 use Rattle.peer_runner.specs.DoorbellPaths.{doorbell_path_to, is_guarded, rung_by}
@@ -293,7 +293,7 @@ restarted_on r = record {
   spans = later r.spans;
   actions = r.actions ++ accessed restarted ∷ [];
   turns = r.turns ++ Restarts ∷ [];
-  wake = record (r.wake) { asked = Nowhere };
+  wake = record (r.wake) { asked = lapsed r.wake.asked };
 }
 
 -- its step is the first of a call
@@ -315,7 +315,7 @@ held_on routes config r done = record r {
 }
 
 abbrev pub woken_on : EndConfig → Runner → Done → Wake
-woken_on config r done = wake_after (length r.end.accepted) (length r.end.delivered) r.wake (access_at config (place_in config r))
+woken_on config r done = wake_on config r.end r.numbers.log r.wake (access_at config (place_in config r))
     (marks_at config (place_in config r) (value_done done))
 
 abbrev pub stepped_on : List Route → EndConfig → Runner → Done → Runner

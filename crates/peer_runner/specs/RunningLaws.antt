@@ -22,7 +22,7 @@ use Rattle.pair_sessions.specs.Numbers.{Numbers, WordIs, IsPaired}
 use Rattle.peer_runner.specs.declared.run_setup.RunSetup.{RunSetup}
 use Rattle.peer_runner.specs.declared.view.View.{View}
 use Rattle.peer_runner.specs.RunSetups.{honest_of}
-use Rattle.peer_runner.specs.DerivedStates.{At, CallAccess, MemoryOp, called, derived_state, IsNext}
+use Rattle.peer_runner.specs.DerivedStates.{FrameNumber, At, CallAccess, MemoryOp, called, derived_state, IsNext}
 use Rattle.peer_runner.specs.SharedMemory.{IsOwned, Made}
 use Rattle.peer_runner.specs.Happened.{Happened}
 use Rattle.peer_runner.specs.Actions.{Action}
@@ -259,11 +259,12 @@ pub record PairKeeps (key : RunSetup) (memory : ℕ → ℕ) (acc : ℕ → List
   pub named : (k : ℕ) → freed_by key acc p ≤ k → k < (end_by key acc (1 - p)).returned →
       id_at key.queue (section_words key memory (1 - p)) k ≡ k % limit_of key.queue
 
--- In a link with events: where one asks for a doorbell at a frame, the other's offer of that frame,
--- once it has read the event, goes on to the doorbell
+-- In a link with events: the event word of one, as it wrote that word last, asks for a doorbell at
+-- a frame of the session that it carried then. The other's offer of that frame, once it has read
+-- the event, goes on to the doorbell
 abbrev pub AskedIsRung : RunSetup → (ℕ → ℕ) → (ℕ → List (MemoryOp CallAccess)) → ℕ → Type 0
-AskedIsRung key memory acc p = has_events key.queue ≡ true → (number : ℕ) → (derived_state key p (acc p)).wake.asked ≡ At number →
-    ¬ Contains (derived_state key (1 - p) (acc (1 - p))).wake.missed number
+AskedIsRung key memory acc p = has_events key.queue ≡ true → (frame : FrameNumber) → (derived_state key p (acc p)).wake.asked ≡ At frame →
+    ¬ Contains (derived_state key (1 - p) (acc (1 - p))).wake.missed frame
 
 -- The values that an open call has read and holds are what the other has written. The used index
 -- represents frames that were returned, and the available index represents frames that were

@@ -3,7 +3,7 @@
 -- session a beginning of what the other accepted in the session that it carries, and rang if the
 -- other asked. The sessions of an honest peer whose other is hostile carry none. The record states
 -- no order between peers.
-use Rattle.std.specs.Prelude.{ℕ, zero, suc, ◌≡◌, ◌+◌, ◌-◌, ◌<◌, ◌≤◌, ◌==◌, ◌&&◌, ◌||◌, Bool, true, false, if◌then◌else◌, All, Contains, List, [], ◌∷◌, ◌++◌, length}
+use Rattle.std.specs.Prelude.{ℕ, ◌≡◌, ◌+◌, ◌-◌, ◌<◌, ◌≤◌, ◌==◌, ◌&&◌, ◌||◌, Bool, true, false, if◌then◌else◌, All, Contains, List, [], ◌∷◌, ◌++◌}
 use Rattle.std.specs.List.{flat_map, list_any}
 use Rattle.split_ring.specs.Layout.{has_events}
 use Rattle.link_handshake.specs.PhaseTable.{phase_at, state_of}
@@ -12,13 +12,14 @@ use Rattle.pair_sessions.specs.Numbers.{own_side}
 use Rattle.doorbell_irq.specs.DeviceRules.{is_one_shot, bytes_after}
 use Rattle.doorbell_irq.specs.Routes.{is_intx}
 use Rattle.lawful_history.specs.Device.{devices_of}
+use Rattle.lawful_history.specs.Sides.{config_of}
 use Rattle.scenario_text.specs.Scenario.{World, is_link}
 use Rattle.scenario_text.specs.Running.{has_turn}
 use Rattle.lawful_history.specs.declared.line.Line.{Line}
 use Rattle.lawful_history.specs.declared.line.Line.TheVariants as line
 use Rattle.record_text.specs.Parts.{Part, peers_of, running_peers}
 use Rattle.peer_runner.specs.PassView.{PassView}
-use Rattle.peer_runner.specs.DerivedStates.{DoorbellRequest, Nowhere, Asking, At, DerivedState}
+use Rattle.peer_runner.specs.DerivedStates.{FrameNumber, accepted_last, delivered_next, DoorbellRequest, Nowhere, Written, At, event_word, lapsed, request_after_look, DerivedState}
 use Rattle.peer_runner.specs.Rules.{CarriesNone}
 use Rattle.peer_runner.specs.Passes.{actions_of}
 use Rattle.peer_runner.specs.DoorbellPaths.{events_of}
@@ -39,8 +40,8 @@ refuses _ = false
 -- * `state`: its state;
 -- * `accepted` and `delivered`: the frames that it accepted and delivered in its present session;
 -- * `log`: the log of its sessions;
--- * `asked`: the doorbell that it asks for;
--- * `missed`: the numbers of the frames of the session, from 0, for which it rang none;
+-- * `asked`: the doorbell that it asks for by its event word;
+-- * `missed`: the frames of all its sessions for which it rang none;
 -- * `read`: whether its last line is a read
 pub record RecordReader : Type 0 where
   pub state : ℕ
@@ -48,7 +49,7 @@ pub record RecordReader : Type 0 where
   pub delivered : List (List ℕ)
   pub log : Log
   pub asked : DoorbellRequest
-  pub missed : List ℕ
+  pub missed : List FrameNumber
   pub read : Bool
 
 abbrev pub initial_reader : RecordReader
@@ -63,18 +64,10 @@ side_in t = record initial_side { state = t.state; accepted = t.accepted; delive
 abbrev pub log_in : RecordReader → SideEvent → Log
 log_in t told = log_after t.log no_sessions (side_in t) told
 
--- a poll that looks and finds nothing writes its event and looks again; where it finds nothing
--- then, it has asked for a doorbell at the next frame
-abbrev pub asked_now : (delivered : ℕ) → DoorbellRequest → (count : ℕ) → DoorbellRequest
-asked_now delivered Asking zero = At delivered
-asked_now delivered Asking (suc more) = Nowhere
-asked_now delivered was zero = Asking
-asked_now delivered was (suc more) = was
-
 -- a call that is over right after a read is an offer, of the frame accepted last: it read an event
 -- that doesn't ask for this frame, and rang no doorbell
-abbrev pub missed_now : RecordReader → List ℕ
-missed_now t = if t.read then t.missed ++ (length t.accepted - 1) ∷ [] else t.missed
+abbrev pub missed_now : RecordReader → List FrameNumber
+missed_now t = if t.read then t.missed ++ accepted_last t.log t.accepted ∷ [] else t.missed
 
 -- a value that is none of the four states is that of RESET, as the handshake takes it; and one of 2
 -- opens a session
@@ -84,34 +77,39 @@ reader_after_state t value = record {
   accepted = if value == 2 then [] else t.accepted;
   delivered = if value == 2 then [] else t.delivered;
   log = log_in t (Wrote value);
-  asked = Nowhere;
-  missed = if value == 2 then [] else t.missed;
+  asked = t.asked;
+  missed = t.missed;
   read = false;
 }
 
 abbrev pub reader_after_reset : RecordReader → RecordReader
-reader_after_reset t = record t { state = 0; log = log_in t WasReset; asked = Nowhere; read = false }
+reader_after_reset t = record t { state = 0; log = log_in t WasReset; asked = lapsed t.asked; read = false }
 
 abbrev pub with_carried : Log → ℕ → Log
 with_carried log other = record log { carried = other }
 
-abbrev pub reader_after_line : RecordReader → Line → RecordReader
-reader_after_line t (line.Read p word value) = record t { read = true }
-reader_after_line t (line.State p value) = reader_after_state t value
-reader_after_line t (line.Reset p) = reader_after_reset t
-reader_after_line t (line.Session p opened other) = record t { log = with_carried t.log other; read = false }
-reader_after_line t (line.Accept p frame) = record t { accepted = t.accepted ++ frame ∷ []; read = false }
-reader_after_line t (line.Deliver p frame) = record t { delivered = t.delivered ++ frame ∷ []; read = false }
-reader_after_line t (line.Look p count) = record t { asked = asked_now (length t.delivered) t.asked count; read = false }
-reader_after_line t (line.Over p) = record t { missed = missed_now t; read = false }
-reader_after_line t _ = record t { read = false }
+-- `event` is the peer's own event word. After a write of this word a look that finds no frame asks
+-- for a doorbell at the next one; another mark before that look ends the poll that wrote it
+abbrev pub reader_after_line : (event : ℕ) → RecordReader → Line → RecordReader
+reader_after_line event t (line.Read p word value) = record t { read = true }
+reader_after_line event t (line.Write p word value) = record t { asked = if word == event then Written else t.asked; read = false }
+reader_after_line event t (line.State p value) = reader_after_state t value
+reader_after_line event t (line.Doorbell p target vector) = record t { read = false }
+reader_after_line event t (line.Interrupt p vector) = record t { read = false }
+reader_after_line event t (line.Reset p) = reader_after_reset t
+reader_after_line event t (line.Session p opened other) = record t { log = with_carried t.log other; read = false }
+reader_after_line event t (line.Accept p frame) = record t { accepted = t.accepted ++ frame ∷ []; asked = lapsed t.asked; read = false }
+reader_after_line event t (line.Deliver p frame) = record t { delivered = t.delivered ++ frame ∷ []; asked = lapsed t.asked; read = false }
+reader_after_line event t (line.Look p count) = record t { asked = request_after_look (delivered_next t.log t.delivered) t.asked count; read = false }
+reader_after_line event t (line.Over p) = record t { asked = lapsed t.asked; missed = missed_now t; read = false }
+reader_after_line event t other = record t { asked = lapsed t.asked; read = false }
 
-unfoldable pub reader_after_lines : RecordReader → List Line → RecordReader
-reader_after_lines t [] = t
-reader_after_lines t (line ∷ lines) = reader_after_lines (reader_after_line t line) lines
+unfoldable pub reader_after_lines : (event : ℕ) → RecordReader → List Line → RecordReader
+reader_after_lines event t [] = t
+reader_after_lines event t (line ∷ lines) = reader_after_lines event (reader_after_line event t line) lines
 
-abbrev pub reader_of_lines : List Line → RecordReader
-reader_of_lines lines = reader_after_lines initial_reader lines
+abbrev pub reader_of_lines : (event : ℕ) → List Line → RecordReader
+reader_of_lines event lines = reader_after_lines event initial_reader lines
 
 -- the lines, as the reader `t` has them, report exactly the derived state `s`: its side, its log,
 -- its request and its missed frames
@@ -121,25 +119,26 @@ pub record ReaderMatches (s : DerivedState) (t : RecordReader) : Type 0 where
   pub asked : t.asked ≡ s.wake.asked
   pub missed : t.missed ≡ s.wake.missed
 
-abbrev pub reader_of_part : List Part → ℕ → RecordReader
-reader_of_part parts p = reader_of_lines (lines_by parts p)
+abbrev pub reader_of_part : World → List Part → ℕ → RecordReader
+reader_of_part world parts p = reader_of_lines (event_word (config_of world p)) (lines_by parts p)
 
 -- Of two honest peers: the sessions of each that reached RUN carry sessions of the other's by their
 -- numbers, which rise. In each session the peer delivered a beginning of what the other accepted in
 -- the session that it carries. Neither refused anything
-pub record ArePaired (parts : List Part) : Type 0 where
-  pub deliver : (p : ℕ) → p < 2 → DeliversInOrder (side_in (reader_of_part parts p)) (side_in (reader_of_part parts (1 - p))) (reader_of_part parts p).log
-      (reader_of_part parts (1 - p)).log
+pub record ArePaired (world : World) (parts : List Part) : Type 0 where
+  pub deliver : (p : ℕ) → p < 2 → DeliversInOrder (side_in (reader_of_part world parts p)) (side_in (reader_of_part world parts (1 - p))) (reader_of_part world parts p).log
+      (reader_of_part world parts (1 - p)).log
   pub never_refuse : (p : ℕ) → p < 2 → list_any refuses (lines_by parts p) ≡ false
 
 -- of an honest peer beside a hostile one: its sessions carry none of the other's
 abbrev pub CarryNone : World → List Part → Type 0
-CarryNone world parts = (p : ℕ) → p < 2 → is_link world p ≡ true → is_link world (1 - p) ≡ false → CarriesNone (reader_of_part parts p).log
+CarryNone world parts = (p : ℕ) → p < 2 → is_link world p ≡ true → is_link world (1 - p) ≡ false → CarriesNone (reader_of_part world parts p).log
 
--- where a peer that asked for a doorbell last asked at a frame, and wrote no event since, the
--- other's offer of that frame didn't end without one
-abbrev pub AreWoken : List Part → Type 0
-AreWoken parts = (p number : ℕ) → p < 2 → (reader_of_part parts p).asked ≡ At number → ¬ Contains (reader_of_part parts (1 - p)).missed number
+-- where the event word of a peer, as the peer wrote it last, asks for a doorbell at a frame of the
+-- other's session that it carried then, the other's offer of that frame didn't end without one
+abbrev pub AreWoken : World → List Part → Type 0
+AreWoken world parts = (p : ℕ) (frame : FrameNumber) → p < 2 → (reader_of_part world parts p).asked ≡ At frame →
+    ¬ Contains (reader_of_part world parts (1 - p)).missed frame
 
 -- Interrupts that came, and doorbells that may have brought them
 
@@ -179,6 +178,6 @@ pub record IsRunOf (world : World) (h : PassView) (parts : List Part) : Type 0 w
   pub own : All (λ (part : Part). IsOwnRecord world (actions_of h part.peer) part) parts
   pub idle : (p : ℕ) → has_turn world.acts p ≡ false → actions_of h p ≡ []
   pub interrupt_lines : InterruptsMatch world parts
-  pub paired : is_link world 0 ≡ true → is_link world 1 ≡ true → ArePaired parts
+  pub paired : is_link world 0 ≡ true → is_link world 1 ≡ true → ArePaired world parts
   pub neighbour_word : CarryNone world parts
-  pub woken : has_events world.queue ≡ true → is_link world 0 ≡ true → is_link world 1 ≡ true → AreWoken parts
+  pub woken : has_events world.queue ≡ true → is_link world 0 ≡ true → is_link world 1 ≡ true → AreWoken world parts

@@ -147,9 +147,13 @@ pub fn pair_keeps()
 {}
 
 /// In a link with events: if an honest link peer asks the other honest one for a doorbell at a
-/// frame, then no offer of that frame ends without a doorbell.
-// claim: In a link with events, while one of two honest link peers asks for a doorbell at a frame,
-//    the other's offer of that frame has not ended without one.
+/// frame, then no offer of that frame ends without a doorbell. It asks by its event word until it
+/// writes that word again, through State writes and resets, and at a frame of the session that it
+/// carried as it looked.
+// claim: In a link with events, where the event word of one of two honest link peers, as it wrote
+//    that word last, asks for a doorbell at a frame of the session that it carried then, the
+//    other's offer of that frame has not ended without one, through State writes and resets of
+//    both.
 pub fn asked_doorbells_are_rung()
     ensures { OfTwoHonest AskedIsRung }
 {}

@@ -141,8 +141,8 @@ fn learn_by<M: Play<u8, View>>(words: &Words, pass: &mut Pass)
 /// - All peers: each interrupt that is found was rung.
 // claim same, told: From the lists of all peers the rule follows, and the pass stays. Of two honest
 //    peers: their sessions are paired, neither refuses, and in a link with events no offer ended
-//    without a doorbell that the other asks for. Next to a hostile peer, sessions carry none. No
-//    interrupt is found that was not rung.
+//    without a doorbell that the other's event word asks for. Next to a hostile peer, sessions
+//    carry none. No interrupt is found that was not rung.
 pub fn learn(words: &Words, pass: &mut Pass)
     requires of { IsOf words.now.shared.table_id words.now.shared.key pass.old }
     ensures same { pass.new ≡ pass.old }

@@ -1,13 +1,13 @@
 -- The computed history is lawful.
-use Rattle.std.proofs.Common.{◌≡◌, ◌≢◌, ℕ, ◌+◌, ◌*◌, ◌/◌, ◌%◌, ◌<◌, ◌≤◌, Bool, true, false, List, [], ◌∷◌, ◌++◌, length, refl, sym, ◌∙◌, ap, subst, arith, append_assoc, replicate, inl, inr, ◌⊎◌, length-set}
-use Rattle.std.specs.Prelude.{◌==◌, ◌&&◌, ◌||◌, nat_lt, nat_le, if◌then◌else◌, Option, Some, None, map, reverse}
+use Rattle.std.proofs.Common.{◌≡◌, ◌≢◌, ℕ, ◌+◌, ◌*◌, ◌/◌, ◌%◌, ◌<◌, ◌≤◌, Bool, true, false, List, [], ◌∷◌, ◌++◌, length, refl, sym, ◌∙◌, ap, subst, arith, append_assoc, replicate, inl, length-set}
+use Rattle.std.specs.Prelude.{◌==◌, nat_lt, if◌then◌else◌, Option, Some, None, map, reverse}
 use Rattle.std.specs.List.{flat_map, AllByRecursion}
 use Rattle.std.proofs.lemmas.List.{reverse-append, reverse-reverse, append-nil, get_or-set_same, get_or-set_other, get_or-replicate, get_or_past, length-replicate}
 use Rattle.std.proofs.lemmas.Bool.Decides.{nat_tests}
 use Rattle.std.proofs.lemmas.List.Elements.{All-from_recursion}
 use Rattle.std.proofs.Math.Nat.{mod-lt}
 use Rattle.section_map.specs.Geometry.{Shape, section_start}
-use Rattle.section_map.specs.MayWrite.{MayWrite}
+use Rattle.section_map.specs.MayWrite.{may_write}
 use Rattle.split_ring.specs.declared.steps.Access.{Access}
 use Rattle.split_ring.specs.declared.steps.Access.TheVariants as access
 use Rattle.split_ring.specs.Layout.{Sizes, IsQueue, data_area_start}
@@ -31,13 +31,14 @@ use Rattle.lawful_history.specs.EventRecords.{EventRecord, event_of, owner, mark
 use Rattle.lawful_history.specs.Peers.{Auto, Driver, Waits, Chooses, Storms, Peer, at_start, with_call_by, cut, with_choice, chosen, opened_by, opened, driver_after}
 use Rattle.lawful_history.specs.Order.{Progress, initial_progress, EventStep, noted, IsCallSequence}
 use Rattle.lawful_history.specs.Device.{devices_of, device_events, arrival, arrived, arrivals_by, lost_count, device_event_of, brought_by, step_interrupts, device_access_line, device_lines, DeviceRules}
-use Rattle.lawful_history.specs.History.{HistoryState, driven_step, driven, step_by, moved_by, may_write, acted_step, step_in, peer_in, peer_at, step_of_event, entry_of, peer_after, peer_of_progress, IsWithin, after_event, run, initial_state, HistoryIsLawful}
+use Rattle.lawful_history.specs.History.{HistoryState, driven_step, driven, step_by, moved_by, acted_step, step_in, peer_in, peer_at, step_of_event, entry_of, peer_after, peer_of_progress, IsWithin, after_event, run, initial_state, HistoryIsLawful}
 use Rattle.lawful_history.proofs.InOrder.{keeps_order}
 use Rattle.lawful_history.proofs.Left.{HoldsOfOffer, choice_offers, left_keeps}
 use Rattle.lawful_history.proofs.Owners.{is_same, is_other, not_below}
 use Rattle.lawful_history.proofs.Apart.{Harmless, harmless_law, marks_harmless}
 use Rattle.lawful_history.specs.Permitted.{IsPermittedEvent}
 use Rattle.lawful_history.proofs.There.{there_below, all_there}
+use Rattle.section_map.proofs.Tests.{may_tells, may_denies}
 
 abbrev AllHarmless : Shape → List Line → Type 0
 AllHarmless g lines = AllByRecursion (λ line. Harmless g (memory_effect_of line)) lines
@@ -151,30 +152,11 @@ turn_law world p driver (Reads word marks rest) dev past is stays harmless law =
     read_law world.geometry p word (dev ++ map (mark_line p) (marks v)) past (all_harmless world.geometry dev _ harmless (marks_harmless world.geometry p (marks v))) law
 
 -- An access outside a call satisfies the law: a write is denied exactly if it isn't permitted.
-either_in : (own own_end table common_end word : ℕ) → ((nat_le own word && nat_lt word own_end) || (nat_le table word && nat_lt word common_end)) ≡ true →
-    ((own ≤ word) × (word < own_end)) ⊎ ((table ≤ word) × (word < common_end))
-either_in own own_end table common_end word is = grind (arith, nat_tests)
-
-not_own : (own own_end table common_end word : ℕ) → ((nat_le own word && nat_lt word own_end) || (nat_le table word && nat_lt word common_end)) ≡ false → own ≤ word → word < own_end → ⊥
-not_own own own_end table common_end word is low high = grind (arith, nat_tests)
-
-not_common : (own own_end table common_end word : ℕ) → ((nat_le own word && nat_lt word own_end) || (nat_le table word && nat_lt word common_end)) ≡ false → table ≤ word → word < common_end → ⊥
-not_common own own_end table common_end word is low high = grind (arith, nat_tests)
-
-pub may : (g : Shape) (p word : ℕ) → may_write g p word ≡ true → MayWrite g p word
-may g p word is = either_in (section_start g p) (section_start g p + g.out) g.table (g.table + g.common) word is
-
-may_not : (g : Shape) (p word : ℕ) → may_write g p word ≡ false → ¬ MayWrite g p word
-may_not g p word is = λ may. elim may [
-  | inl here ↦ not_own (section_start g p) (section_start g p + g.out) g.table (g.table + g.common) word is here.0 here.1
-  | inr here ↦ not_common (section_start g p) (section_start g p + g.out) g.table (g.table + g.common) word is here.0 here.1
-]
-
 write_law : (world : World) (p word value : ℕ) (b : Bool) (dev past : List Line) → may_write world.geometry p word ≡ b → AllHarmless world.geometry dev → MemoryLaw world.geometry past →
     MemoryLaw world.geometry (reverse (region_access_lines p (access.Write word value) (if b then Some (step_of (access.Write word value) 0 []) else None) dev) ++ past)
 write_law world p word value true dev past is harmless law =
-    harmless_law world.geometry (line.Write p word value ∷ dev ++ []) past (may world.geometry p word is, all_harmless world.geometry dev [] harmless tt) law
-write_law world p word value false dev past is harmless law = harmless_law world.geometry (line.Denied p word ∷ dev) past (may_not world.geometry p word is, harmless) law
+    harmless_law world.geometry (line.Write p word value ∷ dev ++ []) past (may_tells world.geometry p word is, all_harmless world.geometry dev [] harmless tt) law
+write_law world p word value false dev past is harmless law = harmless_law world.geometry (line.Denied p word ∷ dev) past (may_denies world.geometry p word is, harmless) law
 
 acted_law : (world : World) (p : ℕ) (a : Access) (dev past : List Line) → AllHarmless world.geometry dev → MemoryLaw world.geometry past →
     MemoryLaw world.geometry (reverse (region_access_lines p a (acted_step world p a past) dev) ++ past)

@@ -5,6 +5,7 @@ use Rattle.std.proofs.lemmas.List.{drop-append-le, length-append}
 use Rattle.std.proofs.lemmas.Option.{slice_get_within, same_Some}
 use Rattle.split_ring.specs.declared.steps.Access.{Access}
 use Rattle.split_ring.specs.declared.steps.Access.TheVariants as access
+use Rattle.section_map.specs.MayWrite.{may_write}
 use Rattle.scenario_text.specs.Scenario.{World}
 use Rattle.call_grammar.specs.Steps.{Mark, Saw, Reclaim, Full, Accept, Look, Deliver, Return, Done, Down, Refuse, Over, Step, step_of}
 use Rattle.call_grammar.specs.Trees.{CallTree, Ended, Does, Reads}
@@ -19,7 +20,7 @@ use Rattle.lawful_history.specs.Sides.{config_of}
 use Rattle.lawful_history.specs.Storm.{storm_after}
 use Rattle.lawful_history.specs.Peers.{Auto, Driver, Chooses, Peer, with_call_by, cut, with_choice, chosen, opened_by, opened, counted, counted_all, driver_after}
 use Rattle.lawful_history.specs.Order.{Chooser, Nobody, TheRule, TheStorm, chooser, queued_with, queued_since_reset, with_frame, without_accepted, without_all_accepted, frames_left, with_delivered, with_all_delivered, delivered_in, Progress, chooses, chooses_by, chosen_next, queued_or_chosen, begins_by, begins, goes_to, IdleStep, CallStep, IsMade, cut_call, reset_progress, noted}
-use Rattle.lawful_history.specs.History.{driven_step, driven, step_by, moved_by, may_write, acted_step, driver_of, peer_of_progress, IsWithin, GoesOnInOrder, PeersKeepOrder}
+use Rattle.lawful_history.specs.History.{driven_step, driven, step_by, moved_by, acted_step, driver_of, peer_of_progress, IsWithin, GoesOnInOrder, PeersKeepOrder}
 
 -- The waiting calls
 

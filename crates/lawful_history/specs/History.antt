@@ -1,9 +1,9 @@
 -- The lawful history of a scenario, computed. It is the reference program for the relation of
 -- `Lawful`.
-use Rattle.std.specs.Prelude.{ℕ, ◌≡◌, ◌≤◌, ◌&&◌, ◌||◌, nat_le, nat_lt, if◌then◌else◌, ◌+◌, Bool, Option, Some, None, List, [], ◌∷◌, ◌++◌, drop, length, reverse, replicate, slice_index_or, slice_set}
-use Rattle.section_map.specs.Geometry.{Shape, section_start}
+use Rattle.std.specs.Prelude.{ℕ, ◌≡◌, ◌≤◌, if◌then◌else◌, Option, Some, None, List, [], ◌∷◌, ◌++◌, drop, length, reverse, replicate, slice_index_or, slice_set}
 use Rattle.split_ring.specs.declared.steps.Access.{Access}
 use Rattle.split_ring.specs.declared.steps.Access.TheVariants as access
+use Rattle.section_map.specs.MayWrite.{may_write}
 use Rattle.scenario_text.specs.declared.acts.Act.{Act}
 use Rattle.scenario_text.specs.Scenario.{World, IsWorld}
 use Rattle.call_grammar.specs.Steps.{Step, step_of}
@@ -64,12 +64,6 @@ turn_step world p peer past = step_by world p (opened (config_of world p) peer).
 
 abbrev pub turned : World → ℕ → Peer → List Line → Peer
 turned world p peer past = moved (opened (config_of world p) peer) past
-
--- Whether a peer may write a word: the word is in the peer's output section or in the common
--- section.
-abbrev pub may_write : Shape → ℕ → ℕ → Bool
-may_write g peer word =
-    (nat_le (section_start g peer) word && nat_lt word (section_start g peer + g.out)) || (nat_le g.table word && nat_lt word (g.table + g.common))
 
 -- The step of an access outside a call. A write that isn't permitted is denied.
 abbrev pub acted_step : World → ℕ → Access → List Line → Option Step

@@ -1,10 +1,11 @@
 -- The effect of a step on the frames of an end: those that it accepts and delivers, and the frame
 -- of the open offer after it.
 use Rattle.std.proofs.Common.{◌≡◌, ℕ, zero, suc, ◌+◌, Bool, true, false, List, [], ◌∷◌, ◌++◌, length, drop, refl, sym, ap, ◌∙◌, append_assoc, inl, inr, ◌-◌, eqb-true}
-use Rattle.std.specs.Prelude.{◌⊎◌, ◌==◌, nat_le, if◌then◌else◌, Some, None}
+use Rattle.std.specs.Prelude.{◌⊎◌, ◌==◌, if◌then◌else◌, Some, None, ◌%◌}
 use Rattle.std.proofs.lemmas.List.{append-nil}
-use Rattle.split_ring.specs.Layout.{has_events, size_of, limit_of}
-use Rattle.split_ring.specs.Spelling.{low_half}
+use Rattle.split_ring.specs.Layout.{has_events, limit_of}
+use Rattle.split_ring.specs.Spelling.{low_half, high_half, desc_flags}
+use Rattle.split_ring.specs.Ranges.{is_avail_entry, is_desc_address, is_desc_length, is_avail_index, is_desc_flags, is_used_index, is_used_id}
 use Rattle.link_handshake.specs.declared.Move.{Move}
 use Rattle.link_handshake.specs.declared.Move.TheVariants.{Stay, Set, ClearThenSet}
 use Rattle.link_handshake.specs.HandshakeState.{move_of}
@@ -14,7 +15,7 @@ use Rattle.call_grammar.specs.Words.{words_for, address_of}
 use Rattle.call_grammar.specs.Calls.{EndConfig}
 use Rattle.call_grammar.specs.Ticks.{tick_marks}
 use Rattle.call_grammar.specs.Offers.{PendingOffer, frame_fits, descriptor_of, wants_doorbell, full_marks, reclaim_marks, returned_by}
-use Rattle.call_grammar.specs.Polls.{is_entry, is_address, is_length, entry_in, look_marks, published_by}
+use Rattle.call_grammar.specs.Polls.{entry_in, look_marks, published_by}
 use Rattle.call_grammar.specs.Places.{Place, Closed, ReadingOtherState, Clearing, WritingState, Refusing, NotInRun, ReadingUsedIndex, ReadingUsedId, WritingFrameWord, WritingDescAddressLow, WritingDescAddressHigh, WritingDescLength, WritingDescFlags, WritingAvailEntry, WritingAvailIndex, ReadingAvailEvent, RingingOffer, ReadingAvailIndex, WritingAvailEvent, ReadingAvailEntry, ReadingDescAddressLow, ReadingDescAddressHigh, ReadingDescLength, ReadingDescFlags, ReadingFrameWord, WritingUsedId, WritingUsedLength, WritingUsedIndex, RingingPoll, clear_place, tick_place, fill_place, ids_place, notify_place, none_place, items_place, words_place, access_at, marks_at, next_place}
 use Rattle.link_endpoint.specs.Plan.{left_after, delivered_by}
 use Rattle.frame_bridge.specs.Keeps.{job_frame, HeadIs}
@@ -60,15 +61,15 @@ silent : (config : EndConfig) (place : Place) (value : ℕ) → is_publishing pl
 silent config (WritingAvailIndex pending) value is = absurd (cc)
 silent config (ReadingOtherState handshake) value is = tick_silent value (move_of handshake value)
 silent config (ReadingUsedIndex pending freed) value is =
-    if_silent (nat_le (returned_by freed value) (pending.number - freed)) _ _ (reclaim_silent config pending freed (returned_by freed value)) refl
+    if_silent (is_used_index (freed % 65536) (high_half value) (pending.number - freed)) _ _ (reclaim_silent config pending freed (returned_by freed value)) refl
 silent config (ReadingUsedId pending freed more) value is =
-    if_silent (value == descriptor_of config freed) _ _ (if_silent (more == 0) _ _ (full_silent config pending (freed + 1)) refl) refl
+    if_silent (is_used_id (descriptor_of config freed) value) _ _ (if_silent (more == 0) _ _ (full_silent config pending (freed + 1)) refl) refl
 silent config (ReadingAvailEvent number) value is = if_silent (wants_doorbell (low_half value) number) _ _ refl refl
-silent config (ReadingAvailIndex taken last) value is = if_silent (nat_le (published_by taken value) (size_of config.sizes)) _ _ (look_silent last (published_by taken value)) refl
-silent config (ReadingAvailEntry number more) value is = if_silent (is_entry config.sizes (entry_in config number value)) _ _ refl refl
-silent config (ReadingDescAddressHigh number more entry low) value is = if_silent (is_address config.sizes (address_of low value)) _ _ refl refl
-silent config (ReadingDescLength number more entry address) value is = if_silent (is_length config.sizes address value) _ _ refl refl
-silent config (ReadingDescFlags number more entry address bytes) value is = if_silent (low_half value == 0) _ _ refl refl
+silent config (ReadingAvailIndex taken last) value is = if_silent (is_avail_index config.sizes (taken % 65536) (high_half value)) _ _ (look_silent last (published_by taken value)) refl
+silent config (ReadingAvailEntry number more) value is = if_silent (is_avail_entry config.sizes (entry_in config number value)) _ _ refl refl
+silent config (ReadingDescAddressHigh number more entry low) value is = if_silent (is_desc_address config.sizes (address_of low value)) _ _ refl refl
+silent config (ReadingDescLength number more entry address) value is = if_silent (is_desc_length config.sizes address value) _ _ refl refl
+silent config (ReadingDescFlags number more entry address bytes) value is = if_silent (is_desc_flags (desc_flags value)) _ _ refl refl
 silent config (ReadingFrameWord number more entry address bytes read words) value is = if_silent (words == 0) _ _ refl refl
 silent config _ value is = refl
 
@@ -129,10 +130,10 @@ goes config (WritingState state) value = inl refl
 goes config Refusing value = inl refl
 goes config NotInRun value = inl refl
 goes config (ReadingUsedIndex pending freed) value =
-    if_goes (ReadingUsedIndex pending freed) (nat_le (returned_by freed value) (pending.number - freed)) _ _
+    if_goes (ReadingUsedIndex pending freed) (is_used_index (freed % 65536) (high_half value) (pending.number - freed)) _ _
     (ids_goes config (ReadingUsedIndex pending freed) pending freed (returned_by freed value) refl refl) (inl refl)
 goes config (ReadingUsedId pending freed more) value =
-    if_goes (ReadingUsedId pending freed more) (value == descriptor_of config freed) _ _ (ids_goes config (ReadingUsedId pending freed more) pending (freed + 1) more refl refl) (inl refl)
+    if_goes (ReadingUsedId pending freed more) (is_used_id (descriptor_of config freed) value) _ _ (ids_goes config (ReadingUsedId pending freed more) pending (freed + 1) more refl refl) (inl refl)
 goes config (WritingFrameWord pending at more) value = inr (fill_frame pending (at + 1) more, refl)
 goes config (WritingDescAddressLow pending) value = inr (refl, refl)
 goes config (WritingDescAddressHigh pending) value = inr (refl, refl)
@@ -143,16 +144,16 @@ goes config (WritingAvailIndex pending) value = inl (tell_none config pending.nu
 goes config (ReadingAvailEvent number) value = if_goes (ReadingAvailEvent number) (wants_doorbell (low_half value) number) _ _ (inl refl) (inl refl)
 goes config RingingOffer value = inl refl
 goes config (ReadingAvailIndex taken last) value =
-    if_goes (ReadingAvailIndex taken last) (nat_le (published_by taken value) (size_of config.sizes)) _ _
+    if_goes (ReadingAvailIndex taken last) (is_avail_index config.sizes (taken % 65536) (high_half value)) _ _
     (if_goes (ReadingAvailIndex taken last) (published_by taken value == 0) _ _ (inl (none_none taken last)) (inl (items_none taken (published_by taken value)))) (inl refl)
 goes config (WritingAvailEvent taken) value = inl refl
-goes config (ReadingAvailEntry number more) value = if_goes (ReadingAvailEntry number more) (is_entry config.sizes (entry_in config number value)) _ _ (inl refl) (inl refl)
+goes config (ReadingAvailEntry number more) value = if_goes (ReadingAvailEntry number more) (is_avail_entry config.sizes (entry_in config number value)) _ _ (inl refl) (inl refl)
 goes config (ReadingDescAddressLow number more entry) value = inl refl
-goes config (ReadingDescAddressHigh number more entry low) value = if_goes (ReadingDescAddressHigh number more entry low) (is_address config.sizes (address_of low value)) _ _ (inl refl) (inl refl)
+goes config (ReadingDescAddressHigh number more entry low) value = if_goes (ReadingDescAddressHigh number more entry low) (is_desc_address config.sizes (address_of low value)) _ _ (inl refl) (inl refl)
 goes config (ReadingDescLength number more entry address) value =
-    if_goes (ReadingDescLength number more entry address) (is_length config.sizes address value) _ _ (inl refl) (inl refl)
+    if_goes (ReadingDescLength number more entry address) (is_desc_length config.sizes address value) _ _ (inl refl) (inl refl)
 goes config (ReadingDescFlags number more entry address bytes) value =
-    if_goes (ReadingDescFlags number more entry address bytes) (low_half value == 0) _ _ (inl (words_none number more entry address bytes [] (words_for bytes))) (inl refl)
+    if_goes (ReadingDescFlags number more entry address bytes) (is_desc_flags (desc_flags value)) _ _ (inl (words_none number more entry address bytes [] (words_for bytes))) (inl refl)
 goes config (ReadingFrameWord number more entry address bytes read words) value = inl (words_none number more entry address bytes (read ++ value ∷ []) words)
 goes config (WritingUsedId number more entry) value = inl refl
 goes config (WritingUsedLength number more) value = inl refl

@@ -3,6 +3,7 @@ use Rattle.std.proofs.Common.{◌≡◌, ◌≢◌, ℕ, zero, suc, ◌<◌, ◌
 use Rattle.std.specs.Prelude.{◌==◌, if◌then◌else◌, Some, slice_get, slice_set, All}
 use Rattle.std.proofs.lemmas.Bool.{eqb-false}
 use Rattle.std.proofs.lemmas.List.{length-set}
+use Rattle.split_ring.specs.declared.sizes.TheConstants.{SHORTEST_FRAME}
 use Rattle.link_invariant.specs.LinkConfig.{IsOffered}
 use Rattle.line_format.specs.Rows.{text_of}
 use Rattle.bridge_text.specs.declared.scripts.Sent.{Sent}
@@ -147,7 +148,7 @@ own_told sent ports w old new at frame there below told refines =
 
 -- A frame that arrives is one that was offered.
 pub told_long : (sent : List Sent) (ports : ℕ) (w : World) (run : Run) (at : ℕ) (frame : List ℕ) → IsThere sent ports w run → at < ports →
-    observed_by 1 (w.links at) ≡ delivered_if true frame → 14 ≤ length frame
+    observed_by 1 (w.links at) ≡ delivered_if true frame → SHORTEST_FRAME ≤ length frame
 told_long sent ports w run at frame there below told =
     let all : All (IsOffered link_config) (observed_by 1 (w.links at)) = told_offered (frames_of at sent) (forward w.arrivals at) (w.links at) (there.going.links at below) in
     let one : All (IsOffered link_config) (frame ∷ []) = subst (All (IsOffered link_config)) told all in

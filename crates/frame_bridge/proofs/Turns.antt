@@ -6,8 +6,8 @@ use Rattle.std.proofs.lemmas.List.Elements.{recursion_from_All}
 use Rattle.split_ring.specs.declared.steps.Access.{Access}
 use Rattle.split_ring.specs.declared.steps.Note.{Note}
 use Rattle.split_ring.specs.declared.steps.Note.TheVariants as note
-use Rattle.split_ring.specs.Layout.{size_of, limit_of}
-use Rattle.split_ring.specs.Spelling.{low_half}
+use Rattle.split_ring.specs.Layout.{limit_of}
+use Rattle.split_ring.specs.Spelling.{low_half, high_half, desc_flags}
 use Rattle.link_handshake.specs.declared.Move.{Move}
 use Rattle.link_handshake.specs.declared.Move.TheVariants.{Stay, Set, ClearThenSet}
 use Rattle.link_handshake.specs.HandshakeState.{move_of}
@@ -17,7 +17,7 @@ use Rattle.call_grammar.specs.Words.{address_of}
 use Rattle.call_grammar.specs.Calls.{EndConfig, in_run}
 use Rattle.call_grammar.specs.Ticks.{tick_marks}
 use Rattle.call_grammar.specs.Offers.{frame_fits, descriptor_of, wants_doorbell, returned_by}
-use Rattle.call_grammar.specs.Polls.{is_entry, is_address, is_length, entry_in, published_by}
+use Rattle.call_grammar.specs.Polls.{entry_in, published_by}
 use Rattle.call_grammar.specs.Places.{Place, ReadingOtherState, ReadingUsedIndex, ReadingUsedId, ReadingAvailEvent, ReadingAvailIndex, ReadingAvailEntry, ReadingDescAddressHigh, ReadingDescLength, ReadingDescFlags, ReadingFrameWord, access_at, marks_at, next_place, step_at, is_open}
 use Rattle.call_grammar.specs.Automatic.{Choice, ChoosesTick, ChoosesOffer, ChoosesPoll, IsFinished}
 use Rattle.link_invariant.specs.LinkConfig.{config_of, IsOffered}
@@ -28,6 +28,7 @@ use Rattle.link_endpoint.specs.declared.auto.Choice as answers
 use Rattle.link_endpoint.specs.declared.auto.Choice.TheVariants as answer
 use Rattle.link_endpoint.specs.declared.auto_endpoint.AutoEndpoint.{AutoEndpoint}
 use Rattle.section_map.specs.Geometry.{Words}
+use Rattle.split_ring.specs.Ranges.{is_avail_entry, is_desc_address, is_desc_length, is_avail_index, is_desc_flags, is_used_index, is_used_id}
 use Rattle.frame_bridge.specs.Links.{link_config, AutoEnd, Link, choice, with_choice, opened, stepped, value_in, words_after, step_of_link, turned, observed_by}
 use Rattle.frame_bridge.specs.Refinement.{IsPlanOf, AutoEndRefines, RegionRefines, is_delivery, delivered_if}
 use Rattle.frame_bridge.proofs.Keeping.{put_here}
@@ -68,22 +69,22 @@ at_most_one : (config : EndConfig) (place : Place) (value : ℕ) → IsOne (mark
 at_most_one config (ReadingOtherState handshake) value = nothing (tick_marks value (move_of handshake value)) (tick_none value (move_of handshake value))
 at_most_one config (ReadingUsedIndex pending freed) value =
     nothing (marks_at config (ReadingUsedIndex pending freed) value)
-    (if_none (nat_le (returned_by freed value) (pending.number - freed)) _ _
+    (if_none (is_used_index (freed % 65536) (high_half value) (pending.number - freed)) _ _
     (if_none (returned_by freed value == 0) _ _ (if_none (frame_fits config pending freed) _ _ refl refl) refl) refl)
 at_most_one config (ReadingUsedId pending freed more) value =
     nothing (marks_at config (ReadingUsedId pending freed more) value)
-    (if_none (value == descriptor_of config freed) _ _ (if_none (more == 0) _ _ (if_none (frame_fits config pending (freed + 1)) _ _ refl refl) refl) refl)
+    (if_none (is_used_id (descriptor_of config freed) value) _ _ (if_none (more == 0) _ _ (if_none (frame_fits config pending (freed + 1)) _ _ refl refl) refl) refl)
 at_most_one config (ReadingAvailEvent number) value = nothing (marks_at config (ReadingAvailEvent number) value) (if_none (wants_doorbell (low_half value) number) _ _ refl refl)
 at_most_one config (ReadingAvailIndex taken last) value =
     nothing (marks_at config (ReadingAvailIndex taken last) value)
-    (if_none (nat_le (published_by taken value) (size_of config.sizes)) _ _ (if_none (published_by taken value == 0) _ _ (if_none last _ _ refl refl) refl) refl)
-at_most_one config (ReadingAvailEntry number more) value = nothing (marks_at config (ReadingAvailEntry number more) value) (if_none (is_entry config.sizes (entry_in config number value)) _ _ refl refl)
+    (if_none (is_avail_index config.sizes (taken % 65536) (high_half value)) _ _ (if_none (published_by taken value == 0) _ _ (if_none last _ _ refl refl) refl) refl)
+at_most_one config (ReadingAvailEntry number more) value = nothing (marks_at config (ReadingAvailEntry number more) value) (if_none (is_avail_entry config.sizes (entry_in config number value)) _ _ refl refl)
 at_most_one config (ReadingDescAddressHigh number more entry low) value =
-    nothing (marks_at config (ReadingDescAddressHigh number more entry low) value) (if_none (is_address config.sizes (address_of low value)) _ _ refl refl)
+    nothing (marks_at config (ReadingDescAddressHigh number more entry low) value) (if_none (is_desc_address config.sizes (address_of low value)) _ _ refl refl)
 at_most_one config (ReadingDescLength number more entry address) value =
-    nothing (marks_at config (ReadingDescLength number more entry address) value) (if_none (is_length config.sizes address value) _ _ refl refl)
+    nothing (marks_at config (ReadingDescLength number more entry address) value) (if_none (is_desc_length config.sizes address value) _ _ refl refl)
 at_most_one config (ReadingDescFlags number more entry address bytes) value =
-    nothing (marks_at config (ReadingDescFlags number more entry address bytes) value) (if_none (low_half value == 0) _ _ refl refl)
+    nothing (marks_at config (ReadingDescFlags number more entry address bytes) value) (if_none (is_desc_flags (desc_flags value)) _ _ refl refl)
 at_most_one config (ReadingFrameWord number more entry address bytes read words) value = word_one (words == 0) _
 at_most_one config place value = nothing (marks_at config place value) refl
 

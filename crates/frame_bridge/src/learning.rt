@@ -1,5 +1,6 @@
 //! What a bridge learns from the frames that arrive, and the ports to which it forwards them.
 ghost use Rattle.std.specs.Prelude.{◌≡◌, ℕ, List, ◌+◌, ◌<◌, ◌≤◌, ◌++◌, ◌∷◌, [], length, take, drop, filter, IfOk, OnErr, OnOk};
+ghost use Rattle.split_ring.specs.declared.sizes.TheConstants.{SHORTEST_FRAME};
 ghost use Rattle.frame_bridge.specs.Forwarding.{Arrival, is_group, source, destination, goes_to, port_of, known_count, ports_for, is_forwarded, first_ports};
 ghost use Rattle.frame_bridge.specs.BridgeView.{RefinesArrivals, arrival};
 
@@ -77,7 +78,7 @@ impl Bridge {
     //    changes.
     pub fn arrive(&mut self, port: u32, frame: &[u8]) -> Result<ArrayVec<u32, 8>, NoMemory>
         requires port { port < self.old.ports }
-        requires frame { 14 ≤ length frame.now }
+        requires frame { SHORTEST_FRAME ≤ length frame.now }
         ensures ports { (earlier : List Arrival) → RefinesArrivals self.old earlier →
             IfOk result (λ ports. ports.items ≡ ports_for self.old.ports earlier (arrival port frame.now)) }
         ensures refines { (earlier : List Arrival) → RefinesArrivals self.old earlier →

@@ -1,6 +1,7 @@
 //! The run of a bridge: the turns of its ports, and the frames that arrive.
 ghost use Rattle.std.specs.Prelude.{◌≡◌, ℕ, List, ◌++◌, ◌∷◌, [], ◌<◌, ◌≤◌, length, IfOk, OnOk, Some, slice_get};
 ghost use Rattle.std.specs.List.{flat_map};
+ghost use Rattle.split_ring.specs.declared.sizes.TheConstants.{SHORTEST_FRAME};
 ghost use Rattle.bridge_text.specs.declared.scripts.Sent.{Sent as SentFrame};
 ghost use Rattle.link_endpoint.specs.Engine.{delivered};
 ghost use Rattle.frame_bridge.specs.declared.ports.Port.{Port as HeldPort};
@@ -40,7 +41,7 @@ impl Run {
     /// the frame's line and copies the frame to each port to which it is forwarded.
     fn arrive(&mut self, alloc: Global, from: usize) -> Result<(), NoMemory>
         requires refines { (w : World) × (ports : ℕ) × RunRefines ports w self.old × (from < ports) × (ports ≤ 8) }
-        requires frame { (port : HeldPort) → slice_get self.old.ports.items from ≡ Some port → 14 ≤ length (delivered port.own.end) }
+        requires frame { (port : HeldPort) → slice_get self.old.ports.items from ≡ Some port → SHORTEST_FRAME ≤ length (delivered port.own.end) }
         ensures { (w : World) (ports : ℕ) (port : HeldPort) → RunRefines ports w self.old → slice_get self.old.ports.items from ≡ Some port →
             OnOk result (RunRefines ports (with_arrival w from (delivered port.own.end)) self.new) }
     {

@@ -1,4 +1,5 @@
 use Rattle.std.proofs.Common.{◌≡◌, ◌<◌, ◌≤◌, true, false, length, refl, arith, ap, sym, subst, ◌∙◌}
+use Rattle.split_ring.specs.declared.sizes.TheConstants.{SHORTEST_FRAME}
 use Rattle.link_endpoint.specs.Engine.{delivered}
 use Rattle.frame_bridge.specs.declared.ports.Port.{Port}
 use Rattle.frame_bridge.specs.Forwarding.{forward}
@@ -51,7 +52,7 @@ arrive-requires-clause-frame c = λ port is.
     let told : observed_by 1 (w.links c.args.port) ≡ delivered_if true (delivered c.own_turn.new.self.own.end) =
     c.own_turn.ensures.told (w.links c.args.port) (forward w.arrivals c.args.port) (port_in sent ports w c.args.self.now c.args.port c.index_mut-here.result.now there here) ∙
     ap (λ b. delivered_if b (delivered c.own_turn.new.self.own.end)) c.if-own_turn.true in
-    subst (λ (p : Port). 14 ≤ length (delivered p.own.end)) port_is
+    subst (λ (p : Port). SHORTEST_FRAME ≤ length (delivered p.own.end)) port_is
     (told_long sent ports w c.args.self.now c.args.port (delivered c.own_turn.new.self.own.end) there c.requires.4 told)
 
 pub returns-in_ok-arrive : goal.returns-in_ok-arrive

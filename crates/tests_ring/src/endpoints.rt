@@ -1,6 +1,7 @@
-//! Whole calls of an end, and the choices of an automatic end.
+//! Whole calls of an end, act by act, and the choices of an automatic end.
 ghost use Rattle.std.specs.Prelude.{◌≡◌, ◌≤◌, false, IfOk};
 ghost use Rattle.link_endpoint.specs.Engine.{is_busy};
+ghost use Rattle.split_ring.specs.Layout.{IsVersion};
 
 use ivs_base::Frame;
 use link_endpoint::laws::bursts_go_on;
@@ -21,77 +22,372 @@ const FRAME: [u8; 14] = [
     0xff, 0xff, 0xff, 0xff, 0xff, 0xff, 0x02, 0, 0, 0, 0, 0x01, 0x08, 0,
 ];
 
-/// Makes one step of the open call of peer `me` on these words: its access, the value that a read
-/// returns, and its notes.
+/// One act of an end, or what it shows.
+#[derive(Clone, Copy)]
+enum Act {
+    /// Makes a tick that reads the first value and sets the last. It clears the section that begins
+    /// at the word between them, if there is one.
+    Tick(u32, Option<u32>, u32),
+    /// Opens a call other than an offer.
+    Begin(Call),
+    /// Opens an offer of this frame.
+    Offer([u8; 14]),
+    /// Opens another offer of the frame of the worked examples.
+    OfferAgain,
+    /// Makes the next step: its access, the value that a read returns, and its notes.
+    Takes(Access, u32, &'static [Note]),
+    /// Makes writes at once: the first access, and the bytes of the words.
+    Writes(Access, &'static [u8]),
+    /// Makes reads at once: the first access, the bytes read, and the notes of the last read.
+    Reads(Access, &'static [u8], &'static [Note]),
+    /// Completes all the writes that may be made at once. There are this many.
+    WritesAll(u32),
+    /// Makes all writes of the open offer before its index at once: their words and their bytes.
+    AtOnce(Bursts, &'static [u8]),
+    /// Resets the end.
+    Reset,
+    /// Sets a word of the region to this value.
+    Puts(u32, u32),
+    /// Shows what the end is like.
+    Shows(Sight),
+}
+
+/// What an end shows.
+#[derive(Clone, Copy)]
+enum Sight {
+    /// No call is open.
+    Idle,
+    /// The end's phase.
+    At(Phase),
+    /// The frame delivered last.
+    Delivered(&'static [u8]),
+    /// The order of the next access.
+    Ordered(Ordering),
+    /// The number of writes that may be made at once.
+    Ahead(u32),
+    /// The writes of an offer can't be made at once.
+    NoBursts,
+    /// The value that the end refused.
+    HasRefused(Option<Refused>),
+}
+
+/// Makes an access of peer `me` on these words. Returns the value that a read returns, and 0 after
+/// another access.
+fn accessed(words: &mut [u32], me: usize, access: Access) -> Option<u32> {
+    match access {
+        Access::Read(word) => words.get(word as usize).copied(),
+        Access::Write(word, value) => set(words, word as usize, value),
+        Access::State(state) => set(words, me, state),
+        Access::Ring { .. } | Access::Nothing => Some(0),
+    }
+}
+
+/// Sets a word, if there is one at this place.
+fn set(words: &mut [u32], at: usize, value: u32) -> Option<u32> {
+    if at >= words.len() {
+        return None;
+    }
+    words[at] = value;
+    Some(0)
+}
+
+/// Makes one step of the open call of peer `me` on these words. Returns whether it has this access,
+/// this value if it is a read, and these notes.
+#[must_use]
 fn step(
-    rt: &impl Abort,
     words: &mut [u32],
     end: &mut Endpoint,
     me: usize,
     access: Access,
     value: u32,
     notes: &[Note],
-) {
-    assert!(rt; end.busy());
-    let next = end.next();
-    assert_eq!(rt; next, access);
-    let mut read = 0;
-    match next {
-        Access::Read(word) => {
-            assert!(rt; (word as usize) < words.len());
-            read = words[word as usize];
-        }
-        Access::Write(word, written) => {
-            assert!(rt; (word as usize) < words.len());
-            words[word as usize] = written;
-        }
-        Access::State(state) => {
-            assert!(rt; me < words.len());
-            words[me] = state;
-        }
-        Access::Ring { .. } | Access::Nothing => {}
+) -> bool {
+    if !end.busy() {
+        return false;
     }
-    assert_eq!(rt; read, value);
-    assert!(rt; end.took(read).as_slice() == notes);
+    if end.next() != access {
+        return false;
+    }
+    let Some(read) = accessed(words, me, access) else {
+        return false;
+    };
+    let made = end.took(read);
+    read == value && made.as_slice() == notes
 }
 
-/// Makes a tick that reads `value` and sets `state`. It clears the section that begins at word
-/// `clears`, if there is one.
+/// Makes a tick, as the act says.
+#[must_use]
 fn tick(
-    rt: &impl Abort,
     words: &mut [u32],
     end: &mut Endpoint,
     me: usize,
     value: u32,
     clears: Option<u32>,
     state: u32,
-) {
-    assert!(rt; me < 2);
-    assert!(rt; !end.busy());
+) -> bool {
+    if me >= 2 || end.busy() {
+        return false;
+    }
     end.begin(Call::Tick);
     let other = Access::Read(1 - me as u32);
-    step(rt, words, end, me, other, value, &[Note::Saw(value)]);
+    if !step(words, end, me, other, value, &[Note::Saw(value)]) {
+        return false;
+    }
     if let Some(first) = clears {
-        assert!(rt; first < 10_000);
-        for word in first..first + 4_096 {
-            step(rt, words, end, me, Access::Write(word, 0), 0, &[]);
+        for word in first..first.saturating_add(4_096) {
+            if !step(words, end, me, Access::Write(word, 0), 0, &[]) {
+                return false;
+            }
         }
     }
-    step(rt, words, end, me, Access::State(state), 0, &[Note::Over]);
-    assert!(rt; !end.busy());
+    let is_set = step(words, end, me, Access::State(state), 0, &[Note::Over]);
+    is_set && !end.busy()
 }
 
-/// Returns the end of peer `me` in the region of the worked examples: sections of 16,384 bytes, an
-/// MTU of 256, and vector 1.
-fn example(rt: &impl Abort, alloc: Global, me: u32) -> Result<Endpoint, Fail>
-    requires { me ≤ 1 }
+/// Makes writes of the open call at once, as the act says.
+#[must_use]
+fn writes(end: &mut Endpoint, access: Access, bytes: &[u8]) -> bool {
+    let mut room = [0xee; 16];
+    if bytes.is_empty() || bytes.len() > 16 {
+        return false;
+    }
+    let count = bytes.len() as u32 / 4;
+    if bytes.len() != 4 * count as usize {
+        return false;
+    }
+    if !end.busy() {
+        return false;
+    }
+    if end.next() != access {
+        return false;
+    }
+    if count > end.writes_ahead() {
+        return false;
+    }
+    let into = &mut room[..bytes.len()];
+    end.words(into);
+    let are_these = &*into == bytes;
+    end.took_writes(count);
+    are_these
+}
+
+/// Makes reads of the open call at once, as the act says.
+#[must_use]
+fn reads(end: &mut Endpoint, access: Access, bytes: &[u8], notes: &[Note]) -> bool {
+    if bytes.is_empty() || bytes.len() > 16 {
+        return false;
+    }
+    if !bytes.len().is_multiple_of(4) {
+        return false;
+    }
+    if !end.busy() {
+        return false;
+    }
+    if end.next() != access {
+        return false;
+    }
+    if bytes.len() > 4 * end.reads_ahead() as usize {
+        return false;
+    }
+    end.took_reads(bytes).as_slice() == notes
+}
+
+/// Completes all the writes that may be made at once, as the act says.
+#[must_use]
+fn writes_all(end: &mut Endpoint, count: u32) -> bool {
+    if count == 0 || end.writes_ahead() != count {
+        return false;
+    }
+    end.took_writes(count);
+    true
+}
+
+/// Makes all writes of the open offer before its index at once, as the act says.
+#[must_use]
+fn at_once(end: &mut Endpoint, told: Bursts, bytes: &[u8]) -> bool {
+    let mut room = [0xee; 36];
+    let Some(bursts) = end.bursts() else {
+        return false;
+    };
+    if bursts != told {
+        return false;
+    }
+    let frame = bursts.frame.count as usize;
+    let count = frame + bursts.descriptor.count as usize + bursts.entry.count as usize;
+    if count == 0 || count > 9 || bytes.len() != 4 * count {
+        return false;
+    }
+    let into = &mut room[..4 * count];
+    end.burst_words(into);
+    let are_these = &*into == bytes;
+    let mut tail = [0xee; 20];
+    end.tail_words(&mut tail);
+    let is_tail = bytes.ends_with(&tail);
+    end.took_bursts();
+    are_these && is_tail && end.bursts().is_none()
+}
+
+/// Returns the end of peer `me` in the region of the worked examples, in a link of this version:
+/// sections of 16,384 bytes, an MTU of 256, and vector 1.
+fn example(rt: &impl Abort, alloc: Global, version: u32, me: u32) -> Result<Endpoint, Fail>
+    requires version { IsVersion version }
+    requires peer { me ≤ 1 }
     ensures { IfOk result (λ e. is_busy e ≡ false) }
 {
     let geometry = Geometry::new(2, 4_096, 0, 16_384)?;
-    let queue = Queue::of(16_384, 256)?;
+    let queue = Queue::of_version(version, 16_384, 256)?;
     assert!(rt; queue.out() == 4 * geometry.out_words());
     Ok(Endpoint::new(alloc, me, &geometry, &queue, 1)?)
 }
+
+/// Opens an offer, of this frame or of the one offered last.
+#[must_use]
+fn offers(end: &mut Endpoint, frame: Option<[u8; 14]>) -> bool {
+    if end.busy() {
+        return false;
+    }
+    if let Some(frame) = frame {
+        end.offer(&frame);
+        return true;
+    }
+    if end.offered() != FRAME.as_slice() {
+        return false;
+    }
+    end.offer_again();
+    true
+}
+
+/// Opens a call other than an offer.
+#[must_use]
+fn begins(end: &mut Endpoint, call: Call) -> bool {
+    if end.busy() {
+        return false;
+    }
+    end.begin(call);
+    true
+}
+
+/// Whether the end shows this.
+#[must_use]
+fn shows(end: &Endpoint, sight: Sight) -> bool {
+    match sight {
+        Sight::Idle => !end.busy(),
+        Sight::At(phase) => end.phase() == phase,
+        Sight::Delivered(frame) => end.delivered() == frame,
+        Sight::Ordered(order) => end.busy() && end.order() == order,
+        Sight::Ahead(count) => end.writes_ahead() == count,
+        Sight::NoBursts => end.bursts().is_none(),
+        Sight::HasRefused(refused) => end.refused() == refused,
+    }
+}
+
+/// Makes an act of peer `me`. Returns whether all is as the act says.
+#[must_use]
+fn makes(words: &mut [u32], end: &mut Endpoint, me: usize, act: Act) -> bool {
+    match act {
+        Act::Tick(value, clears, state) => tick(words, end, me, value, clears, state),
+        Act::Begin(call) => begins(end, call),
+        Act::Offer(frame) => offers(end, Some(frame)),
+        Act::OfferAgain => offers(end, None),
+        Act::Takes(access, value, notes) => step(words, end, me, access, value, notes),
+        Act::Writes(access, bytes) => writes(end, access, bytes),
+        Act::Reads(access, bytes, notes) => reads(end, access, bytes, notes),
+        Act::WritesAll(count) => writes_all(end, count),
+        Act::AtOnce(bursts, bytes) => at_once(end, bursts, bytes),
+        Act::Reset => {
+            end.reset();
+            true
+        }
+        Act::Puts(word, value) => set(words, word as usize, value).is_some(),
+        Act::Shows(sight) => shows(end, sight),
+    }
+}
+
+/// Makes these acts of peers 0 and 1 of a new link of this version, each act with its peer.
+fn makes_all(
+    rt: &impl Abort,
+    alloc: Global,
+    version: u32,
+    acts: &[(usize, Act)],
+) -> Result<(), Fail>
+    requires { IsVersion version }
+{
+    let mut words = vec![in alloc; 0; WORDS]?;
+    let mut first = example(rt, alloc, version, 0)?;
+    let mut second = example(rt, alloc, version, 1)?;
+    let words = words.as_mut_slice();
+    for at in 0..acts.len() {
+        let (me, act) = acts[at];
+        let is_made = if me == 0 {
+            makes(words, &mut first, 0, act)
+        } else {
+            makes(words, &mut second, 1, act)
+        };
+        assert!(rt; is_made, "act {at}");
+    }
+    Ok(())
+}
+
+/// A doorbell to peer 1, and one to peer 0.
+const RING_1: Access = Access::Ring {
+    target: 1,
+    vector: 1,
+};
+
+const RING_0: Access = Access::Ring {
+    target: 0,
+    vector: 1,
+};
+
+/// A handshake, one frame of peer 0, and the poll of peer 1 that delivers it.
+const ONE_FRAME: [(usize, Act); 40] = [
+    (0, Act::Tick(0, None, 1)),
+    (1, Act::Tick(1, None, 1)),
+    (0, Act::Tick(1, Some(1_024), 2)),
+    (1, Act::Tick(2, Some(5_120), 2)),
+    (0, Act::Tick(2, None, 3)),
+    (1, Act::Tick(3, None, 3)),
+    (0, Act::Shows(Sight::At(Phase::Run))),
+    (1, Act::Shows(Sight::At(Phase::Run))),
+    (0, Act::Offer(FRAME)),
+    (0, Act::Takes(Access::Read(5_424), 0, &[Note::Reclaim(0)])),
+    (0, Act::Takes(Access::Write(1_472, 4_294_967_295), 0, &[])),
+    (0, Act::Takes(Access::Write(1_473, 196_607), 0, &[])),
+    (0, Act::Takes(Access::Write(1_474, 16_777_216), 0, &[])),
+    (0, Act::Takes(Access::Write(1_475, 8), 0, &[])),
+    (0, Act::Takes(Access::Write(1_024, 1_792), 0, &[])),
+    (0, Act::Takes(Access::Write(1_025, 0), 0, &[])),
+    (0, Act::Takes(Access::Write(1_026, 14), 0, &[])),
+    (0, Act::Takes(Access::Write(1_027, 0), 0, &[])),
+    (0, Act::Takes(Access::Write(1_281, 0), 0, &[])),
+    (
+        0,
+        Act::Takes(Access::Write(1_280, 65_536), 0, &[Note::Accept]),
+    ),
+    (0, Act::Takes(RING_1, 0, &[Note::Over])),
+    (0, Act::Shows(Sight::Idle)),
+    (1, Act::Shows(Sight::Delivered(&[]))),
+    (1, Act::Begin(Call::Poll)),
+    (1, Act::Takes(Access::Read(1_280), 65_536, &[Note::Look(1)])),
+    (1, Act::Takes(Access::Read(1_281), 0, &[])),
+    (1, Act::Takes(Access::Read(1_024), 1_792, &[])),
+    (1, Act::Takes(Access::Read(1_025), 0, &[])),
+    (1, Act::Takes(Access::Read(1_026), 14, &[])),
+    (1, Act::Takes(Access::Read(1_027), 0, &[])),
+    (1, Act::Takes(Access::Read(1_472), 4_294_967_295, &[])),
+    (1, Act::Takes(Access::Read(1_473), 196_607, &[])),
+    (1, Act::Takes(Access::Read(1_474), 16_777_216, &[])),
+    (1, Act::Takes(Access::Read(1_475), 8, &[Note::Deliver])),
+    (1, Act::Shows(Sight::Delivered(&FRAME))),
+    (1, Act::Takes(Access::Write(5_425, 0), 0, &[])),
+    (1, Act::Takes(Access::Write(5_426, 1), 0, &[])),
+    (
+        1,
+        Act::Takes(Access::Write(5_424, 65_536), 0, &[Note::Return]),
+    ),
+    (1, Act::Takes(RING_0, 0, &[Note::Done])),
+    (1, Act::Shows(Sight::Idle)),
+];
 
 // claim link_endpoint.Endpoint.new.value
 // claim link_endpoint.Endpoint.next.access
@@ -100,175 +396,70 @@ fn example(rt: &impl Abort, alloc: Global, me: u32) -> Result<Endpoint, Fail>
 // claim link_endpoint.Endpoint.phase.value
 #[test]
 fn handshake_and_one_frame(rt: HostRuntime) -> Result<(), Fail> {
-    let mut words = vec![in rt.alloc(); 0; WORDS]?;
-    let mut first = example(&rt, rt.alloc(), 0)?;
-    let mut second = example(&rt, rt.alloc(), 1)?;
-    let words = words.as_mut_slice();
-    tick(&rt, words, &mut first, 0, 0, None, 1);
-    tick(&rt, words, &mut second, 1, 1, None, 1);
-    tick(&rt, words, &mut first, 0, 1, Some(1_024), 2);
-    tick(&rt, words, &mut second, 1, 2, Some(5_120), 2);
-    tick(&rt, words, &mut first, 0, 2, None, 3);
-    tick(&rt, words, &mut second, 1, 3, None, 3);
-    assert!(rt; first.phase() == Phase::Run);
-    assert!(rt; second.phase() == Phase::Run);
+    makes_all(&rt, rt.alloc(), 1, &ONE_FRAME)
+}
 
-    assert!(rt; !first.busy());
-    first.offer(&FRAME);
-    step(
-        &rt,
-        words,
-        &mut first,
-        0,
-        Access::Read(5_424),
-        0,
-        &[Note::Reclaim(0)],
-    );
-    for (word, value) in [
-        (1_472, 4_294_967_295),
-        (1_473, 196_607),
-        (1_474, 16_777_216),
-        (1_475, 8),
-        (1_024, 1_792),
-        (1_025, 0),
-        (1_026, 14),
-        (1_027, 0),
-        (1_281, 0),
-    ] {
-        step(
-            &rt,
-            words,
-            &mut first,
-            0,
-            Access::Write(word, value),
-            0,
-            &[],
-        );
-    }
-    step(
-        &rt,
-        words,
-        &mut first,
-        0,
-        Access::Write(1_280, 65_536),
-        0,
-        &[Note::Accept],
-    );
-    let ring = Access::Ring {
-        target: 1,
-        vector: 1,
-    };
-    step(&rt, words, &mut first, 0, ring, 0, &[Note::Over]);
-    assert!(rt; !first.busy());
+/// The order of an event index that is written, and that of one that is read.
+const EVENT_WRITTEN: Ordering = Ordering {
+    order: Order::Relaxed,
+    fence_before: false,
+    fence_after: true,
+};
 
-    assert!(rt; !second.busy());
-    assert!(rt; second.delivered().is_empty());
-    second.begin(Call::Poll);
-    step(
-        &rt,
-        words,
-        &mut second,
+const EVENT_READ: Ordering = Ordering {
+    order: Order::Relaxed,
+    fence_before: true,
+    fence_after: false,
+};
+
+/// Peer 1 polls twice before the first frame, and peer 0 sends two frames.
+const ASKED_DOORBELL: [(usize, Act); 30] = [
+    (0, Act::Tick(0, None, 1)),
+    (1, Act::Tick(1, None, 1)),
+    (0, Act::Tick(1, Some(1_024), 2)),
+    (1, Act::Tick(2, Some(5_120), 2)),
+    (0, Act::Tick(2, None, 3)),
+    (1, Act::Tick(3, None, 3)),
+    // The poll finds nothing, writes its event index, and looks again.
+    (1, Act::Begin(Call::Poll)),
+    (1, Act::Takes(Access::Read(1_280), 0, &[Note::Look(0)])),
+    (1, Act::Shows(Sight::Ordered(EVENT_WRITTEN))),
+    (1, Act::Takes(Access::Write(5_553, 0), 0, &[])),
+    (
         1,
-        Access::Read(1_280),
-        65_536,
-        &[Note::Look(1)],
-    );
-    for (word, value) in [
-        (1_281, 0),
-        (1_024, 1_792),
-        (1_025, 0),
-        (1_026, 14),
-        (1_027, 0),
-        (1_472, 4_294_967_295),
-        (1_473, 196_607),
-        (1_474, 16_777_216),
-    ] {
-        step(&rt, words, &mut second, 1, Access::Read(word), value, &[]);
-    }
-    step(
-        &rt,
-        words,
-        &mut second,
+        Act::Takes(Access::Read(1_280), 0, &[Note::Look(0), Note::Done]),
+    ),
+    // The next poll finds the event index written.
+    (1, Act::Begin(Call::Poll)),
+    (
         1,
-        Access::Read(1_475),
-        8,
-        &[Note::Deliver],
-    );
-    assert!(rt; second.delivered() == FRAME.as_slice());
-    step(&rt, words, &mut second, 1, Access::Write(5_425, 0), 0, &[]);
-    step(&rt, words, &mut second, 1, Access::Write(5_426, 1), 0, &[]);
-    step(
-        &rt,
-        words,
-        &mut second,
-        1,
-        Access::Write(5_424, 65_536),
+        Act::Takes(Access::Read(1_280), 0, &[Note::Look(0), Note::Done]),
+    ),
+    // The doorbell of the first frame is wanted, and that of the second one isn't.
+    (0, Act::Offer(FRAME)),
+    (0, Act::Takes(Access::Read(5_424), 0, &[Note::Reclaim(0)])),
+    (0, Act::WritesAll(4)),
+    (0, Act::WritesAll(4)),
+    (0, Act::Takes(Access::Write(1_281, 0), 0, &[])),
+    (
         0,
-        &[Note::Return],
-    );
-    let ring = Access::Ring {
-        target: 0,
-        vector: 1,
-    };
-    step(&rt, words, &mut second, 1, ring, 0, &[Note::Done]);
-    assert!(rt; !second.busy());
-    Ok(())
-}
-
-/// Makes writes of the open call at once: the first access, and the bytes of the words.
-fn writes(rt: &impl Abort, end: &mut Endpoint, access: Access, bytes: &[u8]) {
-    let mut room = [0xee; 16];
-    assert!(rt; end.busy());
-    assert_eq!(rt; end.next(), access);
-    assert!(rt; !bytes.is_empty() && bytes.len() <= 16);
-    let count = bytes.len() as u32 / 4;
-    assert!(rt; bytes.len() == 4 * count as usize);
-    assert!(rt; count <= end.writes_ahead());
-    let into = &mut room[..bytes.len()];
-    end.words(into);
-    assert!(rt; &*into == bytes);
-    end.took_writes(count);
-}
-
-/// Makes reads of the open call at once: the first access, the bytes read, and the notes of the
-/// last read.
-fn reads(rt: &impl Abort, end: &mut Endpoint, access: Access, bytes: &[u8], notes: &[Note]) {
-    assert!(rt; end.busy());
-    assert_eq!(rt; end.next(), access);
-    assert!(rt; !bytes.is_empty() && bytes.len() <= 16);
-    assert!(rt; bytes.len().is_multiple_of(4));
-    assert!(rt; bytes.len() <= 4 * end.reads_ahead() as usize);
-    assert!(rt; end.took_reads(bytes).as_slice() == notes);
-}
-
-/// Returns this order, with or without a fence after the access.
-fn order_of(order: Order, fence_after: bool) -> Ordering {
-    Ordering {
-        order,
-        fence_before: false,
-        fence_after,
-    }
-}
-
-/// Returns the same end in a link with events.
-fn with_events(rt: &impl Abort, alloc: Global, me: u32) -> Result<Endpoint, Fail>
-    requires { me ≤ 1 }
-    ensures { IfOk result (λ e. is_busy e ≡ false) }
-{
-    let geometry = Geometry::new(2, 4_096, 0, 16_384)?;
-    let queue = Queue::of_version(2, 16_384, 256)?;
-    assert!(rt; queue.out() == 4 * geometry.out_words());
-    Ok(Endpoint::new(alloc, me, &geometry, &queue, 1)?)
-}
-
-/// Returns the relaxed order, with or without a fence before and after the access.
-fn fenced(fence_before: bool, fence_after: bool) -> Ordering {
-    Ordering {
-        order: Order::Relaxed,
-        fence_before,
-        fence_after,
-    }
-}
+        Act::Takes(Access::Write(1_280, 65_536), 0, &[Note::Accept]),
+    ),
+    (0, Act::Shows(Sight::Ordered(EVENT_READ))),
+    (0, Act::Takes(Access::Read(5_553), 0, &[])),
+    (0, Act::Takes(RING_1, 0, &[Note::Over])),
+    (0, Act::OfferAgain),
+    (0, Act::Takes(Access::Read(5_424), 0, &[Note::Reclaim(0)])),
+    (0, Act::WritesAll(4)),
+    (0, Act::WritesAll(4)),
+    (0, Act::Takes(Access::Write(1_281, 65_536), 0, &[])),
+    (
+        0,
+        Act::Takes(Access::Write(1_280, 131_072), 0, &[Note::Accept]),
+    ),
+    (0, Act::Takes(Access::Read(5_553), 0, &[Note::Over])),
+    (0, Act::Shows(Sight::Idle)),
+];
 
 // claim tx_engine.Tx.next.access
 // claim rx_engine.Rx.begin.refines
@@ -276,296 +467,239 @@ fn fenced(fence_before: bool, fence_after: bool) -> Ordering {
 // claim link_endpoint.Endpoint.offer.frame
 #[test]
 fn an_asked_doorbell(rt: HostRuntime) -> Result<(), Fail> {
-    let mut words = vec![in rt.alloc(); 0; WORDS]?;
-    let mut first = with_events(&rt, rt.alloc(), 0)?;
-    let mut second = with_events(&rt, rt.alloc(), 1)?;
-    let words = words.as_mut_slice();
-    tick(&rt, words, &mut first, 0, 0, None, 1);
-    tick(&rt, words, &mut second, 1, 1, None, 1);
-    tick(&rt, words, &mut first, 0, 1, Some(1_024), 2);
-    tick(&rt, words, &mut second, 1, 2, Some(5_120), 2);
-    tick(&rt, words, &mut first, 0, 2, None, 3);
-    tick(&rt, words, &mut second, 1, 3, None, 3);
-    let index = Access::Read(1_280);
-    let quiet = [Note::Look(0), Note::Done];
-
-    // The poll finds nothing, writes its event index, and looks again.
-    assert!(rt; !second.busy());
-    second.begin(Call::Poll);
-    let none = [Note::Look(0)];
-    step(&rt, words, &mut second, 1, index, 0, &none);
-    assert!(rt; second.busy());
-    assert_eq!(rt; second.order(), fenced(false, true));
-    step(&rt, words, &mut second, 1, Access::Write(5_553, 0), 0, &[]);
-    step(&rt, words, &mut second, 1, index, 0, &quiet);
-    // The next poll finds the event index written.
-    assert!(rt; !second.busy());
-    second.begin(Call::Poll);
-    step(&rt, words, &mut second, 1, index, 0, &quiet);
-
-    // The doorbell of the first frame is wanted, and that of the second one isn't.
-    assert!(rt; !first.busy());
-    first.offer(&FRAME);
-    let found = [Note::Reclaim(0)];
-    step(&rt, words, &mut first, 0, Access::Read(5_424), 0, &found);
-    assert!(rt; first.writes_ahead() == 4);
-    first.took_writes(4);
-    assert!(rt; first.writes_ahead() == 4);
-    first.took_writes(4);
-    step(&rt, words, &mut first, 0, Access::Write(1_281, 0), 0, &[]);
-    let published = Access::Write(1_280, 65_536);
-    step(&rt, words, &mut first, 0, published, 0, &[Note::Accept]);
-    assert!(rt; first.busy());
-    assert_eq!(rt; first.order(), fenced(true, false));
-    step(&rt, words, &mut first, 0, Access::Read(5_553), 0, &[]);
-    let ring = Access::Ring {
-        target: 1,
-        vector: 1,
-    };
-    step(&rt, words, &mut first, 0, ring, 0, &[Note::Over]);
-    assert!(rt; !first.busy());
-    assert!(rt; first.offered() == FRAME.as_slice());
-    first.offer_again();
-    step(&rt, words, &mut first, 0, Access::Read(5_424), 0, &found);
-    assert!(rt; first.writes_ahead() == 4);
-    first.took_writes(4);
-    assert!(rt; first.writes_ahead() == 4);
-    first.took_writes(4);
-    let entry = Access::Write(1_281, 65_536);
-    step(&rt, words, &mut first, 0, entry, 0, &[]);
-    let published = Access::Write(1_280, 131_072);
-    step(&rt, words, &mut first, 0, published, 0, &[Note::Accept]);
-    step(
-        &rt,
-        words,
-        &mut first,
-        0,
-        Access::Read(5_553),
-        0,
-        &[Note::Over],
-    );
-    assert!(rt; !first.busy());
-    Ok(())
+    makes_all(&rt, rt.alloc(), 2, &ASKED_DOORBELL)
 }
+
+/// The order of a State, with its fence, and those of other words.
+const STATE_WRITTEN: Ordering = Ordering {
+    order: Order::Release,
+    fence_before: false,
+    fence_after: true,
+};
+
+const RELAXED: Ordering = Ordering {
+    order: Order::Relaxed,
+    fence_before: false,
+    fence_after: false,
+};
+
+const ACQUIRE: Ordering = Ordering {
+    order: Order::Acquire,
+    fence_before: false,
+    fence_after: false,
+};
+
+const RELEASE: Ordering = Ordering {
+    order: Order::Release,
+    fence_before: false,
+    fence_after: false,
+};
+
+/// The frame in whole words.
+const FRAME_WORDS: [u8; 16] = [
+    0xff, 0xff, 0xff, 0xff, 0xff, 0xff, 0x02, 0, 0, 0, 0, 0x01, 0x08, 0, 0, 0,
+];
+
+/// Its words after the first one.
+const LATER_WORDS: [u8; 12] = [0xff, 0xff, 0x02, 0, 0, 0, 0, 0x01, 0x08, 0, 0, 0];
+
+/// One frame of peer 0, with its accesses made at once as far as they may be.
+const AT_ONCE: [(usize, Act); 36] = [
+    (0, Act::Tick(0, None, 1)),
+    (1, Act::Tick(1, None, 1)),
+    (0, Act::Tick(1, Some(1_024), 2)),
+    (1, Act::Begin(Call::Tick)),
+    (1, Act::Takes(Access::Read(0), 2, &[Note::Saw(2)])),
+    (1, Act::Shows(Sight::Ahead(4_096))),
+    (1, Act::Writes(Access::Write(5_120, 0), &[0; 16])),
+    (1, Act::WritesAll(4_092)),
+    (1, Act::Shows(Sight::Ordered(STATE_WRITTEN))),
+    (1, Act::Takes(Access::State(2), 0, &[Note::Over])),
+    (0, Act::Tick(2, None, 3)),
+    (1, Act::Tick(3, None, 3)),
+    (0, Act::Offer(FRAME)),
+    (0, Act::Takes(Access::Read(5_424), 0, &[Note::Reclaim(0)])),
+    (0, Act::Shows(Sight::Ordered(RELAXED))),
+    (
+        0,
+        Act::Writes(Access::Write(1_472, 4_294_967_295), &FRAME_WORDS),
+    ),
+    (
+        0,
+        Act::Writes(
+            Access::Write(1_024, 1_792),
+            &[0, 7, 0, 0, 0, 0, 0, 0, 14, 0, 0, 0, 0, 0, 0, 0],
+        ),
+    ),
+    (0, Act::Takes(Access::Write(1_281, 0), 0, &[])),
+    (0, Act::Shows(Sight::Ordered(RELEASE))),
+    (
+        0,
+        Act::Takes(Access::Write(1_280, 65_536), 0, &[Note::Accept]),
+    ),
+    (1, Act::Begin(Call::Poll)),
+    (1, Act::Shows(Sight::Ordered(ACQUIRE))),
+    (1, Act::Takes(Access::Read(1_280), 65_536, &[Note::Look(1)])),
+    (1, Act::Shows(Sight::Ordered(RELAXED))),
+    // the copies above were written to no memory
+    (1, Act::Puts(1_024, 1_792)),
+    (1, Act::Puts(1_026, 14)),
+    (1, Act::Takes(Access::Read(1_281), 0, &[])),
+    (1, Act::Takes(Access::Read(1_024), 1_792, &[])),
+    (1, Act::Takes(Access::Read(1_025), 0, &[])),
+    (1, Act::Takes(Access::Read(1_026), 14, &[])),
+    (1, Act::Takes(Access::Read(1_027), 0, &[])),
+    (1, Act::Reads(Access::Read(1_472), &[0xff; 4], &[])),
+    (
+        1,
+        Act::Reads(Access::Read(1_473), &LATER_WORDS, &[Note::Deliver]),
+    ),
+    (1, Act::Shows(Sight::Delivered(&FRAME))),
+    (
+        1,
+        Act::Writes(Access::Write(5_425, 0), &[0, 0, 0, 0, 1, 0, 0, 0]),
+    ),
+    (
+        1,
+        Act::Takes(Access::Write(5_424, 65_536), 0, &[Note::Return]),
+    ),
+];
 
 // claim link_endpoint.Endpoint.took_reads.steps
 // claim link_endpoint.Endpoint.order
 #[test]
 fn one_frame_at_once(rt: HostRuntime) -> Result<(), Fail> {
-    let mut words = vec![in rt.alloc(); 0; WORDS]?;
-    let mut first = example(&rt, rt.alloc(), 0)?;
-    let mut second = example(&rt, rt.alloc(), 1)?;
-    let words = words.as_mut_slice();
-    tick(&rt, words, &mut first, 0, 0, None, 1);
-    tick(&rt, words, &mut second, 1, 1, None, 1);
-    tick(&rt, words, &mut first, 0, 1, Some(1_024), 2);
-    assert!(rt; !second.busy());
-    second.begin(Call::Tick);
-    let saw = [Note::Saw(2)];
-    step(&rt, words, &mut second, 1, Access::Read(0), 2, &saw);
-    assert!(rt; second.writes_ahead() == 4_096);
-    writes(&rt, &mut second, Access::Write(5_120, 0), &[0; 16]);
-    assert!(rt; second.writes_ahead() == 4_092);
-    second.took_writes(4_092);
-    assert_eq!(rt; second.order(), order_of(Order::Release, true));
-    let state = Access::State(2);
-    step(&rt, words, &mut second, 1, state, 0, &[Note::Over]);
-    tick(&rt, words, &mut first, 0, 2, None, 3);
-    tick(&rt, words, &mut second, 1, 3, None, 3);
-
-    assert!(rt; !first.busy());
-    first.offer(&FRAME);
-    let found = [Note::Reclaim(0)];
-    step(&rt, words, &mut first, 0, Access::Read(5_424), 0, &found);
-    assert_eq!(rt; first.order(), order_of(Order::Relaxed, false));
-    let data = [
-        0xff, 0xff, 0xff, 0xff, 0xff, 0xff, 0x02, 0, 0, 0, 0, 0x01, 0x08, 0, 0, 0,
-    ];
-    let start = Access::Write(1_472, 4_294_967_295);
-    writes(&rt, &mut first, start, &data);
-    let descriptor = [0, 7, 0, 0, 0, 0, 0, 0, 14, 0, 0, 0, 0, 0, 0, 0];
-    let start = Access::Write(1_024, 1_792);
-    writes(&rt, &mut first, start, &descriptor);
-    step(&rt, words, &mut first, 0, Access::Write(1_281, 0), 0, &[]);
-    let index = Access::Write(1_280, 65_536);
-    assert_eq!(rt; first.order(), order_of(Order::Release, false));
-    step(&rt, words, &mut first, 0, index, 0, &[Note::Accept]);
-
-    assert!(rt; !second.busy());
-    second.begin(Call::Poll);
-    let index = Access::Read(1_280);
-    assert_eq!(rt; second.order(), order_of(Order::Acquire, false));
-    step(&rt, words, &mut second, 1, index, 65_536, &[Note::Look(1)]);
-    assert_eq!(rt; second.order(), order_of(Order::Relaxed, false));
-    // the copies above were written to no memory
-    assert!(rt; words.len() == WORDS);
-    words[1_024] = 1_792;
-    words[1_026] = 14;
-    for (word, value) in [
-        (1_281, 0),
-        (1_024, 1_792),
-        (1_025, 0),
-        (1_026, 14),
-        (1_027, 0),
-    ] {
-        step(&rt, words, &mut second, 1, Access::Read(word), value, &[]);
-    }
-    reads(&rt, &mut second, Access::Read(1_472), &data[..4], &[]);
-    let rest = &data[4..];
-    let delivers = [Note::Deliver];
-    reads(&rt, &mut second, Access::Read(1_473), rest, &delivers);
-    assert!(rt; second.delivered() == FRAME.as_slice());
-    let element = [0, 0, 0, 0, 1, 0, 0, 0];
-    writes(&rt, &mut second, Access::Write(5_425, 0), &element);
-    let index = Access::Write(5_424, 65_536);
-    step(&rt, words, &mut second, 1, index, 0, &[Note::Return]);
+    makes_all(&rt, rt.alloc(), 1, &AT_ONCE)?;
     bursts_go_on();
     Ok(())
 }
 
-/// Makes all writes of the open offer before its index at once: their words and their bytes.
-fn at_once(rt: &impl Abort, end: &mut Endpoint, told: Bursts, bytes: &[u8]) {
-    let mut room = [0xee; 36];
-    let Some(bursts) = end.bursts() else {
-        assert!(rt; false);
-        return;
-    };
-    assert_eq!(rt; bursts, told);
-    let frame = bursts.frame.count as usize;
-    let count = frame + bursts.descriptor.count as usize + bursts.entry.count as usize;
-    assert!(rt; 0 < count && count <= 9 && bytes.len() == 4 * count);
-    let into = &mut room[..4 * count];
-    end.burst_words(into);
-    assert!(rt; &*into == bytes);
-    let mut tail = [0xee; 20];
-    end.tail_words(&mut tail);
-    assert!(rt; bytes.ends_with(&tail));
-    end.took_bursts();
-    assert!(rt; end.bursts().is_none());
-}
+/// The bursts of the first frame after its first word, and those of the second frame.
+const FIRST_BURSTS: Bursts = Bursts {
+    frame: Burst {
+        word: 1_473,
+        count: 3,
+    },
+    descriptor: Burst {
+        word: 1_024,
+        count: 4,
+    },
+    entry: Burst {
+        word: 1_281,
+        count: 1,
+    },
+};
 
-/// Returns the bursts of a frame, its descriptor and its entry. `count` words of the frame are
-/// left.
-fn bursts_from(frame: u32, count: u32, descriptor: u32) -> Bursts {
-    Bursts {
-        frame: Burst { word: frame, count },
-        descriptor: Burst {
-            word: descriptor,
-            count: 4,
-        },
-        entry: Burst {
-            word: 1_281,
-            count: 1,
-        },
-    }
-}
+const SECOND_BURSTS: Bursts = Bursts {
+    frame: Burst {
+        word: 1_552,
+        count: 4,
+    },
+    descriptor: Burst {
+        word: 1_028,
+        count: 4,
+    },
+    entry: Burst {
+        word: 1_281,
+        count: 1,
+    },
+};
+
+/// Two frames, with the writes before each index made at once.
+const BEFORE_THE_INDEX: [(usize, Act); 16] = [
+    (0, Act::Tick(0, None, 1)),
+    (1, Act::Tick(1, None, 1)),
+    (0, Act::Tick(1, Some(1_024), 2)),
+    (1, Act::Tick(2, Some(5_120), 2)),
+    (0, Act::Tick(2, None, 3)),
+    // The first word of the frame is written by itself.
+    (0, Act::Offer(FRAME)),
+    (0, Act::Shows(Sight::NoBursts)),
+    (0, Act::Takes(Access::Read(5_424), 0, &[Note::Reclaim(0)])),
+    (0, Act::Takes(Access::Write(1_472, 4_294_967_295), 0, &[])),
+    (
+        0,
+        Act::AtOnce(
+            FIRST_BURSTS,
+            &[
+                0xff, 0xff, 0x02, 0, 0, 0, 0, 0x01, 0x08, 0, 0, 0, 0, 7, 0, 0, 0, 0, 0, 0, 14, 0,
+                0, 0, 0, 0, 0, 0, 0, 0, 0, 0,
+            ],
+        ),
+    ),
+    (
+        0,
+        Act::Takes(Access::Write(1_280, 65_536), 0, &[Note::Accept]),
+    ),
+    (0, Act::Takes(RING_1, 0, &[Note::Over])),
+    // The entry of the second frame is in the same word as that of the first.
+    (0, Act::Offer([8; 14])),
+    (0, Act::Takes(Access::Read(5_424), 0, &[Note::Reclaim(0)])),
+    (
+        0,
+        Act::AtOnce(
+            SECOND_BURSTS,
+            &[
+                8, 8, 8, 8, 8, 8, 8, 8, 8, 8, 8, 8, 8, 8, 0, 0, 64, 8, 0, 0, 0, 0, 0, 0, 14, 0, 0,
+                0, 0, 0, 0, 0, 0, 0, 1, 0,
+            ],
+        ),
+    ),
+    (
+        0,
+        Act::Takes(Access::Write(1_280, 131_072), 0, &[Note::Accept]),
+    ),
+];
 
 // claim tx_engine.Tx.bursts
 // claim link_endpoint.Endpoint.bursts
 #[test]
 fn all_before_the_index(rt: HostRuntime) -> Result<(), Fail> {
-    let mut words = vec![in rt.alloc(); 0; WORDS]?;
-    let mut first = example(&rt, rt.alloc(), 0)?;
-    let mut second = example(&rt, rt.alloc(), 1)?;
-    let words = words.as_mut_slice();
-    tick(&rt, words, &mut first, 0, 0, None, 1);
-    tick(&rt, words, &mut second, 1, 1, None, 1);
-    tick(&rt, words, &mut first, 0, 1, Some(1_024), 2);
-    tick(&rt, words, &mut second, 1, 2, Some(5_120), 2);
-    tick(&rt, words, &mut first, 0, 2, None, 3);
-    let found = [Note::Reclaim(0)];
-    let ring = Access::Ring {
-        target: 1,
-        vector: 1,
-    };
-
-    // The first word of the frame is written by itself.
-    assert!(rt; !first.busy());
-    first.offer(&FRAME);
-    assert!(rt; first.bursts().is_none());
-    step(&rt, words, &mut first, 0, Access::Read(5_424), 0, &found);
-    let start = Access::Write(1_472, 4_294_967_295);
-    step(&rt, words, &mut first, 0, start, 0, &[]);
-    let bytes = [
-        0xff, 0xff, 0x02, 0, 0, 0, 0, 0x01, 0x08, 0, 0, 0, 0, 7, 0, 0, 0, 0, 0, 0, 14, 0, 0, 0, 0,
-        0, 0, 0, 0, 0, 0, 0,
-    ];
-    at_once(&rt, &mut first, bursts_from(1_473, 3, 1_024), &bytes);
-    let index = Access::Write(1_280, 65_536);
-    step(&rt, words, &mut first, 0, index, 0, &[Note::Accept]);
-    step(&rt, words, &mut first, 0, ring, 0, &[Note::Over]);
-
-    // The entry of the second frame is in the same word as that of the first.
-    assert!(rt; !first.busy());
-    first.offer(&[8; 14]);
-    step(&rt, words, &mut first, 0, Access::Read(5_424), 0, &found);
-    let bytes = [
-        8, 8, 8, 8, 8, 8, 8, 8, 8, 8, 8, 8, 8, 8, 0, 0, 64, 8, 0, 0, 0, 0, 0, 0, 14, 0, 0, 0, 0, 0,
-        0, 0, 0, 0, 1, 0,
-    ];
-    at_once(&rt, &mut first, bursts_from(1_552, 4, 1_028), &bytes);
-    let index = Access::Write(1_280, 131_072);
-    step(&rt, words, &mut first, 0, index, 0, &[Note::Accept]);
-    Ok(())
+    makes_all(&rt, rt.alloc(), 1, &BEFORE_THE_INDEX)
 }
+
+const REFUSED: Refused = Refused {
+    field: FieldName::AvailIndex,
+    value: 65,
+};
+
+/// An offer that is down, a refusal in a poll, a stop, a tick and a reset.
+const REFUSAL: [(usize, Act); 22] = [
+    (0, Act::Offer(FRAME)),
+    (0, Act::Takes(Access::Nothing, 0, &[Note::Down])),
+    (0, Act::Tick(0, None, 1)),
+    (0, Act::Puts(1, 2)),
+    (0, Act::Tick(2, Some(1_024), 2)),
+    (0, Act::Tick(2, None, 3)),
+    (0, Act::Puts(5_376, 4_259_840)),
+    (0, Act::Shows(Sight::HasRefused(None))),
+    (0, Act::Begin(Call::Poll)),
+    (
+        0,
+        Act::Takes(Access::Read(5_376), 4_259_840, &[Note::Refuse(REFUSED)]),
+    ),
+    (0, Act::Shows(Sight::At(Phase::Run))),
+    (0, Act::Takes(Access::State(0), 0, &[Note::Over])),
+    (0, Act::Shows(Sight::At(Phase::Reset))),
+    (0, Act::Puts(1, 0)),
+    (0, Act::Begin(Call::Stop)),
+    (0, Act::Takes(Access::State(0), 0, &[Note::Over])),
+    (0, Act::Shows(Sight::HasRefused(Some(REFUSED)))),
+    (0, Act::Begin(Call::Tick)),
+    (
+        0,
+        Act::Takes(Access::Read(1), 0, &[Note::Saw(0), Note::Over]),
+    ),
+    (0, Act::Reset),
+    (0, Act::Shows(Sight::HasRefused(None))),
+    (0, Act::Tick(0, None, 1)),
+];
 
 // claim link_endpoint.Endpoint.new.value
 // claim link_endpoint.Endpoint.took.refuses
 #[test]
 fn refusal_lasts_until_the_reset(rt: HostRuntime) -> Result<(), Fail> {
-    let mut words = vec![in rt.alloc(); 0; WORDS]?;
-    let mut end = example(&rt, rt.alloc(), 0)?;
-    let words = words.as_mut_slice();
-    assert!(rt; words.len() == WORDS);
-    assert!(rt; !end.busy());
-    end.offer(&FRAME);
-    step(&rt, words, &mut end, 0, Access::Nothing, 0, &[Note::Down]);
-    tick(&rt, words, &mut end, 0, 0, None, 1);
-    words[1] = 2;
-    tick(&rt, words, &mut end, 0, 2, Some(1_024), 2);
-    tick(&rt, words, &mut end, 0, 2, None, 3);
-
-    words[5_376] = 4_259_840;
-    let refused = Refused {
-        field: FieldName::AvailIndex,
-        value: 65,
-    };
-    assert!(rt; end.refused().is_none());
-    assert!(rt; !end.busy());
-    end.begin(Call::Poll);
-    step(
-        &rt,
-        words,
-        &mut end,
-        0,
-        Access::Read(5_376),
-        4_259_840,
-        &[Note::Refuse(refused)],
-    );
-    assert!(rt; end.phase() == Phase::Run);
-    step(&rt, words, &mut end, 0, Access::State(0), 0, &[Note::Over]);
-    assert!(rt; end.phase() == Phase::Reset);
-
-    words[1] = 0;
-    assert!(rt; !end.busy());
-    end.begin(Call::Stop);
-    step(&rt, words, &mut end, 0, Access::State(0), 0, &[Note::Over]);
-    assert!(rt; end.refused() == Some(refused));
-    assert!(rt; !end.busy());
-    end.begin(Call::Tick);
-    step(
-        &rt,
-        words,
-        &mut end,
-        0,
-        Access::Read(1),
-        0,
-        &[Note::Saw(0), Note::Over],
-    );
-    end.reset();
-    assert!(rt; end.refused().is_none());
-    tick(&rt, words, &mut end, 0, 0, None, 1);
-    Ok(())
+    makes_all(&rt, rt.alloc(), 1, &REFUSAL)
 }
 
 // claim link_endpoint.Auto.choose.choice

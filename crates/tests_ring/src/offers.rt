@@ -1,7 +1,4 @@
 //! Offers, access by access.
-ghost use Rattle.std.specs.Prelude.{◌≡◌, IfOk, length};
-ghost use Rattle.tx_engine.specs.Sender.{IsFrame};
-
 use ivs_base::NoMemory;
 use split_ring::steps::{Access, Note};
 use split_ring::{FieldName, Queue, Refused};
@@ -18,65 +15,151 @@ const FRAME: [u8; 14] = [
     0xff, 0xff, 0xff, 0xff, 0xff, 0xff, 0x02, 0x00, 0x00, 0x00, 0x00, 0x01, 0x08, 0x00,
 ];
 
+/// One act of a sender, or what it shows.
+#[derive(Clone, Copy)]
+enum Act {
+    /// Opens an offer of this frame.
+    Offers(&'static [u8]),
+    /// Makes the next step: its access, the value that a read returns, and its notes.
+    Takes(Access, u32, &'static [Note]),
+    /// Makes this many steps, whose reads return 0.
+    Steps(u32),
+    /// Offers the frame of 14 bytes this many times. The 12 steps of each find no returned frame.
+    Publishes(u32),
+    /// Offers the long frame this many times, and makes all the steps, whose reads return 0.
+    Accepts(u32),
+    /// Has no open offer.
+    Idle,
+    Reset,
+}
+
 /// Returns the sender of peer 0 in a region of two peers, whose sections of 16,384 bytes begin at
 /// words 1,024 and 5,120.
-fn example(rt: &impl Abort, alloc: Global) -> Result<Tx, NoMemory>
-    ensures { IfOk result (λ tx. tx.sizes.mtu ≡ 256) }
-{
+fn example(rt: &impl Abort, alloc: Global) -> Result<Tx, NoMemory> {
     let queue = Queue::of(16_384, 256).expect(rt, "a queue");
     Tx::new(alloc, &queue, 1_024, 5_120, 1, 1)
 }
 
 /// Returns the same for a link of version 3, whose data area is a byte ring of 14,592 bytes.
-fn example_ring(rt: &impl Abort, alloc: Global) -> Result<Tx, NoMemory>
-    ensures { IfOk result (λ tx. tx.sizes.mtu ≡ 256) }
-{
+fn example_ring(rt: &impl Abort, alloc: Global) -> Result<Tx, NoMemory> {
     let queue = Queue::of_version(3, 16_384, 256).expect(rt, "a queue");
     Tx::new(alloc, &queue, 1_024, 5_120, 1, 1)
 }
 
-fn offers(rt: &impl Abort, tx: &mut Tx, frame: &[u8])
-    requires { IsFrame tx.old.sizes frame.now }
-    ensures { tx.new.sizes ≡ tx.old.sizes }
-{
-    assert!(rt; !tx.busy());
+#[must_use]
+fn offers(tx: &mut Tx, frame: &[u8]) -> bool {
+    if tx.busy() {
+        return false;
+    }
+    if frame.len() < 14 || frame.len() > tx.longest() as usize {
+        return false;
+    }
     tx.begin(frame);
+    true
 }
 
-fn takes(rt: &impl Abort, tx: &mut Tx, access: Access, value: u32, notes: &[Note])
-    ensures { tx.new.sizes ≡ tx.old.sizes }
-{
-    assert!(rt; tx.busy());
-    assert_eq!(rt; tx.next(), access);
-    assert_eq!(rt; tx.took(value).as_slice(), notes);
+#[must_use]
+fn takes(tx: &mut Tx, access: Access, value: u32, notes: &[Note]) -> bool {
+    if !tx.busy() {
+        return false;
+    }
+    if tx.next() != access {
+        return false;
+    }
+    tx.took(value).as_slice() == notes
+}
+
+/// Makes steps whose reads return 0. Returns whether there were as many.
+#[must_use]
+fn steps(tx: &mut Tx, count: u32) -> bool {
+    for _ in 0..count {
+        if !tx.busy() {
+            return false;
+        }
+        let _ = tx.took(0);
+    }
+    true
 }
 
 /// Offers the frame of 14 bytes, whose 12 steps find no returned frame.
-fn publishes(rt: &impl Abort, tx: &mut Tx)
-    requires { tx.old.sizes.mtu ≡ 256 }
-    ensures { tx.new.sizes ≡ tx.old.sizes }
-{
-    offers(rt, tx, &FRAME);
-    takes(rt, tx, Access::Read(5_424), 0, &[Note::Reclaim(0)]);
-    for _ in 0..11 {
-        assert!(rt; tx.busy());
-        let _ = tx.took(0);
-    }
+#[must_use]
+fn publishes(tx: &mut Tx) -> bool {
+    offers(tx, &FRAME) && takes(tx, Access::Read(5_424), 0, &[Note::Reclaim(0)]) && steps(tx, 11)
 }
 
 /// Offers a frame that fits, and makes all the steps. Their reads return 0.
-fn accepts(rt: &impl Abort, tx: &mut Tx, frame: &[u8])
-    requires { IsFrame tx.old.sizes frame.now }
-    ensures { tx.new.sizes ≡ tx.old.sizes }
-{
-    offers(rt, tx, frame);
+#[must_use]
+fn accepts(tx: &mut Tx, frame: &[u8]) -> bool {
+    if !offers(tx, frame) {
+        return false;
+    }
     for _ in 0..78 {
         if tx.busy() {
             let _ = tx.took(0);
         }
     }
-    assert!(rt; !tx.busy());
+    !tx.busy()
 }
+
+/// Makes an act. Returns whether all is as the act says.
+#[must_use]
+fn makes(tx: &mut Tx, act: Act) -> bool {
+    match act {
+        Act::Offers(frame) => offers(tx, frame),
+        Act::Takes(access, value, notes) => takes(tx, access, value, notes),
+        Act::Steps(count) => steps(tx, count),
+        Act::Publishes(count) => {
+            let mut are_all = true;
+            for _ in 0..count {
+                are_all = publishes(tx) && are_all;
+            }
+            are_all
+        }
+        Act::Accepts(count) => {
+            let mut are_all = true;
+            for _ in 0..count {
+                are_all = accepts(tx, &LONG) && are_all;
+            }
+            are_all
+        }
+        Act::Idle => !tx.busy(),
+        Act::Reset => {
+            tx.reset();
+            true
+        }
+    }
+}
+
+/// Makes these acts of a sender.
+fn makes_all(rt: &impl Abort, tx: &mut Tx, acts: &[Act]) {
+    for at in 0..acts.len() {
+        assert!(rt; makes(tx, acts[at]), "act {at}");
+    }
+}
+
+const ONE_FRAME: [Act; 14] = [
+    Act::Offers(&FRAME),
+    Act::Takes(Access::Read(5_424), 0, &[Note::Reclaim(0)]),
+    Act::Takes(Access::Write(1_472, 4_294_967_295), 0, &[]),
+    Act::Takes(Access::Write(1_473, 196_607), 0, &[]),
+    Act::Takes(Access::Write(1_474, 16_777_216), 0, &[]),
+    Act::Takes(Access::Write(1_475, 8), 0, &[]),
+    Act::Takes(Access::Write(1_024, 1_792), 0, &[]),
+    Act::Takes(Access::Write(1_025, 0), 0, &[]),
+    Act::Takes(Access::Write(1_026, 14), 0, &[]),
+    Act::Takes(Access::Write(1_027, 0), 0, &[]),
+    Act::Takes(Access::Write(1_281, 0), 0, &[]),
+    Act::Takes(Access::Write(1_280, 65_536), 0, &[Note::Accept]),
+    Act::Takes(
+        Access::Ring {
+            target: 1,
+            vector: 1,
+        },
+        0,
+        &[Note::Over],
+    ),
+    Act::Idle,
+];
 
 // claim tx_engine.Tx.new.value
 // claim tx_engine.Tx.begin.refines
@@ -85,37 +168,22 @@ fn accepts(rt: &impl Abort, tx: &mut Tx, frame: &[u8])
 #[test]
 fn first_frame(rt: HostRuntime) -> Result<(), Fail> {
     let mut tx = example(&rt, rt.alloc())?;
-    offers(&rt, &mut tx, &FRAME);
-    takes(&rt, &mut tx, Access::Read(5_424), 0, &[Note::Reclaim(0)]);
-    for (word, value) in [
-        (1_472, 4_294_967_295),
-        (1_473, 196_607),
-        (1_474, 16_777_216),
-        (1_475, 8),
-        (1_024, 1_792),
-        (1_025, 0),
-        (1_026, 14),
-        (1_027, 0),
-        (1_281, 0),
-    ] {
-        takes(&rt, &mut tx, Access::Write(word, value), 0, &[]);
-    }
-    takes(
-        &rt,
-        &mut tx,
-        Access::Write(1_280, 65_536),
-        0,
-        &[Note::Accept],
-    );
-    let bell = Access::Ring {
-        target: 1,
-        vector: 1,
-    };
-    takes(&rt, &mut tx, bell, 0, &[Note::Over]);
-    assert!(rt; !tx.busy());
+    makes_all(&rt, &mut tx, &ONE_FRAME);
     idle_engine_outlives_steps();
     Ok(())
 }
+
+const FULL_RING: [Act; 8] = [
+    Act::Publishes(45),
+    Act::Offers(&FRAME),
+    Act::Takes(Access::Read(5_424), 0, &[Note::Reclaim(0), Note::Full]),
+    // Two frames are returned, and the next one gets the slot of the first.
+    Act::Offers(&FRAME),
+    Act::Takes(Access::Read(5_424), 2 * 65_536, &[Note::Reclaim(2)]),
+    Act::Takes(Access::Read(5_425), 0, &[]),
+    Act::Takes(Access::Read(5_427), 1, &[]),
+    Act::Takes(Access::Write(1_472, 4_294_967_295), 0, &[]),
+];
 
 // claim tx_engine.Tx.next.access
 // claim tx_engine.Tx.took
@@ -123,31 +191,28 @@ fn first_frame(rt: HostRuntime) -> Result<(), Fail> {
 #[test]
 fn full_ring(rt: HostRuntime) -> Result<(), Fail> {
     let mut tx = example(&rt, rt.alloc())?;
-    for _ in 0..45 {
-        publishes(&rt, &mut tx);
-    }
-    offers(&rt, &mut tx, &FRAME);
-    takes(
-        &rt,
-        &mut tx,
-        Access::Read(5_424),
-        0,
-        &[Note::Reclaim(0), Note::Full],
-    );
-    // Two frames are returned, and the next one gets the slot of the first.
-    offers(&rt, &mut tx, &FRAME);
-    takes(
-        &rt,
-        &mut tx,
-        Access::Read(5_424),
-        2 * 65_536,
-        &[Note::Reclaim(2)],
-    );
-    takes(&rt, &mut tx, Access::Read(5_425), 0, &[]);
-    takes(&rt, &mut tx, Access::Read(5_427), 1, &[]);
-    takes(&rt, &mut tx, Access::Write(1_472, 4_294_967_295), 0, &[]);
+    makes_all(&rt, &mut tx, &FULL_RING);
     Ok(())
 }
+
+const FULL_BYTES: [Act; 16] = [
+    Act::Accepts(45),
+    Act::Offers(&LONG),
+    Act::Takes(Access::Read(5_424), 0, &[Note::Reclaim(0), Note::Full]),
+    Act::Offers(&FRAME),
+    Act::Takes(Access::Read(5_424), 0, &[Note::Reclaim(0)]),
+    Act::Takes(Access::Write(5_072, 4_294_967_295), 0, &[]),
+    Act::Takes(Access::Write(5_073, 196_607), 0, &[]),
+    Act::Takes(Access::Write(5_074, 16_777_216), 0, &[]),
+    Act::Takes(Access::Write(5_075, 8), 0, &[]),
+    Act::Takes(Access::Write(1_204, 16_192), 0, &[]),
+    Act::Steps(6),
+    Act::Idle,
+    Act::Offers(&LONG),
+    Act::Takes(Access::Read(5_424), 65_536, &[Note::Reclaim(1)]),
+    Act::Takes(Access::Read(5_425), 0, &[]),
+    Act::Takes(Access::Write(1_472, 0), 0, &[]),
+];
 
 /// After 45 long frames 192 bytes of the ring are free, and after a short one 128. When the first
 /// frame is returned, the next long one begins at its first byte.
@@ -156,67 +221,39 @@ fn full_ring(rt: HostRuntime) -> Result<(), Fail> {
 #[test]
 fn full_bytes(rt: HostRuntime) -> Result<(), Fail> {
     let mut tx = example_ring(&rt, rt.alloc())?;
-    for _ in 0..45 {
-        accepts(&rt, &mut tx, &LONG);
-    }
-    offers(&rt, &mut tx, &LONG);
-    let full = [Note::Reclaim(0), Note::Full];
-    takes(&rt, &mut tx, Access::Read(5_424), 0, &full);
-    offers(&rt, &mut tx, &FRAME);
-    takes(&rt, &mut tx, Access::Read(5_424), 0, &[Note::Reclaim(0)]);
-    takes(&rt, &mut tx, Access::Write(5_072, 4_294_967_295), 0, &[]);
-    takes(&rt, &mut tx, Access::Write(5_073, 196_607), 0, &[]);
-    takes(&rt, &mut tx, Access::Write(5_074, 16_777_216), 0, &[]);
-    takes(&rt, &mut tx, Access::Write(5_075, 8), 0, &[]);
-    takes(&rt, &mut tx, Access::Write(1_204, 16_192), 0, &[]);
-    for _ in 0..6 {
-        assert!(rt; tx.busy());
-        let _ = tx.took(0);
-    }
-    assert!(rt; !tx.busy());
-    offers(&rt, &mut tx, &LONG);
-    let one = [Note::Reclaim(1)];
-    takes(&rt, &mut tx, Access::Read(5_424), 65_536, &one);
-    takes(&rt, &mut tx, Access::Read(5_425), 0, &[]);
-    takes(&rt, &mut tx, Access::Write(1_472, 0), 0, &[]);
+    makes_all(&rt, &mut tx, &FULL_BYTES);
     Ok(())
 }
+
+const HOSTILE_INDEX: Note = Note::Refuse(Refused {
+    field: FieldName::UsedIndex,
+    value: 2,
+});
+
+const HOSTILE_ID: Note = Note::Refuse(Refused {
+    field: FieldName::UsedId,
+    value: 7,
+});
+
+const HOSTILE_RETURNS: [Act; 12] = [
+    Act::Publishes(1),
+    Act::Offers(&FRAME),
+    Act::Takes(Access::Read(5_424), 2 * 65_536, &[HOSTILE_INDEX]),
+    Act::Takes(Access::State(0), 0, &[Note::Over]),
+    Act::Idle,
+    Act::Reset,
+    Act::Publishes(1),
+    Act::Offers(&FRAME),
+    Act::Takes(Access::Read(5_424), 65_536, &[Note::Reclaim(1)]),
+    Act::Takes(Access::Read(5_425), 7, &[HOSTILE_ID]),
+    Act::Takes(Access::State(0), 0, &[Note::Over]),
+    Act::Idle,
+];
 
 // claim reference_history.is_lawful.lawful
 #[test]
 fn hostile_returns(rt: HostRuntime) -> Result<(), Fail> {
     let mut tx = example(&rt, rt.alloc())?;
-    publishes(&rt, &mut tx);
-    offers(&rt, &mut tx, &FRAME);
-    let index = Refused {
-        field: FieldName::UsedIndex,
-        value: 2,
-    };
-    takes(
-        &rt,
-        &mut tx,
-        Access::Read(5_424),
-        2 * 65_536,
-        &[Note::Refuse(index)],
-    );
-    takes(&rt, &mut tx, Access::State(0), 0, &[Note::Over]);
-    assert!(rt; !tx.busy());
-    tx.reset();
-    publishes(&rt, &mut tx);
-    offers(&rt, &mut tx, &FRAME);
-    takes(
-        &rt,
-        &mut tx,
-        Access::Read(5_424),
-        65_536,
-        &[Note::Reclaim(1)],
-    );
-    let id = Refused {
-        field: FieldName::UsedId,
-        value: 7,
-    };
-    takes(&rt, &mut tx, Access::Read(5_425), 7, &[Note::Refuse(id)]);
-    takes(&rt, &mut tx, Access::State(0), 0, &[Note::Over]);
-    assert!(rt; !tx.busy());
+    makes_all(&rt, &mut tx, &HOSTILE_RETURNS);
     Ok(())
 }

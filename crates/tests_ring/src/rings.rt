@@ -18,34 +18,39 @@ fn refused(field: FieldName, value: u64) -> Refused {
     Refused { field, value }
 }
 
+/// The size of a section, an MTU, and the fault. The MTU is checked before the size, and the size
+/// before the slot.
+const FAULTS: [(u64, u32, QueueFault); 7] = [
+    (16_384, 255, QueueFault::BadMtu(255)),
+    (12_288, 256, QueueFault::TooSmall(12_288)),
+    (
+        16_384,
+        16_384,
+        QueueFault::NoSlot {
+            slot: 16_448,
+            room: 14_592,
+        },
+    ),
+    (
+        16_384,
+        65_535,
+        QueueFault::NoSlot {
+            slot: 65_600,
+            room: 14_592,
+        },
+    ),
+    (16_384, 65_536, QueueFault::BadMtu(65_536)),
+    (0, 0, QueueFault::BadMtu(0)),
+    (4_096, 65_535, QueueFault::TooSmall(4_096)),
+];
+
 // claim split_ring.Queue.of.queue
 #[test]
 fn geometry_and_queue(rt: HostRuntime) {
-    assert_eq!(rt; Queue::of(16_384, 255).err(), Some(QueueFault::BadMtu(255)));
-    assert_eq!(rt;
-        Queue::of(12_288, 256).err(),
-        Some(QueueFault::TooSmall(12_288))
-    );
-    let no_slot = QueueFault::NoSlot {
-        slot: 16_448,
-        room: 14_592,
-    };
-    assert_eq!(rt; Queue::of(16_384, 16_384).err(), Some(no_slot));
-    let no_slot = QueueFault::NoSlot {
-        slot: 65_600,
-        room: 14_592,
-    };
-    assert_eq!(rt; Queue::of(16_384, 65_535).err(), Some(no_slot));
-    assert_eq!(rt;
-        Queue::of(16_384, 65_536).err(),
-        Some(QueueFault::BadMtu(65_536))
-    );
-    // The MTU is checked before the size, and the size before the slot.
-    assert_eq!(rt; Queue::of(0, 0).err(), Some(QueueFault::BadMtu(0)));
-    assert_eq!(rt;
-        Queue::of(4_096, 65_535).err(),
-        Some(QueueFault::TooSmall(4_096))
-    );
+    for (out, mtu, fault) in FAULTS {
+        assert!(rt; out <= 16_384);
+        assert!(rt; Queue::of(out, mtu).err() == Some(fault), "{out} {mtu}");
+    }
 }
 
 #[test]
@@ -136,47 +141,76 @@ fn words_of_the_fields(rt: HostRuntime) {
 #[test]
 fn bounds_of_the_index_checks(rt: HostRuntime) {
     let queue = example(&rt);
-    assert_eq!(rt; queue.check_avail(65_535, 63), Ok(64));
-    assert_eq!(rt;
-        queue.check_avail(65_535, 64),
-        Err(refused(FieldName::AvailIndex, 64))
-    );
-    assert_eq!(rt; queue.check_used(65_535, 1, 2), Ok(2));
-    assert_eq!(rt;
-        queue.check_used(65_535, 2, 2),
-        Err(refused(FieldName::UsedIndex, 2))
-    );
-    assert_eq!(rt; queue.check_entry(63), Ok(63));
-    assert_eq!(rt;
-        queue.check_entry(64),
-        Err(refused(FieldName::AvailEntry, 64))
-    );
-    assert_eq!(rt; queue.check_id(7, 7), Ok(()));
-    assert_eq!(rt; queue.check_id(0, 7), Err(refused(FieldName::UsedId, 7)));
+    let cases = [
+        (queue.check_avail(65_535, 63), Ok(64)),
+        (
+            queue.check_avail(65_535, 64),
+            Err(refused(FieldName::AvailIndex, 64)),
+        ),
+        (queue.check_used(65_535, 1, 2), Ok(2)),
+        (
+            queue.check_used(65_535, 2, 2),
+            Err(refused(FieldName::UsedIndex, 2)),
+        ),
+        (queue.check_entry(63), Ok(63)),
+        (
+            queue.check_entry(64),
+            Err(refused(FieldName::AvailEntry, 64)),
+        ),
+    ];
+    for (got, want) in cases {
+        assert_eq!(rt; got, want);
+    }
+    let cases = [
+        (queue.check_id(7, 7), Ok(())),
+        (queue.check_id(0, 7), Err(refused(FieldName::UsedId, 7))),
+    ];
+    for (got, want) in cases {
+        assert_eq!(rt; got, want);
+    }
 }
+
+/// An address, and whether a descriptor may have it.
+const ADDRESSES: [(u32, bool); 5] = [
+    (1_792, true),
+    (16_380, true),
+    (1_788, false),
+    (1_794, false),
+    (16_384, false),
+];
+
+/// A length, and whether the frame at address 1,792 may have it.
+const LENGTHS: [(u32, bool); 5] = [
+    (14, true),
+    (14_592, true),
+    (13, false),
+    (14_593, false),
+    (u32::MAX, false),
+];
 
 // claim split_ring.Queue.check_avail.inside
 #[test]
 fn bounds_of_the_descriptor_checks(rt: HostRuntime) {
     let queue = example(&rt);
-    for address in [1_792, 16_380] {
-        assert_eq!(rt; queue.check_address(u64::from(address)), Ok(address));
-    }
-    for address in [1_788, 1_794, 16_384, 4_294_969_088] {
-        assert_eq!(rt;
-            queue.check_address(address),
-            Err(refused(FieldName::DescAddress, address))
+    for (address, is_good) in ADDRESSES {
+        let refusal = refused(FieldName::DescAddress, u64::from(address));
+        let want = if is_good { Ok(address) } else { Err(refusal) };
+        assert!(rt;
+            queue.check_address(u64::from(address)) == want,
+            "{address}"
         );
     }
-    for length in [14, 14_592] {
-        assert_eq!(rt; queue.check_length(1_792, length), Ok(length));
-    }
-    for length in [13, 14_593, u32::MAX] {
+    let far = refused(FieldName::DescAddress, 4_294_969_088);
+    assert!(rt; queue.check_address(4_294_969_088) == Err(far));
+    for (length, is_good) in LENGTHS {
         let refusal = refused(FieldName::DescLength, u64::from(length));
-        assert_eq!(rt; queue.check_length(1_792, length), Err(refusal));
+        let want = if is_good { Ok(length) } else { Err(refusal) };
+        assert!(rt; queue.check_length(1_792, length) == want, "{length}");
     }
-    assert_eq!(rt; queue.check_flags(0), Ok(()));
-    assert_eq!(rt; queue.check_flags(1), Err(refused(FieldName::DescFlags, 1)));
+    let flag = refused(FieldName::DescFlags, 1);
+    for (flags, want) in [(0, Ok(())), (1, Err(flag))] {
+        assert!(rt; queue.check_flags(flags) == want, "{flags}");
+    }
 }
 
 // claim split_ring.Queue.check_avail.inside

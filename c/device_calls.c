@@ -129,7 +129,7 @@ static void sizes(void) {
     }
 }
 
-/* Where the region is: at a base, or behind Base Address Register 2. */
+/* Where the region is: at a base, or in the window of Base Address Register 2. */
 static void places(void) {
     static const struct {
         uint64_t out, base;

@@ -167,7 +167,7 @@ uint32_t ivshm_device_new(ivshm_device *device, uint32_t peers, uint32_t table, 
 typedef struct ivshm_device_world {
     uint64_t common;
     uint64_t out;
-    uint64_t base; /* the guest-physical address of the region, or 0: behind Base Address Register 2 */
+    uint64_t base; /* the guest-physical address of the region, or 0: in the window of BAR 2 */
     uint32_t peers;
     uint32_t table;
     uint32_t vectors;

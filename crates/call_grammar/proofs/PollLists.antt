@@ -7,7 +7,7 @@ use Rattle.split_ring.specs.declared.steps.Access.TheVariants.{Read}
 use Rattle.split_ring.specs.Layout.{size_of, word_offset, DescAddress, DescLength, DescFlags, AvailEntry}
 use Rattle.split_ring.specs.Ranges.{IsAvailEntry, IsDescAddress, IsDescLength, is_avail_entry, is_desc_address, is_desc_length, is_avail_index, is_desc_flags}
 use Rattle.split_ring.specs.Spelling.{high_half, entry_half, desc_flags}
-use Rattle.split_ring.proofs.Tests.{entry_tells, entry_denies, entry_test, entry_fails, address_tells, address_test, address_denies, address_fails, length_tells, length_test, length_denies, length_fails, flags_tells, flags_denies}
+use Rattle.split_ring.proofs.Tests.{entry_of_test, entry_denies, entry_test, entry_fails, address_of_test, address_test, address_denies, address_fails, length_of_test, length_test, length_denies, length_fails, flags_of_test, flags_denies}
 use Rattle.call_grammar.specs.Steps.{Step, Mark, Look, Deliver, Done, step_of}
 use Rattle.call_grammar.specs.Trees.{CallTree, Ended, Reads, Makes}
 use Rattle.call_grammar.specs.Ticks.{EndConfig, set_state, state_step}
@@ -126,7 +126,7 @@ flags_item config number ew lo hi l after steps ie ia il (fw, inl good) =
     let read = item_of ew lo hi l fw w.0 in
     inl (
       read,
-      record { entry = ie; address = ia; bytes = il; flags = flags_tells (desc_flags fw) good.0; words = w.3 },
+      record { entry = ie; address = ia; bytes = il; flags = flags_of_test (desc_flags fw) good.0; words = w.3 },
       w.1,
       w.2,
       (let here = good.2 in let rest = w.4 in let seam = append_assoc (word_steps config (address_of lo hi) 0 w.0 (Deliver (frame_in l w.0) ∷ [])) (return_steps config number (entry_name config number ew)) w.1 in cc),
@@ -138,7 +138,7 @@ length_item : (config : EndConfig) (number ew lo hi : ℕ) (after : CallTree) (s
     ItemListed config number after (three config number ew lo hi steps)
 length_item config number ew lo hi after steps ie ia (l, inl good) =
     subst (λ (s : List Step). ItemListed config number after (three config number ew lo hi s)) (sym good.2)
-    (flags_item config number ew lo hi l after good.1 ie ia (length_tells config.sizes (address_of lo hi) l good.0)
+    (flags_item config number ew lo hi l after good.1 ie ia (length_of_test config.sizes (address_of lo hi) l good.0)
     (tested (config.theirs + word_offset config.sizes (DescFlags (entry_name config number ew))) (λ value. is_desc_flags (desc_flags value)) (λ value. refusal field_name.DescFlags (desc_flags value)) (λ value. read_words config number (entry_name config number ew) (address_of lo hi) l [] (words_for l) after) good.1 good.3))
 length_item config number ew lo hi after steps ie ia (l, inr bad) = inr (item_of ew lo hi l 0 [], inr (inr (inl (ie, ia, length_denies config.sizes (address_of lo hi) l bad.0, (let here = bad.1 in cc)))))
 
@@ -147,7 +147,7 @@ high_item : (config : EndConfig) (number ew lo : ℕ) (after : CallTree) (steps 
     ItemListed config number after (entry_step config number (item_of ew lo 0 0 0 []) [] ∷ low_step config number (item_of ew lo 0 0 0 []) ∷ steps)
 high_item config number ew lo after steps ie (hi, inl good) =
     subst (λ (s : List Step). ItemListed config number after (entry_step config number (item_of ew lo 0 0 0 []) [] ∷ low_step config number (item_of ew lo 0 0 0 []) ∷ s)) (sym good.2)
-    (length_item config number ew lo hi after good.1 ie (address_tells config.sizes (address_of lo hi) good.0)
+    (length_item config number ew lo hi after good.1 ie (address_of_test config.sizes (address_of lo hi) good.0)
     (tested (config.theirs + word_offset config.sizes (DescLength (entry_name config number ew))) (λ value. is_desc_length config.sizes (address_of lo hi) value) (λ value. refusal field_name.DescLength value) (λ value. read_flags config number (entry_name config number ew) (address_of lo hi) value after) good.1 good.3))
 high_item config number ew lo after steps ie (hi, inr bad) = inr (item_of ew lo hi 0 0 [], inr (inl (ie, address_denies config.sizes (address_of lo hi) bad.0, (let here = bad.1 in cc))))
 
@@ -162,7 +162,7 @@ low_item config number ew after (step ∷ steps) ie m =
 entry_item : (config : EndConfig) (number : ℕ) (after : CallTree) (steps : List Step) →
     (t : (value : ℕ) × IsTested (config.theirs + word_offset config.sizes (AvailEntry (avail_entry_of config number))) (λ value. is_avail_entry config.sizes (entry_name config number value)) (λ value. refusal field_name.AvailEntry (entry_name config number value)) (λ value. read_low config number (entry_name config number value) after) value steps) →
     ItemListed config number after steps
-entry_item config number after steps (ew, inl good) = subst (λ (s : List Step). ItemListed config number after s) (sym good.2) (low_item config number ew after good.1 (entry_tells config.sizes (entry_name config number ew) good.0) good.3)
+entry_item config number after steps (ew, inl good) = subst (λ (s : List Step). ItemListed config number after s) (sym good.2) (low_item config number ew after good.1 (entry_of_test config.sizes (entry_name config number ew) good.0) good.3)
 entry_item config number after steps (ew, inr bad) = inr (item_of ew 0 0 0 0 [], inl (entry_denies config.sizes (entry_name config number ew) bad.0, (let here = bad.1 in cc)))
 
 item_listed : (config : EndConfig) (number : ℕ) (after : CallTree) (steps : List Step) → Makes (item config number after) steps → ItemListed config number after steps

@@ -13,7 +13,7 @@ use Rattle.link_handshake.specs.declared.Move.TheVariants.{Stay, Set, ClearThenS
 use Rattle.split_ring.specs.declared.steps.Access.{Access}
 use Rattle.split_ring.specs.declared.steps.Access.TheVariants as access
 use Rattle.split_ring.specs.Ranges.{is_avail_entry, is_desc_address, is_desc_length, is_desc_flags, is_used_index, is_used_id, is_avail_index}
-use Rattle.split_ring.proofs.Tests.{entry_tells, address_tells, length_tells}
+use Rattle.split_ring.proofs.Tests.{entry_of_test, address_of_test, length_of_test}
 use Rattle.call_grammar.specs.Steps.{Step}
 use Rattle.call_grammar.specs.Trees.{CallTree, Ended, Does, Reads, Goes, GoesAlong}
 use Rattle.call_grammar.specs.Ends.{End}
@@ -115,7 +115,7 @@ words_stay config has number entry address bytes read (suc more) after even ends
 item_stays : (config : EndConfig) → HasSections config → (number : ℕ) (after : CallTree) → StaysInReach config after → StaysInReach config (item config number after)
 item_stays config has number after stays = (
   first_their config has (AvailEntry (avail_entry_of config number)) (in_ring config has number) (omega arith),
-  λ value. let e = entry_half (avail_entry_of config number) value in choice config (is_avail_entry config.sizes e) (read_low config number e after) (set_state 0) (λ test. let i = entry_tells config.sizes e test in (
+  λ value. let e = entry_half (avail_entry_of config number) value in choice config (is_avail_entry config.sizes e) (read_low config number e after) (set_state 0) (λ test. let i = entry_of_test config.sizes e test in (
     first_their config has (DescAddress e) i (omega arith),
     λ low. (
       their_word config has (DescAddress e) 1 i (omega arith),
@@ -123,7 +123,7 @@ item_stays config has number after stays = (
         first_their config has (DescLength e) i (omega arith),
         λ l. choice config (is_desc_length config.sizes a l) (read_flags config number e a l after) (set_state 0) (λ ltest. (
           first_their config has (DescFlags e) i (omega arith),
-          λ flags. choice config (is_desc_flags (desc_flags flags)) (read_words config number e a l [] (words_for l) after) (set_state 0) (λ _. words_stay config has number e a l [] (words_for l) after (address_tells config.sizes a atest).0 (length_tells config.sizes a l ltest).2 (omega arith) stays) (tt, tt),
+          λ flags. choice config (is_desc_flags (desc_flags flags)) (read_words config number e a l [] (words_for l) after) (set_state 0) (λ _. words_stay config has number e a l [] (words_for l) after (address_of_test config.sizes a atest).0 (length_of_test config.sizes a l ltest).2 (omega arith) stays) (tt, tt),
         )) (tt, tt),
       )) (tt, tt),
     ),

@@ -10,7 +10,7 @@ use Rattle.split_ring.specs.Layout.{has_events, size_of, data_area_start, word_o
 use Rattle.split_ring.specs.Spelling.{low_half, high_half, entry_half, desc_flags}
 use Rattle.split_ring.specs.declared.ranges.FieldName.TheVariants as field_name
 use Rattle.split_ring.specs.Ranges.{is_avail_entry, is_desc_address, is_desc_length, is_avail_index, is_desc_flags, is_used_index, is_used_id}
-use Rattle.split_ring.proofs.Tests.{entry_tells, address_tells}
+use Rattle.split_ring.proofs.Tests.{entry_of_test, address_of_test}
 use Rattle.split_ring.proofs.Bounds.{bounds}
 use Rattle.call_grammar.specs.Steps.{Mark, Reclaim, Full, Look, Deliver, Done, Over, Step}
 use Rattle.call_grammar.specs.Trees.{CallTree, Ended, Does, Reads, Goes, GoesAlong}
@@ -160,7 +160,7 @@ entry_apart config has number =
 item_uses : (config : EndConfig) → HasSections config → (number : ℕ) (after : CallTree) → UsesReads config after → UsesReads config (item config number after)
 item_uses config has number after uses = λ value. let e = entry_half (avail_entry_of config number) value in (
   entry_apart config has number ∙ sym (either config (is_avail_entry config.sizes e) [] (refusal field_name.AvailEntry e) [] refl refl),
-  choice config (is_avail_entry config.sizes e) (read_low config number e after) (set_state 0) (λ test. let i = entry_tells config.sizes e test in λ low. (
+  choice config (is_avail_entry config.sizes e) (read_low config number e after) (set_state 0) (λ test. let i = entry_of_test config.sizes e test in λ low. (
     descriptor_apart config e 0 _ i (omega arith) (omega arith),
     λ high. let a = address_of low high in (
       descriptor_apart config e 1 _ i (omega arith) (omega arith) ∙ sym (either config (is_desc_address config.sizes a) [] (refusal field_name.DescAddress a) [] refl refl),
@@ -169,7 +169,7 @@ item_uses config has number after uses = λ value. let e = entry_half (avail_ent
         choice config (is_desc_length config.sizes a l) (read_flags config number e a l after) (set_state 0) (λ _. λ flags. (
           descriptor_apart config e 3 _ i (omega arith) (omega arith) ∙ sym (either config (is_desc_flags (desc_flags flags)) [] (refusal field_name.DescFlags (desc_flags flags)) [] refl refl),
           choice config (is_desc_flags (desc_flags flags)) (read_words config number e a l [] (words_for l) after) (set_state 0)
-              (λ _. words_use config number e a l [] (words_for l) after (address_tells config.sizes a atest).1 uses) (refl, tt),
+              (λ _. words_use config number e a l [] (words_for l) after (address_of_test config.sizes a atest).1 uses) (refl, tt),
         )) (refl, tt),
       )) (refl, tt),
     ),

@@ -63,8 +63,9 @@ impl<E: MsixTable + Drop> Model for PeerDevice<E> {
 impl<E: MsixTable + Drop> PeerDevice<E> {
     /// Returns the device of a connected peer at reset, with the region at the usual base address.
     /// Requires that the MSI-X table is at reset.
-    // claim with PeerDevice::placed, Device::peers, entry_at_reset.rows, entry_at_reset.bytes: A new
-    //    peer's device, and a new MSI-X entry, is at reset. A device has the peers of its geometry.
+    // claim with PeerDevice::placed, Device::peers, entry_at_reset.rows, entry_at_reset.bytes: A
+    //    new peer's device, and a new MSI-X entry, is at reset. A device has the peers of its
+    //    geometry.
     pub fn new(geometry: &Geometry, wiring: Wiring, peer: u32, entries: E) -> PeerDevice<E>
         requires wired { IsWiring wiring }
         requires count { vector_count wiring ≤ length (E.entries entries) }
@@ -74,8 +75,8 @@ impl<E: MsixTable + Drop> PeerDevice<E> {
         PeerDevice::placed(geometry, wiring, RegionPlace::usual(), peer, entries)
     }
 
-    /// Returns the device of a connected peer at reset, with the region at this place. Requires that
-    /// the MSI-X table is at reset.
+    /// Returns the device of a connected peer at reset, with the region at this place. Requires
+    /// that the MSI-X table is at reset.
     pub fn placed(
         geometry: &Geometry,
         wiring: Wiring,

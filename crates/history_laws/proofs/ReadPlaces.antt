@@ -20,11 +20,11 @@ use Rattle.call_grammar.specs.Offers.{PendingOffer, frame_fits, descriptor_of, a
 use Rattle.call_grammar.specs.Polls.{Item, item_entry, item_address, is_entry, is_address, is_length, is_last, published_by, look_marks}
 use Rattle.call_grammar.specs.Places.{Place, Closed, ReadingOtherState, Clearing, WritingState, Refusing, NotInRun, ReadingUsedIndex, ReadingUsedId, WritingFrameWord, WritingDescAddressLow, WritingDescAddressHigh, WritingDescLength, WritingDescFlags, WritingAvailEntry, WritingAvailIndex, ReadingAvailEvent, RingingOffer, ReadingAvailIndex, WritingAvailEvent, ReadingAvailEntry, ReadingDescAddressLow, ReadingDescAddressHigh, ReadingDescLength, ReadingDescFlags, ReadingFrameWord, WritingUsedId, WritingUsedLength, WritingUsedIndex, RingingPoll, clear_place, tick_place, fill_place, ids_place, none_place, items_place, words_place, first_place, access_at, marks_at, next_place}
 use Rattle.call_grammar.proofs.OfferLists.{no}
-use Rattle.call_grammar.proofs.PollLists.{entry_tells, address_tells, length_tells}
+use Rattle.call_grammar.proofs.PollLists.{entry_of_test, address_of_test, length_of_test}
 use Rattle.history_laws.specs.Reads.{Got, got, entry_read, low_read, high_read, length_read, flags_read, word_reads}
 
-flags_tells : (f : ℕ) → (f == 0) ≡ true → IsDescFlags f
-flags_tells f test = grind (arith, nat_tests)
+flags_of_test : (f : ℕ) → (f == 0) ≡ true → IsDescFlags f
+flags_of_test f test = grind (arith, nat_tests)
 
 -- The values that the call has read since its last mark. For an item they are its values, which
 -- passed their tests. An offer has read ids, or reads the other's avail_event next.
@@ -214,21 +214,21 @@ reads_on config (WritingAvailEvent taken) value reads is = is
 reads_on config (ReadingAvailEntry number more) value reads is =
     let entry = entry_half (avail_entry_of config number) value in
     by_test config _ (is_entry config.sizes entry) (ReadingDescAddressLow number more entry) Refusing [] (refusal field_name.AvailEntry entry)
-    (λ test. (with_entry_word value, ap (λ (r : List Got). r ++ entry_read config number (with_entry_word value) ∷ []) is, refl, entry_tells config.sizes entry test)) (λ _. refl)
+    (λ test. (with_entry_word value, ap (λ (r : List Got). r ++ entry_read config number (with_entry_word value) ∷ []) is, refl, entry_of_test config.sizes entry test)) (λ _. refl)
 reads_on config (ReadingDescAddressLow number more entry) value reads is = (record (is.0) { low = value }, low_taken config number value reads is.0 entry is.1 is.2, is.2, is.3, refl)
 reads_on config (ReadingDescAddressHigh number more entry low) value reads is =
     let read = record (is.0) { high = value } in
     let address : address_of low value ≡ item_address read = ap (λ (l : ℕ). address_of l value) is.4 in
     by_test config _ (is_address config.sizes (address_of low value)) (ReadingDescLength number more entry (address_of low value)) Refusing [] (refusal field_name.DescAddress (address_of low value))
-    (λ test. (read, high_taken config number value reads is.0 entry is.1 is.2, is.2, is.3, address, subst (IsDescAddress config.sizes) address (address_tells config.sizes (address_of low value) test))) (λ _. refl)
+    (λ test. (read, high_taken config number value reads is.0 entry is.1 is.2, is.2, is.3, address, subst (IsDescAddress config.sizes) address (address_of_test config.sizes (address_of low value) test))) (λ _. refl)
 reads_on config (ReadingDescLength number more entry address) value reads is =
     let read = record (is.0) { bytes = value } in
     by_test config _ (is_length config.sizes address value) (ReadingDescFlags number more entry address value) Refusing [] (refusal field_name.DescLength value)
-    (λ test. (read, length_taken config number value reads is.0 entry is.1 is.2, is.2, is.3, is.4, is.5, refl, subst (λ (a : ℕ). IsDescLength config.sizes a value) is.4 (length_tells config.sizes address value test))) (λ _. refl)
+    (λ test. (read, length_taken config number value reads is.0 entry is.1 is.2, is.2, is.3, is.4, is.5, refl, subst (λ (a : ℕ). IsDescLength config.sizes a value) is.4 (length_of_test config.sizes address value test))) (λ _. refl)
 reads_on config (ReadingDescFlags number more entry address bytes) value reads is =
     let read = record (is.0) { flags_word = value } in
     by_test config _ (low_half value == 0) (words_place number more entry address bytes [] (words_for bytes)) Refusing [] (refusal field_name.DescFlags (low_half value))
-    (λ test. words_reads config number more entry address bytes [] (words_for bytes) _ (some_words bytes (subst (λ k. 14 ≤ k) (sym is.6) is.7.0)) (λ left. (read, flags_taken config number value reads is.0 entry is.1 is.2, is.2, is.3, is.4, is.5, is.6, is.7, flags_tells (low_half value) test))) (λ _. refl)
+    (λ test. words_reads config number more entry address bytes [] (words_for bytes) _ (some_words bytes (subst (λ k. 14 ≤ k) (sym is.6) is.7.0)) (λ left. (read, flags_taken config number value reads is.0 entry is.1 is.2, is.2, is.3, is.4, is.5, is.6, is.7, flags_of_test (low_half value) test))) (λ _. refl)
 reads_on config (ReadingFrameWord number more entry address bytes words zero) value reads is = refl
 reads_on config (ReadingFrameWord number more entry address bytes words (suc left)) value reads is =
     let none : (suc left == 0) ≡ false = ne_eqb (suc left) 0 (λ e. absurd (omega arith)) in

@@ -139,19 +139,19 @@ wiring_of vectors = if vectors == 0 then Intx else Msix vectors
 abbrev pub shape_in : World → Shape
 shape_in w = shape_of w.peers w.table w.common w.out
 
--- The region of a world has an address: it is whole pages from 0 on, and the region ends within 64
--- bits. Base 0 stands for Base Address Register 2.
+-- The base of a world is a multiple of a page, and the region ends within 64 bits. Base 0 means
+-- Base Address Register 2.
 abbrev pub IsBase : World → Type 0
 IsBase w = (w.base % 4096 ≡ 0) × (w.base + 4 * word_count (shape_in w) ≤ 2 ^ 64)
 
--- Where guests find a region of so many bytes: at its base, or with base 0 in the smallest window of
--- BAR 2 that holds it.
+-- Where guests find a region of this size: at its base, or with base 0 in the smallest window of BAR
+-- 2 that holds it.
 abbrev pub IsPlaceOf : (bytes base : ℕ) → RegionPlace → Type 0
 IsPlaceOf bytes base (Address a) = (a ≡ base) × (base ≢ 0)
 IsPlaceOf bytes base (Bar2 bits) = (base ≡ 0) × ((bytes ≤ 2 ^ bits) × (2 ^ bits < 2 * bytes))
 
--- Worlds of which devices are made, unless memory runs out: at most 64 vectors, at most 8 peers, the
--- sizes of a region, and a base.
+-- Worlds of which devices are made, unless memory runs out: at most 64 vectors, at most 8 peers,
+-- the sizes of a region, and a base.
 abbrev pub MayMake : World → Type 0
 MayMake w = (w.vectors ≤ 64) × ((w.peers ≤ 8) × (IsShape (shape_in w) × IsBase w))
 

@@ -29,7 +29,7 @@ fn wiring_of(vectors: u32) -> Wiring
     }
 }
 
-/// Returns where guests find a region of so many bytes: at its base, or with base 0 in the smallest
+/// Returns where guests find a region of this size: at its base, or with base 0 in the smallest
 /// window that holds it.
 fn place_of(bytes: u64, base: u64) -> RegionPlace
     requires few { bytes ≤ 2 ^ 24 }

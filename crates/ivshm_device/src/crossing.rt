@@ -12,8 +12,8 @@ pub struct World {
     pub common: u64,
     /// Bytes of an output section.
     pub out: u64,
-    /// The guest-physical address of the region in bytes, a multiple of 4,096. If it is 0 the region
-    /// is at the start of the window of Base Address Register 2.
+    /// The guest-physical address of the region in bytes, a multiple of 4,096. If it is 0 the
+    /// region is at the start of the window of Base Address Register 2.
     pub base: u64,
     /// The number of peers.
     pub peers: u32,

@@ -15,14 +15,14 @@ use crate::{Access, DeviceHandle, Effect, Message, Route, World};
 use pci_space::USUAL_BASE;
 use std::alloc::Global;
 
-/// Makes the devices of a world of 2 to 8 peers; all peers are connected and at reset. The region is
-/// at 4 GiB.
+/// Makes the devices of a world of 2 to 8 peers; all peers are connected and at reset. The region
+/// is at 4 GiB.
 ///
 /// The sizes of the region are in bytes. Each peer has 1 to 64 MSI-X vectors, or INTx if `vectors`
 /// is 0.
-// claim with ivshm_device_new_at: A device is made exactly if the handle is empty and the sizes, the
-//    number of peers, the number of vectors and the base are right, or the answer is NO_MEMORY. Each
-//    refusal has its cause. The device is at reset, and its configuration space says where the
+// claim with ivshm_device_new_at: A device is made exactly if the handle is empty and the sizes,
+//    the number of peers, the number of vectors and the base are right, or the answer is NO_MEMORY.
+//    Each refusal has its cause. The device is at reset, and its configuration space says where the
 //    region is.
 #[unsafe(no_mangle)]
 pub extern "C" fn ivshm_device_new(

@@ -38,7 +38,7 @@ use Rattle.lawful_history.proofs.Owners.{is_same, is_other, not_below}
 use Rattle.lawful_history.proofs.Apart.{Harmless, harmless_law, marks_harmless}
 use Rattle.lawful_history.specs.Permitted.{IsPermittedEvent}
 use Rattle.lawful_history.proofs.There.{there_below, all_there}
-use Rattle.section_map.proofs.Tests.{may_tells, may_denies}
+use Rattle.section_map.proofs.Tests.{may_of_test, may_denies}
 
 abbrev AllHarmless : Shape → List Line → Type 0
 AllHarmless g lines = AllByRecursion (λ line. Harmless g (memory_effect_of line)) lines
@@ -155,7 +155,7 @@ turn_law world p driver (Reads word marks rest) dev past is stays harmless law =
 write_law : (world : World) (p word value : ℕ) (b : Bool) (dev past : List Line) → may_write world.geometry p word ≡ b → AllHarmless world.geometry dev → MemoryLaw world.geometry past →
     MemoryLaw world.geometry (reverse (region_access_lines p (access.Write word value) (if b then Some (step_of (access.Write word value) 0 []) else None) dev) ++ past)
 write_law world p word value true dev past is harmless law =
-    harmless_law world.geometry (line.Write p word value ∷ dev ++ []) past (may_tells world.geometry p word is, all_harmless world.geometry dev [] harmless tt) law
+    harmless_law world.geometry (line.Write p word value ∷ dev ++ []) past (may_of_test world.geometry p word is, all_harmless world.geometry dev [] harmless tt) law
 write_law world p word value false dev past is harmless law = harmless_law world.geometry (line.Denied p word ∷ dev) past (may_denies world.geometry p word is, harmless) law
 
 acted_law : (world : World) (p : ℕ) (a : Access) (dev past : List Line) → AllHarmless world.geometry dev → MemoryLaw world.geometry past →

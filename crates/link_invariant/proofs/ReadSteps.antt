@@ -19,7 +19,7 @@ use Rattle.call_grammar.proofs.OfferLists.{no}
 use Rattle.link_invariant.specs.LinkConfig.{LinkConfig, config_of, fields}
 use Rattle.link_invariant.specs.EndInvariant.{IsNext, Filled, PlaceInvariant, counts, EndInvariant}
 use Rattle.link_invariant.proofs.Forms.{by_test, run_ready, opened, free, moves, refuses}
-use Rattle.split_ring.proofs.Tests.{entry_tells, address_tells, length_tells}
+use Rattle.split_ring.proofs.Tests.{entry_of_test, address_of_test, length_of_test}
 
 -- The invariant of an end at the place after its step.
 abbrev pub StepsTo : LinkConfig → ℕ → (ℕ → ℕ) → End → Place → ℕ → Type 0
@@ -118,7 +118,7 @@ module _ (link_config : LinkConfig) (p : ℕ) (memory : ℕ → ℕ) (end : End)
   pub reads_entry : (number more value : ℕ) → EndInvariant link_config memory p end (ReadingAvailEntry number more) → StepsTo link_config p memory end (ReadingAvailEntry number more) value
   reads_entry number more value a = let h = a.holds in let e = entry_half (number % size_of link_config.sizes) value in
       by_test (λ m x. EndInvariant link_config memory p (with_marks end m) x) (is_avail_entry link_config.sizes e) [] (refusal field_name.AvailEntry e) (ReadingDescAddressLow number more e) Refusing
-      (λ test. moves (ReadingDescAddressLow number more e) (h.0, h.1, entry_tells link_config.sizes e test, h.2) refl a.rests a)
+      (λ test. moves (ReadingDescAddressLow number more e) (h.0, h.1, entry_of_test link_config.sizes e test, h.2) refl a.rests a)
       (λ test. refuses h.0 refl a)
 
   pub reads_low : (number more entry value : ℕ) → EndInvariant link_config memory p end (ReadingDescAddressLow number more entry) → StepsTo link_config p memory end (ReadingDescAddressLow number more entry) value
@@ -127,13 +127,13 @@ module _ (link_config : LinkConfig) (p : ℕ) (memory : ℕ → ℕ) (end : End)
   pub reads_high : (number more entry low value : ℕ) → EndInvariant link_config memory p end (ReadingDescAddressHigh number more entry low) → StepsTo link_config p memory end (ReadingDescAddressHigh number more entry low) value
   reads_high number more entry low value a = let h = a.holds in let address = address_of low value in
       by_test (λ m x. EndInvariant link_config memory p (with_marks end m) x) (is_desc_address link_config.sizes address) [] (refusal field_name.DescAddress address) (ReadingDescLength number more entry address) Refusing
-      (λ test. moves (ReadingDescLength number more entry address) (h.0, h.1, h.2, address_tells link_config.sizes address test, h.3) refl a.rests a)
+      (λ test. moves (ReadingDescLength number more entry address) (h.0, h.1, h.2, address_of_test link_config.sizes address test, h.3) refl a.rests a)
       (λ test. refuses h.0 refl a)
 
   pub reads_length : (number more entry address value : ℕ) → EndInvariant link_config memory p end (ReadingDescLength number more entry address) → StepsTo link_config p memory end (ReadingDescLength number more entry address) value
   reads_length number more entry address value a = let h = a.holds in
       by_test (λ m x. EndInvariant link_config memory p (with_marks end m) x) (is_desc_length link_config.sizes address value) [] (refusal field_name.DescLength value) (ReadingDescFlags number more entry address value) Refusing
-      (λ test. moves (ReadingDescFlags number more entry address value) (h.0, h.1, h.2, h.3, length_tells link_config.sizes address value test, h.4) refl a.rests a)
+      (λ test. moves (ReadingDescFlags number more entry address value) (h.0, h.1, h.2, h.3, length_of_test link_config.sizes address value test, h.4) refl a.rests a)
       (λ test. refuses h.0 refl a)
 
   first_word : (number more entry address bytes count : ℕ) → SHORTEST_FRAME ≤ bytes → count ≡ words_for bytes → PlaceInvariant link_config memory p end (ReadingDescFlags number more entry address bytes) → EndInvariant link_config memory p end (ReadingDescFlags number more entry address bytes) →

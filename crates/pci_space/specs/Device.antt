@@ -15,8 +15,8 @@ use Rattle.pci_space.specs.Place.{usual_place, capability_length, place_row, bas
 abbrev pub row : ℕ → ℕ → ℕ → ℕ → Field
 row place width reset mask = record { place = place; width = width; reset = reset; mask = mask }
 
--- The rows of a device whose region is at this place. Sizes are in bytes. Profile: the places of the
--- two capabilities, the sizes of the windows of BAR 0 and 1, and that both Command bits 2 and 3
+-- The rows of a device whose region is at this place. Sizes are in bytes. Profile: the places of
+-- the two capabilities, the sizes of the windows of BAR 0 and 1, and that both Command bits 2 and 3
 -- exist.
 abbrev pub placed_rows : Shape → ℕ → Wiring → RegionPlace → List Field
 placed_rows shape protocol wiring region =

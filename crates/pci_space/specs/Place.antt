@@ -20,7 +20,7 @@ abbrev pub capability_length : RegionPlace → ℕ
 capability_length (Address base) = 0x20
 capability_length (Bar2 bits) = 0x18
 
--- The row that tells the place: the Base Address, or BAR 2, a prefetchable 64-bit register whose
+-- The row of the place: the Base Address, or BAR 2, a prefetchable 64-bit register whose
 -- low bits are the offset in its window.
 abbrev pub place_row : RegionPlace → Field
 place_row (Address base) = record { place = 0x58; width = 8; reset = base; mask = 0 }

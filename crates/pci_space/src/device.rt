@@ -34,8 +34,8 @@ macro_rules! rows {
 
 /// Returns the configuration space of a device at reset, the same for every peer of a world. The
 /// region is at the usual base address.
-// claim rows, bytes with placed_space.rows, placed_space.bytes, RegionPlace::usual: The device's space is the table of
-//    25 rows, for every geometry, protocol, wiring and place of the region.
+// claim rows, bytes with placed_space.rows, placed_space.bytes, RegionPlace::usual: The device's
+//    space is the table of 25 rows, for every geometry, protocol, wiring and place of the region.
 pub fn device_space(geometry: &Geometry, protocol: u16, wiring: Wiring) -> ConfigSpace
     requires { IsWiring wiring }
     ensures rows { result.rows ≡ device_rows geometry.now protocol wiring }
@@ -111,7 +111,7 @@ fn table_of<const N: usize>(rows: [Field; N]) -> FieldTable<N>
 /// A walk over a device's configuration space at reset finds the geometry, the protocol, the wiring
 /// and the base address of the device, wherever its region is. This function is that law.
 // claim: A walk over the bytes of a device's space finds the sizes, protocol, wiring and base
-//    address that the space was made of, or no base if the region is behind BAR 2.
+//    address that the space was made of, or no base if the region is in the window of BAR 2.
 pub fn walk_finds_the_device()
     ensures { (shape : Shape) (protocol : ℕ) (wiring : Wiring) (region : RegionPlace) (bytes : List ℕ) (answer : _) →
         IsShape shape → protocol < 2 ^ 16 → IsWiring wiring → IsRegionPlace region →

@@ -39,7 +39,7 @@ impl RegionPlace {
         }
     }
 
-    /// Returns the row that tells where the region is.
+    /// Returns the row that says where the region is.
     pub(crate) fn row(self) -> Field
         requires { IsRegionPlace self }
         ensures { result ≡ place_row self }

@@ -8,8 +8,8 @@ either_in : (own own_end table common_end word : ℕ) → ((nat_le own word && n
     ((own ≤ word) × (word < own_end)) ⊎ ((table ≤ word) × (word < common_end))
 either_in own own_end table common_end word is = grind (arith, nat_tests)
 
-pub may_tells : (g : Shape) (peer word : ℕ) → may_write g peer word ≡ true → MayWrite g peer word
-may_tells g peer word is = either_in (section_start g peer) (section_start g peer + g.out) g.table (g.table + g.common) word is
+pub may_of_test : (g : Shape) (peer word : ℕ) → may_write g peer word ≡ true → MayWrite g peer word
+may_of_test g peer word is = either_in (section_start g peer) (section_start g peer + g.out) g.table (g.table + g.common) word is
 
 pub may_test : (g : Shape) (peer word : ℕ) → MayWrite g peer word → may_write g peer word ≡ true
 may_test g peer word (inl own) = let low = own.0 in let high = own.1 in grind (arith, nat_tests)
@@ -22,5 +22,5 @@ pub may_fails : (g : Shape) (peer word : ℕ) → ¬ MayWrite g peer word → ma
 may_fails g peer word denied = by_bool (may_write g peer word) refl
   where
     by_bool : (b : Bool) → may_write g peer word ≡ b → may_write g peer word ≡ false
-    by_bool true is = absurd (denied (may_tells g peer word is))
+    by_bool true is = absurd (denied (may_of_test g peer word is))
     by_bool false is = is

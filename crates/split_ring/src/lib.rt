@@ -23,8 +23,9 @@
 //! - A `Queue` stores every number of its layout, and a contract sees the three from which they
 //!   follow (`specs/Representation`). These three determine the value, so it can be `Copy` and have
 //!   `==`.
-//! - Each range is a fact and a test in `specs/Ranges`. The grammar of calls, the reference programs
-//!   and the proofs of the crates above cite these, so a range is changed there and in its check.
+//! - Each range is a fact and a test in `specs/Ranges`. The grammar of calls, the reference
+//!   programs and the proofs of the crates above cite these, so a range is changed there and in its
+//!   check.
 //! - `specs/Spelling` defines the frame that the words of a foreign section hold at a position. It
 //!   serves other crates; no function of this one cites it.
 #![tactic(auto)]

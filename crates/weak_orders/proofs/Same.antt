@@ -24,7 +24,7 @@ use Rattle.link_invariant.specs.LinkConfig.{LinkConfig, config_of, first_words}
 use Rattle.link_invariant.specs.EndInvariant.{frame_at, start_in, PlaceInvariant}
 use Rattle.link_invariant.specs.Pair.{Polls}
 use Rattle.weak_orders.specs.Memory.{Moment, Action, Starts, Begins, Takes, Fences, Hears, Resets, Does}
-use Rattle.split_ring.proofs.Tests.{flags_tells}
+use Rattle.split_ring.proofs.Tests.{flags_of_test}
 
 passed : (b : Bool) (x : Place) → (if b then x else Refusing) ≢ Refusing → b ≡ true
 passed true x h = refl
@@ -91,7 +91,7 @@ same_look link_config p end (ReadingDescLength number more entry address) v w fs
     let g = subst (Polls link_config b.field gs) (yes (is_desc_length link_config.sizes address w) (ReadingDescFlags number more entry address w) Refusing (passed (is_desc_length link_config.sizes address w) (ReadingDescFlags number more entry address w) b.calm)) b.polls in
     let up = f.0 in same_value link_config p end (ReadingDescLength number more entry address) v w (f.3 ∙ (ap length (sym (frame_more fs gs t number e (omega arith))) ∙ sym g.3))
 same_look link_config p end (ReadingDescFlags number more entry address bytes) v w fs gs t r e a b =
-    let same : desc_flags v ≡ desc_flags w = flags_tells (desc_flags v) (passed (is_desc_flags (desc_flags v)) _ a.calm) ∙ sym (flags_tells (desc_flags w) (passed (is_desc_flags (desc_flags w)) _ b.calm)) in
+    let same : desc_flags v ≡ desc_flags w = flags_of_test (desc_flags v) (passed (is_desc_flags (desc_flags v)) _ a.calm) ∙ sym (flags_of_test (desc_flags w) (passed (is_desc_flags (desc_flags w)) _ b.calm)) in
     (ap (λ (k : ℕ). with_marks end (if is_desc_flags k then [] else refusal field_name.DescFlags k)) same, ap (λ (k : ℕ). if is_desc_flags k then words_place number more entry address bytes [] (words_for bytes) else Refusing) same)
 same_look link_config p end (ReadingFrameWord number more entry address bytes read zero) v w fs gs t r e a b =
     let f = refines end.delivered fs a.rest (frame_in bytes (read ++ v ∷ [])) a.prefix in let g = refines end.delivered gs b.rest (frame_in bytes (read ++ w ∷ [])) b.prefix in

@@ -50,8 +50,8 @@ impl Queue {
     /// `mtu` + `FRAME_OVERHEAD` bytes.
     ///
     /// The error is the first test that fails. It is `BadMtu` if the MTU isn't `LEAST_MTU` to
-    /// `MOST_MTU`, `TooSmall` if no queue size fits the section, `NoSlot` if the data area is shorter
-    /// than a slot.
+    /// `MOST_MTU`, `TooSmall` if no queue size fits the section, `NoSlot` if the data area is
+    /// shorter than a slot.
     // claim queue, fault with Queue::of_version.queue, Queue::of_version.fault: A queue is made
     //    exactly if the MTU, a queue size and a slot fit, tested in this order; otherwise the first
     //    fault is returned with its numbers. The queue has the version asked for.

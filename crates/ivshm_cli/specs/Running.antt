@@ -7,7 +7,7 @@ use Rattle.scenario_text.specs.Spelling.{IsSpelling}
 use Rattle.scenario_text.specs.Running.{not_running}
 use Rattle.record_text.specs.Parts.{Part}
 use Rattle.record_text.specs.RunSpelling.{IsRunSpelling}
-use Rattle.peer_runner.specs.Passes.{IsWhole}
+use Rattle.shared_words.specs.Passes.{IsWhole}
 use Rattle.peer_runner.specs.RunningRecord.{IsRunOf}
 use Rattle.ivshm_cli.specs.declared.runs.Ran.{Ran}
 

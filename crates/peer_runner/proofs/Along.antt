@@ -19,17 +19,17 @@ use Rattle.link_invariant.specs.EndInvariant.{EndInvariant}
 use Rattle.link_invariant.specs.LinkInvariant.{LinkInvariant}
 use Rattle.link_invariant.proofs.AloneKept.{alone_kept}
 use Rattle.link_invariant.proofs.RunsKept.{whole_lem}
-use Rattle.peer_runner.specs.declared.run_setup.RunSetup.{RunSetup}
-use Rattle.peer_runner.specs.RunSetups.{config_in, link_config_of, honest_of, IsFit}
-use Rattle.peer_runner.specs.DerivedStates.{CallAccess, MemoryOp, called, numbered, carried, restarted, DerivedState, begun_if, settled_place, after_access, derived_state, Begins, IsNext}
-use Rattle.peer_runner.specs.SharedMemory.{Appends, Made}
-use Rattle.peer_runner.specs.SharedMemory as made
+use Rattle.shared_words.specs.declared.run_setup.RunSetup.{RunSetup}
+use Rattle.shared_words.specs.RunSetups.{config_in, link_config_of, honest_of, IsFit}
+use Rattle.shared_words.specs.DerivedStates.{CallAccess, MemoryOp, called, numbered, carried, restarted, DerivedState, begun_if, settled_place, after_access, derived_state, Begins, IsNext}
+use Rattle.shared_words.specs.SharedMemory.{Appends, Made}
+use Rattle.shared_words.specs.SharedMemory as made
 use Rattle.peer_runner.specs.ListSays.{access_of, left_in}
 use Rattle.peer_runner.specs.RunningLaws.{end_by, place_by}
-use Rattle.peer_runner.proofs.Standings.{standing_snoc, stand_honest}
-use Rattle.peer_runner.proofs.Keys.{same_who, is_ground, honest_below}
-use Rattle.peer_runner.proofs.Making.{reached_by}
-use Rattle.peer_runner.proofs.Reaching.{reached_runs}
+use Rattle.shared_words.proofs.Standings.{standing_snoc, stand_honest}
+use Rattle.shared_words.proofs.Keys.{same_who, is_ground, honest_below}
+use Rattle.shared_words.proofs.Making.{reached_by}
+use Rattle.shared_words.proofs.Reaching.{reached_runs}
 
 -- The whole, at each moment
 

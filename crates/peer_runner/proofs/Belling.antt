@@ -12,17 +12,18 @@ use Rattle.split_ring.specs.declared.steps.Access.TheVariants as access
 use Rattle.doorbell_irq.specs.declared.route.Route.{Route}
 use Rattle.doorbell_irq.specs.DeviceRules.{bit}
 use Rattle.doorbell_irq.specs.Routes.{bit_for, bit_rung}
-use Rattle.peer_runner.specs.declared.run_setup.RunSetup.{RunSetup}
+use Rattle.shared_words.specs.declared.run_setup.RunSetup.{RunSetup}
 use Rattle.peer_runner.specs.declared.doorbell_paths.DoorbellPath.{DoorbellPath}
 use Rattle.peer_runner.specs.declared.doorbell_paths.DoorbellPath.TheVariants.{Silent, Direct, Guarded}
-use Rattle.peer_runner.specs.DerivedStates.{CallAccess, MemoryOp}
-use Rattle.peer_runner.specs.Actions.{Action}
-use Rattle.peer_runner.specs.Interrupts.{one_if, IsOneShot}
-use Rattle.peer_runner.specs.DoorbellPaths.{nowhere, route_to, doorbell_path_by, doorbell_path_to, is_guarded, rung_by, AreRoutes}
+use Rattle.shared_words.specs.DerivedStates.{CallAccess, MemoryOp}
+use Rattle.shared_words.specs.Actions.{Action}
+use Rattle.shared_words.specs.Interrupts.{one_if, IsOneShot}
+use Rattle.shared_words.specs.PeerRoutes.{nowhere, route_to, AreRoutes}
+use Rattle.peer_runner.specs.DoorbellPaths.{doorbell_path_by, doorbell_path_to, is_guarded, rung_by}
 use Rattle.peer_runner.specs.Turns.{is_set}
-use Rattle.peer_runner.specs.PassView.{PassView}
+use Rattle.shared_words.specs.PassView.{PassView}
 use Rattle.peer_runner.specs.Runners.{MayRingBy, made}
-use Rattle.peer_runner.proofs.Keys.{clash}
+use Rattle.shared_words.proofs.Keys.{clash}
 
 -- A way that touches a word is one to a peer that is there, by one of 64 bits
 abbrev pub Fits : List Route → (target : ℕ) → DoorbellPath → Type 0

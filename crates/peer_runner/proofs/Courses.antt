@@ -18,21 +18,21 @@ use Rattle.doorbell_irq.specs.declared.route.Route.{Route}
 use Rattle.ivs_base.specs.declared.NoMemory.{NoMemory}
 use Rattle.record_text.specs.Parts.{Part}
 use Rattle.record_text.specs.declared.own_trace.OwnTrace.{OwnTrace}
-use Rattle.peer_runner.specs.declared.run_setup.RunSetup.{RunSetup}
-use Rattle.peer_runner.specs.declared.sessions.SessionWord.{SessionWord}
-use Rattle.peer_runner.specs.declared.sessions.SessionWord.TheVariants.{Own, Others}
+use Rattle.shared_words.specs.declared.run_setup.RunSetup.{RunSetup}
+use Rattle.shared_words.specs.declared.sessions.SessionWord.{SessionWord}
+use Rattle.shared_words.specs.declared.sessions.SessionWord.TheVariants.{Own, Others}
 use Rattle.peer_runner.specs.declared.turns.AutoPeer.{AutoPeer}
-use Rattle.peer_runner.specs.PassView.{PassView}
-use Rattle.peer_runner.specs.RunSetups.{config_in}
-use Rattle.peer_runner.specs.DerivedStates.{CallAccess, MemoryOp}
-use Rattle.peer_runner.specs.Actions.{Action}
-use Rattle.peer_runner.specs.Passes.{held, IsOf}
+use Rattle.shared_words.specs.PassView.{PassView}
+use Rattle.shared_words.specs.RunSetups.{config_in}
+use Rattle.shared_words.specs.DerivedStates.{CallAccess, MemoryOp}
+use Rattle.shared_words.specs.Actions.{Action}
+use Rattle.shared_words.specs.Passes.{held, IsOf}
 use Rattle.peer_runner.specs.Turns.{Turn, all_turns, has_turn_left, spent, IsSpanSpent, later, lines_in, lines_of_turns}
 use Rattle.peer_runner.specs.Runners.{Runner, initial_runner, chosen, round_on, finishes, has_finished, turn_met, restarted_on, IsThere, IsAutoPeer}
 use Rattle.peer_runner.specs.Trajectories.{GoesOn, starts, follows, IsOnTrajectory, WentTo}
 use Rattle.peer_runner.specs.Drives.{MayBeAuto, automatic, Did, Drove}
 use Rattle.peer_runner.specs.OwnRecord.{IsTraceOf}
-use Rattle.peer_runner.proofs.Keys.{clash}
+use Rattle.shared_words.proofs.Keys.{clash}
 use Rattle.peer_runner.proofs.Turning.{plan_cut, Chose}
 use Rattle.peer_runner.proofs.Runs.{refused_of, told_snoc, all_spent, all_later, IsCounted, counted_of, far_of, finished_same, there_first, plan_first, lent, did, err_free}
 

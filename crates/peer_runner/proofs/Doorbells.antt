@@ -5,17 +5,17 @@ use native.Mathlib.Decide.{ℕ_discrete, dec_le}
 use Rattle.std.specs.Int.{bit_at}
 use Rattle.std.proofs.lemmas.Nat.Bits.{bit_at_or, bit_at_and, bit_at-pow_same}
 use Rattle.section_map.specs.Geometry.{word_count}
-use Rattle.peer_runner.specs.declared.run_setup.RunSetup.{RunSetup}
-use Rattle.peer_runner.specs.RunSetups.{IsFit}
-use Rattle.peer_runner.specs.DerivedStates.{CallAccess, MemoryOp, called, numbered, restarted}
-use Rattle.peer_runner.specs.Actions.{Action, accessed, rang, looked, cleared}
-use Rattle.peer_runner.specs.Interrupts.{weigh, tally, rings, finds, strikes, interrupt_word, control_word, Doorbells}
-use Rattle.peer_runner.specs.SharedMemory.{Appends}
-use Rattle.peer_runner.specs.Happened.{Happened, without_first}
-use Rattle.peer_runner.specs.Happened as happened
-use Rattle.peer_runner.proofs.Keys.{within}
-use Rattle.peer_runner.proofs.Happening.{high_leaves}
-use Rattle.peer_runner.proofs.Weights.{weigh_here, weigh_else, weigh_still, weigh_none, tally_zero, tally_grows, rings_accessed, rings_here, rings_looked, rings_cleared, finds_accessed, finds_rang, finds_looked, finds_cleared, strikes_accessed, strikes_rang, strikes_looked, strikes_else, rings_else, rings_off}
+use Rattle.shared_words.specs.declared.run_setup.RunSetup.{RunSetup}
+use Rattle.shared_words.specs.RunSetups.{IsFit}
+use Rattle.shared_words.specs.DerivedStates.{CallAccess, MemoryOp, called, numbered, restarted}
+use Rattle.shared_words.specs.Actions.{Action, accessed, rang, looked, cleared}
+use Rattle.shared_words.specs.Interrupts.{weigh, tally, rings, finds, strikes, interrupt_word, control_word, Doorbells}
+use Rattle.shared_words.specs.SharedMemory.{Appends}
+use Rattle.shared_words.specs.Happened.{Happened, without_first}
+use Rattle.shared_words.specs.Happened as happened
+use Rattle.shared_words.proofs.Keys.{within}
+use Rattle.shared_words.proofs.Happening.{high_leaves}
+use Rattle.shared_words.proofs.Weights.{weigh_here, weigh_else, weigh_still, weigh_none, tally_zero, tally_grows, rings_accessed, rings_here, rings_looked, rings_cleared, finds_accessed, finds_rang, finds_looked, finds_cleared, strikes_accessed, strikes_rang, strikes_looked, strikes_else, rings_else, rings_off}
 
 -- one action more, by which no bit is lost that isn't found
 doorbells_on : (key : RunSetup) (memory after : ℕ → ℕ) (acc next : ℕ → List (Action (MemoryOp CallAccess))) (p : ℕ) (t : Action (MemoryOp CallAccess)) → p < key.geometry.peers → Appends acc next p t →

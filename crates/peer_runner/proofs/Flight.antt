@@ -21,13 +21,13 @@ use Rattle.link_invariant.specs.EndInvariant.{frame_at, start_in, Spelled, Opene
 use Rattle.link_invariant.specs.Pair.{freed_at}
 use Rattle.link_invariant.proofs.Fields.{fields_same}
 use Rattle.link_invariant.proofs.Forms.{opened}
-use Rattle.peer_runner.specs.declared.run_setup.RunSetup.{RunSetup}
-use Rattle.peer_runner.specs.RunSetups.{link_config_of, honest_of, IsFit}
-use Rattle.peer_runner.specs.DerivedStates.{CallAccess, MemoryOp, called, DerivedState, begun_if, settled_place, derived_state}
-use Rattle.peer_runner.specs.SharedMemory.{Made}
+use Rattle.shared_words.specs.declared.run_setup.RunSetup.{RunSetup}
+use Rattle.shared_words.specs.RunSetups.{link_config_of, honest_of, IsFit}
+use Rattle.shared_words.specs.DerivedStates.{CallAccess, MemoryOp, called, DerivedState, begun_if, settled_place, derived_state}
+use Rattle.shared_words.specs.SharedMemory.{Made}
 use Rattle.peer_runner.specs.RunningLaws.{end_by, place_by, offered_at}
-use Rattle.peer_runner.proofs.Standings.{standing_none}
-use Rattle.peer_runner.proofs.Keys.{is_ground}
+use Rattle.shared_words.proofs.Standings.{standing_none}
+use Rattle.shared_words.proofs.Keys.{is_ground}
 use Rattle.peer_runner.proofs.Along.{alone_at, noted_written, place_before, Turn, along}
 
 -- Where an offer comes from

@@ -16,12 +16,12 @@ use Rattle.link_invariant.proofs.Fields.{numbers, one_test, field_read}
 use Rattle.link_invariant.proofs.Forms.{run_ready}
 use Rattle.link_invariant.proofs.PairForms.{room_at}
 use Rattle.link_invariant.proofs.WholeKept.{spelled_lem}
-use Rattle.peer_runner.specs.declared.run_setup.RunSetup.{RunSetup}
-use Rattle.peer_runner.specs.RunSetups.{link_config_of, honest_of, IsFit}
-use Rattle.peer_runner.specs.DerivedStates.{CallAccess, MemoryOp}
-use Rattle.peer_runner.specs.SharedMemory.{Made}
+use Rattle.shared_words.specs.declared.run_setup.RunSetup.{RunSetup}
+use Rattle.shared_words.specs.RunSetups.{link_config_of, honest_of, IsFit}
+use Rattle.shared_words.specs.DerivedStates.{CallAccess, MemoryOp}
+use Rattle.shared_words.specs.SharedMemory.{Made}
 use Rattle.peer_runner.specs.RunningLaws.{end_by, place_by, InSession, FlightIsSpelled}
-use Rattle.peer_runner.proofs.Keys.{same_section, is_ground, honest_below}
+use Rattle.shared_words.proofs.Keys.{same_section, is_ground, honest_below}
 use Rattle.peer_runner.proofs.Along.{alone_at}
 use Rattle.peer_runner.proofs.Flight.{SpelledFrom, spelled_same, flight_is}
 

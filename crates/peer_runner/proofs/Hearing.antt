@@ -21,14 +21,15 @@ use Rattle.doorbell_irq.specs.declared.route.Route.{Route}
 use Rattle.doorbell_irq.specs.Routes.{bit_for, bit_rung}
 use Rattle.peer_runner.specs.declared.doorbell_paths.DoorbellPath.{DoorbellPath}
 use Rattle.peer_runner.specs.declared.doorbell_paths.DoorbellPath.TheVariants.{Silent, Direct, Guarded}
-use Rattle.peer_runner.specs.DerivedStates.{CallAccess, ObservedAccess, touch_of, MemoryOp, numbered, carried, restarted, memory_op_by}
-use Rattle.peer_runner.specs.Actions.{Action, accessed, rang, looked, cleared, seen_by}
-use Rattle.peer_runner.specs.Interrupts.{weigh, tally, one_if, rings, finds}
-use Rattle.peer_runner.specs.Passes.{shown}
-use Rattle.peer_runner.specs.DoorbellPaths.{route_to, doorbell_path_by, doorbell_path_to, rung_by}
+use Rattle.shared_words.specs.DerivedStates.{CallAccess, ObservedAccess, touch_of, MemoryOp, numbered, carried, restarted, memory_op_by}
+use Rattle.shared_words.specs.Actions.{Action, accessed, rang, looked, cleared, seen_by}
+use Rattle.shared_words.specs.Interrupts.{weigh, tally, one_if, rings, finds}
+use Rattle.shared_words.specs.Passes.{shown}
+use Rattle.shared_words.specs.PeerRoutes.{route_to}
+use Rattle.peer_runner.specs.DoorbellPaths.{doorbell_path_by, doorbell_path_to, rung_by}
 use Rattle.peer_runner.specs.Turns.{Turn, Looks, Makes, Clears, Rings, Stores, Loads, Enters, Restarts, Running, comes_to, TakesStep, is_set, spent, steps_on, TakesTurn, TakesTurns, acted_by, cleared_by, acted_in, actions_in, interrupt_line, interrupt_lines, is_quiet, lines_of, marks_of, lines_in, lines_of_turns}
 use Rattle.peer_runner.specs.RunningRecord.{how_many, is_interrupt, is_interrupt_by, is_bell}
-use Rattle.peer_runner.proofs.Weights.{weigh_none, weigh_append, weigh_one, tally_same, tally_sum, finds_looked, rings_looked}
+use Rattle.shared_words.proofs.Weights.{weigh_none, weigh_append, weigh_one, tally_same, tally_sum, finds_looked, rings_looked}
 
 -- Counts of lines
 

@@ -4,15 +4,15 @@ use Rattle.std.specs.Prelude.{None}
 use Rattle.section_map.specs.MayWrite.{InSection}
 use Rattle.split_ring.specs.declared.steps.Access.TheVariants as access
 use Rattle.link_invariant.specs.Steps.{Stored}
-use Rattle.peer_runner.specs.declared.run_setup.RunSetup.{RunSetup}
-use Rattle.peer_runner.specs.RunSetups.{honest_of, IsFit}
-use Rattle.peer_runner.specs.DerivedStates.{CallAccess, MemoryOp, called, taken}
-use Rattle.peer_runner.specs.Actions.{Action, accessed}
-use Rattle.peer_runner.specs.Rules.{Memory}
+use Rattle.shared_words.specs.declared.run_setup.RunSetup.{RunSetup}
+use Rattle.shared_words.specs.RunSetups.{honest_of, IsFit}
+use Rattle.shared_words.specs.DerivedStates.{CallAccess, MemoryOp, called, taken}
+use Rattle.shared_words.specs.Actions.{Action, accessed}
+use Rattle.shared_words.specs.Rules.{Memory}
 use Rattle.peer_runner.specs.RunningLaws.{HostileWordsAreFree}
-use Rattle.peer_runner.proofs.Standings.{put, put_here, put_else}
-use Rattle.peer_runner.proofs.Keys.{clash}
-use Rattle.peer_runner.proofs.Touching.{memory_write}
+use Rattle.shared_words.proofs.Standings.{put, put_here, put_else}
+use Rattle.shared_words.proofs.Keys.{clash}
+use Rattle.shared_words.proofs.Touching.{memory_write}
 
 free_lem : (key : RunSetup) (words : List ℕ) (acc : ℕ → List (Action (MemoryOp CallAccess))) (p w n : ℕ) → IsFit key → Memory key words acc → p < key.geometry.peers → honest_of key p ≡ false → InSection key.geometry p w ⊎ (w ≡ p) → n < 2 ^ 32 →
     (next : ℕ → List (Action (MemoryOp CallAccess))) × Memory key (set words w n) next × ((q : ℕ) → q ≢ p → next q ≡ acc q)

@@ -18,18 +18,18 @@ use Rattle.link_invariant.specs.EndInvariant.{IsClear, PlaceInvariant}
 use Rattle.link_invariant.specs.LinkConfig.{section_of}
 use Rattle.link_invariant.specs.Steps.{MemoryAfter}
 use Rattle.link_invariant.proofs.AloneKept.{alone_kept}
-use Rattle.peer_runner.specs.declared.run_setup.RunSetup.{RunSetup}
-use Rattle.peer_runner.specs.RunSetups.{link_config_of, honest_of, IsFit}
-use Rattle.peer_runner.specs.DerivedStates.{CallAccess, MemoryOp, called, numbered, carried, restarted, DerivedState, derived_state, IsNext}
-use Rattle.peer_runner.specs.SharedMemory.{IsOwned, Appends, Made}
-use Rattle.peer_runner.specs.SharedMemory as made
+use Rattle.shared_words.specs.declared.run_setup.RunSetup.{RunSetup}
+use Rattle.shared_words.specs.RunSetups.{link_config_of, honest_of, IsFit}
+use Rattle.shared_words.specs.DerivedStates.{CallAccess, MemoryOp, called, numbered, carried, restarted, DerivedState, derived_state, IsNext}
+use Rattle.shared_words.specs.SharedMemory.{IsOwned, Appends, Made}
+use Rattle.shared_words.specs.SharedMemory as made
 use Rattle.peer_runner.specs.ListSays.{access_of, left_in, state_left, is_after_write, last_written, last_state, has_written}
-use Rattle.peer_runner.specs.Rules.{accesses_by}
+use Rattle.shared_words.specs.Rules.{accesses_by}
 use Rattle.peer_runner.specs.RunningLaws.{end_by, place_by, section_words, StoresAreOwned, AccessesAreCalls, WordsAreWritten, PhasesShow}
-use Rattle.peer_runner.proofs.Standings.{standing_none}
-use Rattle.peer_runner.proofs.Keys.{same_section, honest_below}
+use Rattle.shared_words.proofs.Standings.{standing_none}
+use Rattle.shared_words.proofs.Keys.{same_section, honest_below}
 use Rattle.peer_runner.proofs.Along.{IsQuiet, alone_at, phase_left, place_before, written_after, phase_after, along}
-use Rattle.peer_runner.proofs.Happening.{made_in}
+use Rattle.shared_words.proofs.Happening.{made_in}
 
 -- a fold over one memory operation more
 pub fold_more : {A : Type 0} (f : A → MemoryOp CallAccess → A) (a : A) (list : List (MemoryOp CallAccess)) (d : MemoryOp CallAccess) → fold f a (list ++ d ∷ []) ≡ f (fold f a list) d

@@ -9,15 +9,15 @@ use Rattle.call_grammar.specs.Calls.{EndConfig}
 use Rattle.call_grammar.specs.Places.{Place, RingingOffer, RingingPoll, access_at, is_open}
 use Rattle.link_endpoint.specs.Engine.{Engine}
 use Rattle.doorbell_irq.specs.declared.route.Route.{Route}
-use Rattle.peer_runner.specs.declared.run_setup.RunSetup.{RunSetup}
-use Rattle.peer_runner.specs.DerivedStates.{CallAccess, MemoryOp}
-use Rattle.peer_runner.specs.Actions.{Action}
-use Rattle.peer_runner.specs.RunSetups.{config_in}
+use Rattle.shared_words.specs.declared.run_setup.RunSetup.{RunSetup}
+use Rattle.shared_words.specs.DerivedStates.{CallAccess, MemoryOp}
+use Rattle.shared_words.specs.Actions.{Action}
+use Rattle.shared_words.specs.RunSetups.{config_in}
 use Rattle.lawful_history.specs.declared.line.Line.{Line}
 use Rattle.lawful_history.specs.declared.line.Line.TheVariants as line
 use Rattle.peer_runner.specs.Turns.{interrupt_line, interrupt_lines, sleeps, is_below}
 use Rattle.peer_runner.specs.Runners.{Runner, MayRingBy, due_of, looks_now, RunnerRefines}
-use Rattle.peer_runner.proofs.Keys.{clash}
+use Rattle.shared_words.proofs.Keys.{clash}
 
 pub looks_at : (own mine : Route) (due dues : ℕ) (looks before : Option ℕ) (result : Bool) → result ≡ looks_now own due looks → own ≡ mine → due ≡ dues → before ≡ looks → looks_now mine dues before ≡ result
 looks_at own mine due dues looks before result is same now was = sym (is ∙ (λ i. looks_now (same i) (now i) (sym was i)))

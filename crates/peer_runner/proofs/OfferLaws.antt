@@ -16,14 +16,14 @@ use Rattle.link_invariant.specs.LinkConfig.{LinkConfig, config_of}
 use Rattle.link_invariant.specs.EndInvariant.{HasRoom, EndInvariant}
 use Rattle.link_invariant.specs.Pair.{freed_at}
 use Rattle.link_invariant.proofs.Fields.{numbers, ring_apart}
-use Rattle.peer_runner.specs.declared.run_setup.RunSetup.{RunSetup}
-use Rattle.peer_runner.specs.RunSetups.{link_config_of, honest_of, IsFit}
-use Rattle.peer_runner.specs.DerivedStates.{CallAccess, MemoryOp, called, numbered, carried, restarted, DerivedState, begun_if, settled_place, derived_state}
-use Rattle.peer_runner.specs.SharedMemory.{Made}
+use Rattle.shared_words.specs.declared.run_setup.RunSetup.{RunSetup}
+use Rattle.shared_words.specs.RunSetups.{link_config_of, honest_of, IsFit}
+use Rattle.shared_words.specs.DerivedStates.{CallAccess, MemoryOp, called, numbered, carried, restarted, DerivedState, begun_if, settled_place, derived_state}
+use Rattle.shared_words.specs.SharedMemory.{Made}
 use Rattle.peer_runner.specs.ListSays.{access_of, words_of, unless_call, unless_begun, call_writes}
 use Rattle.peer_runner.specs.RunningLaws.{end_by, place_by, offered_at, IsOfFrame, OpenOfferStores}
-use Rattle.peer_runner.proofs.Standings.{standing_none}
-use Rattle.peer_runner.proofs.Keys.{same_section, is_ground, honest_below}
+use Rattle.shared_words.proofs.Standings.{standing_none}
+use Rattle.shared_words.proofs.Keys.{same_section, is_ground, honest_below}
 use Rattle.peer_runner.proofs.Along.{IsQuiet, alone_at, place_before, Turn, along}
 use Rattle.peer_runner.proofs.ListLaws.{fold_more}
 use Rattle.peer_runner.proofs.Flight.{tell_none, none_some, goes_on}

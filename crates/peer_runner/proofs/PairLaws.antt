@@ -17,17 +17,17 @@ use Rattle.link_invariant.specs.LinkInvariant.{SectionSpells}
 use Rattle.link_invariant.proofs.Fields.{numbers, one_test, field_read, fields_same}
 use Rattle.link_invariant.proofs.Forms.{run_ready}
 use Rattle.link_invariant.proofs.WholeKept.{spelled_lem}
-use Rattle.peer_runner.specs.declared.run_setup.RunSetup.{RunSetup}
-use Rattle.peer_runner.specs.RunSetups.{link_config_of, honest_of, IsFit}
-use Rattle.peer_runner.specs.DerivedStates.{CallAccess, MemoryOp, derived_state}
-use Rattle.peer_runner.specs.SharedMemory.{Made}
+use Rattle.shared_words.specs.declared.run_setup.RunSetup.{RunSetup}
+use Rattle.shared_words.specs.RunSetups.{link_config_of, honest_of, IsFit}
+use Rattle.shared_words.specs.DerivedStates.{CallAccess, MemoryOp, derived_state}
+use Rattle.shared_words.specs.SharedMemory.{Made}
 use Rattle.peer_runner.specs.RunningLaws.{end_by, place_by, InSession, NeverRefuses, OtherOpensNone, WhereEitherAttends, PairKeeps, AskedIsRung, ReadValuesAreAsSent}
-use Rattle.peer_runner.proofs.Standings.{put, put_here, put_else}
-use Rattle.peer_runner.proofs.Keys.{same_section, is_ground, clash}
+use Rattle.shared_words.proofs.Standings.{put, put_here, put_else}
+use Rattle.shared_words.proofs.Keys.{same_section, is_ground, clash}
 use Rattle.peer_runner.proofs.FlightLaws.{freed_below, flight_lem}
 use Rattle.peer_runner.proofs.HeldLaws.{as_sent}
-use Rattle.peer_runner.proofs.Making.{reached_by}
-use Rattle.peer_runner.proofs.Woken.{never_missed}
+use Rattle.shared_words.proofs.Making.{reached_by}
+use Rattle.shared_words.proofs.Woken.{never_missed}
 use Rattle.peer_runner.proofs.Along.{whole_at, alone_at}
 
 -- Frames in flight of an end that was reset

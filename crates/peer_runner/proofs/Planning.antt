@@ -26,14 +26,14 @@ use Rattle.link_endpoint.specs.Refinement.{RefinesAt}
 use Rattle.link_endpoint.specs.Plan.{Plan, fresh_plan}
 use Rattle.lawful_history.specs.Sides.{traffic_vector}
 use Rattle.lawful_history.specs.Peers.{Storms, Peer, at_start}
-use Rattle.peer_runner.specs.declared.run_setup.RunSetup.{RunSetup}
-use Rattle.peer_runner.specs.RunSetups.{config_in, honest_of, IsMadeFor}
-use Rattle.peer_runner.specs.Interrupts.{one_if}
+use Rattle.shared_words.specs.declared.run_setup.RunSetup.{RunSetup}
+use Rattle.shared_words.specs.RunSetups.{config_in, honest_of, IsMadeFor}
+use Rattle.shared_words.specs.Interrupts.{one_if}
 use Rattle.peer_runner.specs.Turns.{all_turns}
 use Rattle.peer_runner.specs.OwnRecord.{after_act, after_acts, span_in, spans_of, start_of}
 use Rattle.peer_runner.specs.Runners.{IsFrame}
 use Rattle.peer_runner.specs.Drives.{automatic, storming, MayBeAuto, gathered, seeded, Gathers, Seeds}
-use Rattle.peer_runner.proofs.Keys.{clash}
+use Rattle.shared_words.proofs.Keys.{clash}
 
 -- Lists of acts
 

@@ -9,13 +9,13 @@ use Rattle.scenario_text.specs.Running.{has_turn}
 use Rattle.lawful_history.specs.Peers.{Peer}
 use Rattle.record_text.specs.declared.own_trace.OwnTrace.{OwnTrace}
 use Rattle.record_text.specs.OwnParts.{part_of}
-use Rattle.peer_runner.specs.declared.run_setup.RunSetup.{RunSetup}
+use Rattle.shared_words.specs.declared.run_setup.RunSetup.{RunSetup}
 use Rattle.peer_runner.specs.declared.driving.PeerPlan.{PeerPlan}
-use Rattle.peer_runner.specs.PassView.{PassView}
-use Rattle.peer_runner.specs.RunSetups.{IsMadeFor}
-use Rattle.peer_runner.specs.DerivedStates.{CallAccess, MemoryOp}
-use Rattle.peer_runner.specs.Actions.{Action}
-use Rattle.peer_runner.specs.Passes.{IsOf, held, lower_pass, upper_pass, join_passes}
+use Rattle.shared_words.specs.PassView.{PassView}
+use Rattle.shared_words.specs.RunSetups.{IsMadeFor}
+use Rattle.shared_words.specs.DerivedStates.{CallAccess, MemoryOp}
+use Rattle.shared_words.specs.Actions.{Action}
+use Rattle.shared_words.specs.Passes.{IsOf, held, lower_pass, upper_pass, join_passes}
 use Rattle.peer_runner.specs.Turns.{all_turns}
 use Rattle.peer_runner.specs.OwnRecord.{IsTraceOf, start_of, spans_of}
 use Rattle.peer_runner.specs.Drives.{starting, MayDrive, IsPlan, Did, RanIf, RanOne, RanAll, BothOk}

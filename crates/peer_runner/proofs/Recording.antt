@@ -19,24 +19,24 @@ use Rattle.lawful_history.specs.Storm.{storm_step}
 use Rattle.record_text.specs.Parts.{Part, peers_of, running_peers}
 use Rattle.record_text.specs.declared.own_trace.OwnTrace.{OwnTrace}
 use Rattle.record_text.specs.OwnParts.{part_of}
-use Rattle.peer_runner.specs.declared.run_setup.RunSetup.{RunSetup}
-use Rattle.peer_runner.specs.PassView.{PassView}
-use Rattle.peer_runner.specs.RunSetups.{world_in, config_in, honest_of, IsMadeFor}
-use Rattle.peer_runner.specs.Actions.{Action, accesses_in}
-use Rattle.peer_runner.specs.DerivedStates.{CallAccess, MemoryOp, event_word, DerivedState, initial_derived_state, derived_state, NeverMarked}
+use Rattle.shared_words.specs.declared.run_setup.RunSetup.{RunSetup}
+use Rattle.shared_words.specs.PassView.{PassView}
+use Rattle.shared_words.specs.RunSetups.{world_in, config_in, honest_of, IsMadeFor}
+use Rattle.shared_words.specs.Actions.{Action, accesses_in}
+use Rattle.shared_words.specs.DerivedStates.{CallAccess, MemoryOp, event_word, DerivedState, initial_derived_state, derived_state, NeverMarked}
 use Rattle.doorbell_irq.specs.Routes.{is_intx}
-use Rattle.peer_runner.specs.Interrupts.{weigh, tally, one_if, rings, finds, AreRung}
-use Rattle.peer_runner.specs.Rules.{accesses_by, list_of, SessionsAreLearned, CarriesNone, NoneIsMissed, AllIsLearned, IsLearned}
-use Rattle.peer_runner.specs.Passes.{held, lower_pass, join_passes, shown, actions_of}
+use Rattle.shared_words.specs.Interrupts.{weigh, tally, one_if, rings, finds, AreRung}
+use Rattle.shared_words.specs.Rules.{accesses_by, list_of, SessionsAreLearned, CarriesNone, NoneIsMissed, AllIsLearned, IsLearned}
+use Rattle.shared_words.specs.Passes.{held, lower_pass, join_passes, shown, actions_of}
 use Rattle.doorbell_irq.specs.declared.route.Route.{Route}
-use Rattle.peer_runner.specs.DoorbellPaths.{AreRoutesOf}
+use Rattle.shared_words.specs.PeerRoutes.{AreRoutesOf}
 use Rattle.peer_runner.specs.Turns.{Running, comes_to, all_turns, TakesTurns, lines_of_turns}
 use Rattle.peer_runner.specs.OwnRecord.{IsTraceOf, start_of, spans_of, IsOwnRecord}
 use Rattle.peer_runner.specs.RunningRecord.{RecordReader, initial_reader, reader_after_lines, reader_of_lines, reader_of_part, side_in, ReaderMatches, AreWoken, lines_if, lines_by, refuses, how_many, is_interrupt, is_interrupt_by, is_bell, bells_in, InterruptsMatch, ArePaired, CarryNone, IsRunOf}
 use Rattle.peer_runner.specs.Drives.{storm_in, Did, HasRun, RanIf, RanOne, RanAll}
-use Rattle.peer_runner.proofs.Standings.{standing_none}
-use Rattle.peer_runner.proofs.Actions.{accesses_none}
-use Rattle.peer_runner.proofs.Weights.{weigh_none, tally_zero, tally_first}
+use Rattle.shared_words.proofs.Standings.{standing_none}
+use Rattle.shared_words.proofs.Actions.{accesses_none}
+use Rattle.shared_words.proofs.Weights.{weigh_none, tally_zero, tally_first}
 use Rattle.peer_runner.proofs.Hearing.{many_none, Tells, turns_tell}
 
 -- Own records

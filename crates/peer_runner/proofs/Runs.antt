@@ -34,28 +34,29 @@ use Rattle.pair_sessions.specs.Numbers.{Numbers, numbers_after}
 use Rattle.record_text.specs.OwnLines.{is_own, AreOwn}
 use Rattle.step_lines.specs.Plans.{IsPlanOf}
 use Rattle.step_lines.proofs.Framing.{marks_frames}
-use Rattle.peer_runner.specs.declared.run_setup.RunSetup.{RunSetup}
-use Rattle.peer_runner.specs.declared.sessions.SessionWord.{SessionWord}
-use Rattle.peer_runner.specs.declared.sessions.SessionWord.TheVariants.{Own, Others}
-use Rattle.peer_runner.specs.PassView.{PassView}
-use Rattle.peer_runner.specs.RunSetups.{config_in}
-use Rattle.peer_runner.specs.DerivedStates.{event_word, CallAccess, MemoryOp, memory_op_by, touch_of, restarted, DerivedState, initial_derived_state, derived_state, NeverMarked}
-use Rattle.peer_runner.specs.Actions.{Action, accessed, looked, seen_by, accesses_in}
-use Rattle.peer_runner.specs.Passes.{shown, held}
+use Rattle.shared_words.specs.declared.run_setup.RunSetup.{RunSetup}
+use Rattle.shared_words.specs.declared.sessions.SessionWord.{SessionWord}
+use Rattle.shared_words.specs.declared.sessions.SessionWord.TheVariants.{Own, Others}
+use Rattle.shared_words.specs.PassView.{PassView}
+use Rattle.shared_words.specs.RunSetups.{config_in}
+use Rattle.shared_words.specs.DerivedStates.{event_word, CallAccess, MemoryOp, memory_op_by, touch_of, restarted, DerivedState, initial_derived_state, derived_state, NeverMarked}
+use Rattle.shared_words.specs.Actions.{Action, accessed, looked, seen_by, accesses_in}
+use Rattle.shared_words.specs.Passes.{shown, held}
 use Rattle.doorbell_irq.specs.declared.route.Route.{Route}
 use Rattle.peer_runner.specs.declared.doorbell_paths.DoorbellPath.{DoorbellPath}
 use Rattle.peer_runner.specs.declared.doorbell_paths.DoorbellPath.TheVariants.{Silent, Direct, Guarded}
 use Rattle.peer_runner.specs.declared.doorbell_paths.Done.{Done}
 use Rattle.peer_runner.specs.declared.doorbell_paths.Done.TheVariants.{Stepped, Cleared, Rung}
-use Rattle.peer_runner.specs.DoorbellPaths.{route_to, doorbell_path_to, is_guarded, doorbell_path_in, rung_by}
+use Rattle.shared_words.specs.PeerRoutes.{route_to}
+use Rattle.peer_runner.specs.DoorbellPaths.{doorbell_path_to, is_guarded, doorbell_path_in, rung_by}
 use Rattle.peer_runner.specs.Turns.{Turn, Looks, Makes, Clears, Enters, Restarts, Running, comes_to, all_turns, has_turn_left, spent, IsSpanSpent, later, TakesStep, StepsTo, ComesToSet, sleeps, is_below, looks_due, looks_next, sets, opens, steps_on, is_set, cleared_to, skipped, restarts_to, TakesTurn, TakesTurns, is_end, has_ended, is_finished, acted_by, cleared_by, acted_in, actions_in, interrupt_line, interrupt_lines, is_quiet, marks_of, lines_in, lines_of_turns}
 use Rattle.peer_runner.specs.Runners.{Runner, start_auto, initial_runner, peer_of, running_of, chosen, round_on, call_chosen, finishes, has_finished, place_in, taken_of, value_done, done_of, stepped_turn, turn_of, IsDone, awaits_ring, due_of, looks_now, due_word, memory_op_met, turn_met, numbers_met, met_on, restarted_on, is_first, turn_on, held_on, stepped_on, turned, HasMet, MayRingBy, RunnerRefines, IsThere}
 use Rattle.peer_runner.specs.Trajectories.{IsNoLook, GoesOn, by_look, by_word, by_step, by_reset, Trajectory, starts, follows}
 use Rattle.peer_runner.specs.Drives.{storm_in, automatic, MayBeAuto, Did}
-use Rattle.peer_runner.proofs.Standings.{standing_none}
-use Rattle.peer_runner.proofs.Actions.{accesses_none, accesses_both}
+use Rattle.shared_words.proofs.Standings.{standing_none}
+use Rattle.shared_words.proofs.Actions.{accesses_none, accesses_both}
 use Rattle.peer_runner.proofs.Refusing.{none_refused, refused_more}
-use Rattle.peer_runner.proofs.Keys.{clash}
+use Rattle.shared_words.proofs.Keys.{clash}
 use Rattle.peer_runner.specs.RunningRecord.{refuses, initial_reader, reader_after_lines, reader_of_lines, ReaderMatches}
 use Rattle.peer_runner.proofs.Turning.{shut, settled_closed, met_place, met_before, IsEntering, IsMaking, stepped_kind}
 use Rattle.peer_runner.proofs.Telling.{tells_none, tells_both, Told, told_is, told_first, looked_told, met_told, restarted_told, turned_told}

@@ -11,17 +11,17 @@ use Rattle.link_invariant.proofs.RunsKept.{whole_lem}
 use Rattle.pair_sessions.specs.Numbers.{no_numbers, WordIs}
 use Rattle.pair_sessions.proofs.Numbering.{low_writes, word_step, word_reset, word_stored, word_like}
 use Rattle.pair_sessions.proofs.Paired.{paired_lem}
-use Rattle.peer_runner.specs.RunSetups.{link_config_of, honest_of}
-use Rattle.peer_runner.specs.DerivedStates.{DerivedState, derived_state}
-use Rattle.peer_runner.specs.Rules.{session_words, accesses_by}
+use Rattle.shared_words.specs.RunSetups.{link_config_of, honest_of}
+use Rattle.shared_words.specs.DerivedStates.{DerivedState, derived_state}
+use Rattle.shared_words.specs.Rules.{session_words, accesses_by}
 use Rattle.peer_runner.specs.RunningLaws.{InSession, SessionWordsAreNumbers, HostileSessionsAreNone, SessionsArePaired}
-use Rattle.peer_runner.proofs.Reaches.{OnlyComes, Reached}
-use Rattle.peer_runner.proofs.Reaches as reaches
-use Rattle.peer_runner.proofs.Reaching.{ends_of, places_of, numbers_of, reached_runs, reached_numbered}
-use Rattle.peer_runner.proofs.Making.{reached_by}
-use Rattle.peer_runner.proofs.Besides.{hostile_none}
-use Rattle.peer_runner.proofs.Keys.{is_ground, honest_below}
-use Rattle.peer_runner.proofs.Happening.{made_in}
+use Rattle.shared_words.proofs.Reaches.{OnlyComes, Reached}
+use Rattle.shared_words.proofs.Reaches as reaches
+use Rattle.shared_words.proofs.Reaching.{ends_of, places_of, numbers_of, reached_runs, reached_numbered}
+use Rattle.shared_words.proofs.Making.{reached_by}
+use Rattle.shared_words.proofs.Besides.{hostile_none}
+use Rattle.shared_words.proofs.Keys.{is_ground, honest_below}
+use Rattle.shared_words.proofs.Happening.{made_in}
 
 -- The word of an honest end, whatever the other stores
 

@@ -19,21 +19,22 @@ use Rattle.step_lines.specs.declared.storm.Storm.{Storm}
 use Rattle.step_lines.specs.Storms.{IsStormOf}
 use Rattle.atomic_table.specs.Seated.{TableId}
 use Rattle.doorbell_irq.specs.declared.route.Route.{Route}
-use Rattle.peer_runner.specs.declared.run_setup.RunSetup.{RunSetup}
+use Rattle.shared_words.specs.declared.run_setup.RunSetup.{RunSetup}
 use Rattle.peer_runner.specs.declared.doorbell_paths.Done.{Done}
 use Rattle.peer_runner.specs.declared.doorbell_paths.Done.TheVariants.{Stepped, Cleared, Rung}
-use Rattle.peer_runner.specs.PassView.{PassView}
-use Rattle.peer_runner.specs.RunSetups.{world_in, config_in, honest_of}
-use Rattle.peer_runner.specs.DerivedStates.{CallAccess, MemoryOp, restarted}
-use Rattle.peer_runner.specs.Actions.{Action, accessed}
-use Rattle.peer_runner.specs.DoorbellPaths.{route_to, is_guarded, doorbell_path_in}
-use Rattle.peer_runner.specs.Passes.{IsOf, shown, added, held}
-use Rattle.peer_runner.specs.Rules.{front}
+use Rattle.shared_words.specs.PassView.{PassView}
+use Rattle.shared_words.specs.RunSetups.{world_in, config_in, honest_of}
+use Rattle.shared_words.specs.DerivedStates.{CallAccess, MemoryOp, restarted}
+use Rattle.shared_words.specs.Actions.{Action, accessed}
+use Rattle.shared_words.specs.PeerRoutes.{route_to}
+use Rattle.peer_runner.specs.DoorbellPaths.{is_guarded, doorbell_path_in}
+use Rattle.shared_words.specs.Passes.{IsOf, shown, added, held}
+use Rattle.shared_words.specs.Rules.{front}
 use Rattle.peer_runner.specs.Turns.{Turn, Restarts, Running, comes_to, all_turns, has_turn_left, spent, later, IsSpanSpent, is_below, looks_next, opens, steps_on, is_set, cleared_to, restarts_to, TakesTurn, TakesTurns, actions_in, lines_of, lines_in, lines_of_turns}
 use Rattle.peer_runner.specs.Runners.{value_done, done_of, turn_of, drawn_lines, IsDone, awaits_ring, MayRingBy, made}
 use Rattle.peer_runner.specs.OwnRecord.{IsTraceOf}
 use Rattle.peer_runner.specs.Drives.{storm_in, storm_on, storming, Did, Drove}
-use Rattle.peer_runner.proofs.Keys.{clash}
+use Rattle.shared_words.proofs.Keys.{clash}
 use Rattle.peer_runner.proofs.Turning.{made_held, done_one}
 use Rattle.peer_runner.proofs.Runs.{takes_none, takes_snoc, actions_none, actions_on, shown_on, told_none, told_snoc, all_append, turn_own, restart_own, all_spent, all_later, err_free}
 

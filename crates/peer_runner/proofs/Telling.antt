@@ -27,15 +27,15 @@ use Rattle.link_endpoint.specs.Plan.{place_for}
 use Rattle.peer_runner.specs.declared.doorbell_paths.Done.{Done}
 use Rattle.peer_runner.specs.declared.doorbell_paths.Done.TheVariants.{Stepped, Cleared, Rung}
 use Rattle.peer_runner.specs.DoorbellPaths.{is_guarded, doorbell_path_in}
-use Rattle.peer_runner.specs.DerivedStates.{FrameNumber, accepted_last, delivered_next, DoorbellRequest, Nowhere, Written, At, event_word, request_after_access, lapsed, request_after_marks, Wake, wake_after, wake_on}
+use Rattle.shared_words.specs.DerivedStates.{FrameNumber, accepted_last, delivered_next, DoorbellRequest, Nowhere, Written, At, event_word, request_after_access, lapsed, request_after_marks, Wake, wake_after, wake_on}
 use Rattle.peer_runner.specs.Turns.{Turn, Looks, Enters, Restarts, interrupt_line, interrupt_lines, finds_nothing, is_quiet, lines_of, lines_in}
 use Rattle.peer_runner.specs.RunningRecord.{RecordReader, initial_reader, side_in, with_carried, reader_after_line, reader_after_lines, ReaderMatches}
 use Rattle.peer_runner.specs.Runners.{touches, Runner, initial_runner, chosen, call_chosen, place_in, value_done, IsDone, awaits_ring, due_word, turn_met, met_on, restarted_on, is_first, looked_on, held_on, stepped_on, turned, lines_on, woken_on, derived_state_of, HasMet}
-use Rattle.peer_runner.specs.declared.sessions.SessionWord.{SessionWord}
-use Rattle.peer_runner.specs.declared.sessions.SessionWord.TheVariants.{Own, Others}
-use Rattle.peer_runner.proofs.Keys.{clash}
+use Rattle.shared_words.specs.declared.sessions.SessionWord.{SessionWord}
+use Rattle.shared_words.specs.declared.sessions.SessionWord.TheVariants.{Own, Others}
+use Rattle.shared_words.proofs.Keys.{clash}
 use Rattle.peer_runner.proofs.Turning.{shut, held_guards, held_line, turned_held, turned_stepped, IsEntering, IsMaking, stepped_kind}
-use Rattle.peer_runner.proofs.Waking.{HasNoLook, IsPlain, plain_marks, plain_asked, plain_wake_missed, lapsed_by, lapsed_not, lapsed_free, lapsed_by_free, more_than, empty_marks, AsksAt, free_asks, asks_on}
+use Rattle.shared_words.proofs.Waking.{HasNoLook, IsPlain, plain_marks, plain_asked, plain_wake_missed, lapsed_by, lapsed_not, lapsed_free, lapsed_by_free, more_than, empty_marks, AsksAt, free_asks, asks_on}
 
 -- Lines one after another
 

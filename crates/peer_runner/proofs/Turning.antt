@@ -34,27 +34,27 @@ use Rattle.step_lines.specs.Plans.{IsPlanOf}
 use Rattle.step_lines.specs.Places.{HasFrames}
 use Rattle.step_lines.proofs.Framing.{first_frames, next_frames}
 use Rattle.step_lines.proofs.Marks.{busy_next, marks_now}
-use Rattle.peer_runner.specs.declared.run_setup.RunSetup.{RunSetup}
-use Rattle.peer_runner.specs.PassView.{PassView}
-use Rattle.peer_runner.specs.RunSetups.{config_in, link_config_of, honest_of, IsFit}
-use Rattle.peer_runner.specs.DerivedStates.{CallAccess, MemoryOp, called, numbered, carried, restarted, taken, Wake, wake_on, DerivedState, begun_if, moved, settled_place, settled, after_access, after_memory_op, derived_state, Begins, IsNext}
-use Rattle.peer_runner.specs.Actions.{Action, accessed, looked, accesses_in}
-use Rattle.peer_runner.specs.Passes.{added, held}
+use Rattle.shared_words.specs.declared.run_setup.RunSetup.{RunSetup}
+use Rattle.shared_words.specs.PassView.{PassView}
+use Rattle.shared_words.specs.RunSetups.{config_in, link_config_of, honest_of, IsFit}
+use Rattle.shared_words.specs.DerivedStates.{CallAccess, MemoryOp, called, numbered, carried, restarted, taken, Wake, wake_on, DerivedState, begun_if, moved, settled_place, settled, after_access, after_memory_op, derived_state, Begins, IsNext}
+use Rattle.shared_words.specs.Actions.{Action, accessed, looked, accesses_in}
+use Rattle.shared_words.specs.Passes.{added, held}
 use Rattle.doorbell_irq.specs.declared.route.Route.{Route}
 use Rattle.peer_runner.specs.declared.doorbell_paths.DoorbellPath.{DoorbellPath}
 use Rattle.peer_runner.specs.declared.doorbell_paths.DoorbellPath.TheVariants.{Silent, Direct, Guarded}
 use Rattle.peer_runner.specs.declared.doorbell_paths.Done.{Done}
 use Rattle.peer_runner.specs.declared.doorbell_paths.Done.TheVariants.{Stepped, Cleared, Rung}
 use Rattle.peer_runner.specs.DoorbellPaths.{doorbell_path_to, is_guarded, doorbell_path_in, rung_by}
-use Rattle.peer_runner.specs.Rules.{front}
+use Rattle.shared_words.specs.Rules.{front}
 use Rattle.peer_runner.specs.Turns.{Makes, Clears, Enters, opens, is_end, cleared_by, marks_of, lines_in}
 use Rattle.peer_runner.specs.Runners.{Runner, IsFrame, chosen, round_on, call_chosen, finishes, has_finished, place_in, touches, taken_of, MayMake, made, value_done, done_of, stepped_turn, turn_of, stepped_lines, done_lines, IsDone, awaits_ring, MayRingBy, looked_on, due_word, state_for, memory_op_met, met_on, restarted_on, is_first, turn_on, held_on, stepped_on, turned, lines_on, derived_state_of, HasMet, RunnerRefines, IsThere, IsAutoPeer, Turns}
-use Rattle.peer_runner.specs.declared.sessions.SessionWord.{SessionWord}
-use Rattle.peer_runner.specs.declared.sessions.SessionWord.TheVariants.{Own, Others}
+use Rattle.shared_words.specs.declared.sessions.SessionWord.{SessionWord}
+use Rattle.shared_words.specs.declared.sessions.SessionWord.TheVariants.{Own, Others}
 use Rattle.peer_runner.specs.declared.turns.AutoPeer.{AutoPeer}
-use Rattle.peer_runner.proofs.Standings.{standing_snoc, stand_honest}
-use Rattle.peer_runner.proofs.Actions.{accesses_none, accesses_both, accesses_snoc}
-use Rattle.peer_runner.proofs.Keys.{clash, section_ends}
+use Rattle.shared_words.proofs.Standings.{standing_snoc, stand_honest}
+use Rattle.shared_words.proofs.Actions.{accesses_none, accesses_both, accesses_snoc}
+use Rattle.shared_words.proofs.Keys.{clash, section_ends}
 
 pub shut : (place : Place) → is_open place ≡ false → place ≡ Closed
 shut Closed is = refl

@@ -13,15 +13,16 @@ use Rattle.link_endpoint.specs.Plan.{Plan}
 use Rattle.link_endpoint.specs.Refinement.{RefinesAt}
 use Rattle.link_endpoint.specs.declared.auto.Choice.{Choice}
 use Rattle.step_lines.specs.Plans.{IsPlanOf}
-use Rattle.peer_runner.specs.declared.run_setup.RunSetup.{RunSetup}
+use Rattle.shared_words.specs.declared.run_setup.RunSetup.{RunSetup}
 use Rattle.peer_runner.specs.declared.context.PeerContext.{PeerContext}
 use Rattle.peer_runner.specs.declared.turns.AutoPeer.{AutoPeer}
 use Rattle.peer_runner.specs.declared.doorbell_paths.Done.{Done}
-use Rattle.peer_runner.specs.PassView.{PassView}
-use Rattle.peer_runner.specs.RunSetups.{config_in, honest_of}
-use Rattle.peer_runner.specs.DerivedStates.{DerivedState}
-use Rattle.peer_runner.specs.DoorbellPaths.{AreRoutes, is_guarded, doorbell_path_in}
-use Rattle.peer_runner.specs.Passes.{IsFirstIn, state_in, IsNextIn}
+use Rattle.shared_words.specs.PassView.{PassView}
+use Rattle.shared_words.specs.RunSetups.{config_in, honest_of}
+use Rattle.shared_words.specs.DerivedStates.{DerivedState}
+use Rattle.shared_words.specs.PeerRoutes.{AreRoutes}
+use Rattle.peer_runner.specs.DoorbellPaths.{is_guarded, doorbell_path_in}
+use Rattle.shared_words.specs.Passes.{IsFirstIn, state_in, IsNextIn}
 use Rattle.peer_runner.specs.Turns.{all_turns, has_turn_left, spent, later, lines_of_turns}
 use Rattle.peer_runner.specs.Runners.{Runner, has_finished, place_in, turned, Turns}
 use Rattle.peer_runner.specs.Trajectories.{IsOnTrajectory, WentTo}

@@ -17,18 +17,18 @@ use Rattle.lawful_history.specs.Storm.{storm_step, storm_after}
 use Rattle.lawful_history.specs.Peers.{Chooses, Storms, Peer, at_start}
 use Rattle.record_text.specs.declared.own_trace.OwnTrace.{OwnTrace}
 use Rattle.record_text.specs.OwnParts.{part_of}
-use Rattle.peer_runner.specs.declared.run_setup.RunSetup.{RunSetup}
+use Rattle.shared_words.specs.declared.run_setup.RunSetup.{RunSetup}
 use Rattle.peer_runner.specs.declared.driving.PeerPlan.{PeerPlan}
 use Rattle.peer_runner.specs.declared.driving.Driver.{Driver}
 use Rattle.peer_runner.specs.declared.driving.Driver.TheVariants.{Auto, Storm}
-use Rattle.peer_runner.specs.RunSetups.{world_in, config_in, honest_of, IsMadeFor}
-use Rattle.peer_runner.specs.DerivedStates.{CallAccess, MemoryOp, event_word, derived_state, NeverMarked}
-use Rattle.peer_runner.specs.Actions.{Action, accesses_in}
-use Rattle.peer_runner.specs.PassView.{PassView}
-use Rattle.peer_runner.specs.Passes.{shown, held}
+use Rattle.shared_words.specs.RunSetups.{world_in, config_in, honest_of, IsMadeFor}
+use Rattle.shared_words.specs.DerivedStates.{CallAccess, MemoryOp, event_word, derived_state, NeverMarked}
+use Rattle.shared_words.specs.Actions.{Action, accesses_in}
+use Rattle.shared_words.specs.PassView.{PassView}
+use Rattle.shared_words.specs.Passes.{shown, held}
 use Rattle.doorbell_irq.specs.declared.route.Route.{Route}
 use Rattle.peer_runner.specs.declared.doorbell_paths.Done.{Done}
-use Rattle.peer_runner.specs.DoorbellPaths.{AreRoutesOf}
+use Rattle.shared_words.specs.PeerRoutes.{AreRoutesOf}
 use Rattle.peer_runner.specs.Turns.{Turn, Running, comes_to, all_turns, TakesTurns, actions_in, lines_of_turns}
 use Rattle.peer_runner.specs.RunningRecord.{refuses, reader_of_lines, ReaderMatches}
 use Rattle.peer_runner.specs.OwnRecord.{IsTraceOf, after_acts, start_of, spans_of}

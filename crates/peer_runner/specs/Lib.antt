@@ -1,13 +1,4 @@
-pub mod RunSetups
-pub mod Actions
-pub mod Interrupts
 pub mod DoorbellPaths
-pub mod DerivedStates
-pub mod SharedMemory
-pub mod Happened
-pub mod Rules
-pub mod PassView
-pub mod Passes
 pub mod Turns
 pub mod OwnRecord
 pub mod RunningRecord

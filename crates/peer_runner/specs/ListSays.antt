@@ -4,7 +4,7 @@ use Rattle.std.specs.List.{fold}
 use Rattle.split_ring.specs.declared.steps.Access.{Access}
 use Rattle.split_ring.specs.declared.steps.Access.TheVariants as access
 use Rattle.call_grammar.specs.Calls.{Call}
-use Rattle.peer_runner.specs.DerivedStates.{CallAccess, MemoryOp, called, numbered, carried, restarted}
+use Rattle.shared_words.specs.DerivedStates.{CallAccess, MemoryOp, called, numbered, carried, restarted}
 
 -- what a memory operation does to the region: its access; of a reset a write of State with 0; else
 -- nothing

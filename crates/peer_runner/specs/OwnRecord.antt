@@ -12,9 +12,9 @@ use Rattle.lawful_history.specs.Peers.{Peer, at_start, with_call, automated, sto
 use Rattle.lawful_history.specs.Storm.{storm_step}
 use Rattle.record_text.specs.Parts.{Part}
 use Rattle.doorbell_irq.specs.declared.route.Route.{Route}
-use Rattle.peer_runner.specs.DerivedStates.{ObservedAccess, MemoryOp}
-use Rattle.peer_runner.specs.Actions.{Action}
-use Rattle.peer_runner.specs.DoorbellPaths.{AreRoutesOf}
+use Rattle.shared_words.specs.DerivedStates.{ObservedAccess, MemoryOp}
+use Rattle.shared_words.specs.Actions.{Action}
+use Rattle.shared_words.specs.PeerRoutes.{AreRoutesOf}
 use Rattle.peer_runner.specs.Turns.{Turn, Running, comes_to, all_turns, TakesTurns, is_finished, actions_in, lines_of_turns}
 
 -- the trace of these turns, which led the peer there: it took all of its turns, or fewer and is

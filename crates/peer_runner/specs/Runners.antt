@@ -24,17 +24,17 @@ use Rattle.lawful_history.specs.EventRecords.{access_lines, mark_line}
 use Rattle.lawful_history.specs.Peers.{Auto, Chooses, Peer, counted_all}
 use Rattle.step_lines.specs.Plans.{IsPlanOf}
 use Rattle.step_lines.specs.Places.{HasFrames}
-use Rattle.peer_runner.specs.declared.run_setup.RunSetup.{RunSetup}
-use Rattle.peer_runner.specs.PassView.{PassView}
-use Rattle.peer_runner.specs.RunSetups.{config_in}
-use Rattle.peer_runner.specs.DerivedStates.{CallAccess, taken, MemoryOp, called, numbered, carried, restarted, lapsed, Wake, at_rest, wake_on, DerivedState, settled_place, derived_state}
-use Rattle.peer_runner.specs.Actions.{Action, accessed, looked, accesses_in}
-use Rattle.peer_runner.specs.Passes.{added}
+use Rattle.shared_words.specs.declared.run_setup.RunSetup.{RunSetup}
+use Rattle.shared_words.specs.PassView.{PassView}
+use Rattle.shared_words.specs.RunSetups.{config_in}
+use Rattle.shared_words.specs.DerivedStates.{CallAccess, taken, MemoryOp, called, numbered, carried, restarted, lapsed, Wake, at_rest, wake_on, DerivedState, settled_place, derived_state}
+use Rattle.shared_words.specs.Actions.{Action, accessed, looked, accesses_in}
+use Rattle.shared_words.specs.Passes.{added}
 use Rattle.peer_runner.specs.DoorbellPaths.{doorbell_path_to, is_guarded, rung_by}
-use Rattle.peer_runner.specs.Interrupts.{MayRing}
+use Rattle.shared_words.specs.Interrupts.{MayRing}
 use Rattle.peer_runner.specs.Turns.{Turn, Looks, Makes, Clears, Rings, Stores, Loads, Enters, Restarts, Running, sleeps, is_below, looks_after, spent, later, is_end, is_set, cleared_by, is_quiet, lines_in}
-use Rattle.peer_runner.specs.declared.sessions.SessionWord.{SessionWord}
-use Rattle.peer_runner.specs.declared.sessions.SessionWord.TheVariants.{Own, Others}
+use Rattle.shared_words.specs.declared.sessions.SessionWord.{SessionWord}
+use Rattle.shared_words.specs.declared.sessions.SessionWord.TheVariants.{Own, Others}
 use Rattle.peer_runner.specs.declared.doorbell_paths.Done.{Done}
 use Rattle.peer_runner.specs.declared.turns.AutoPeer.{AutoPeer}
 use Rattle.peer_runner.specs.declared.notes.RecordedStep.{RecordedStep}

@@ -19,15 +19,15 @@ use Rattle.link_invariant.specs.LinkConfig.{first_words}
 use Rattle.link_invariant.specs.EndInvariant.{frame_at}
 use Rattle.link_invariant.specs.Pair.{freed_at, IsAttached, OpensNone, EitherIsAttached}
 use Rattle.pair_sessions.specs.Numbers.{Numbers, WordIs, IsPaired}
-use Rattle.peer_runner.specs.declared.run_setup.RunSetup.{RunSetup}
-use Rattle.peer_runner.specs.declared.view.View.{View}
-use Rattle.peer_runner.specs.RunSetups.{honest_of}
-use Rattle.peer_runner.specs.DerivedStates.{FrameNumber, At, CallAccess, MemoryOp, called, derived_state, IsNext}
-use Rattle.peer_runner.specs.SharedMemory.{IsOwned, Made}
-use Rattle.peer_runner.specs.Happened.{Happened}
-use Rattle.peer_runner.specs.Actions.{Action}
-use Rattle.peer_runner.specs.Interrupts.{Interrupts, Doorbells}
-use Rattle.peer_runner.specs.Rules.{region, session_words, accesses_by, Memory, TableInvariant}
+use Rattle.shared_words.specs.declared.run_setup.RunSetup.{RunSetup}
+use Rattle.shared_words.specs.declared.view.View.{View}
+use Rattle.shared_words.specs.RunSetups.{honest_of}
+use Rattle.shared_words.specs.DerivedStates.{FrameNumber, At, CallAccess, MemoryOp, called, derived_state, IsNext}
+use Rattle.shared_words.specs.SharedMemory.{IsOwned, Made}
+use Rattle.shared_words.specs.Happened.{Happened}
+use Rattle.shared_words.specs.Actions.{Action}
+use Rattle.shared_words.specs.Interrupts.{Interrupts, Doorbells}
+use Rattle.shared_words.specs.Rules.{region, session_words, accesses_by, Memory, TableInvariant}
 use Rattle.peer_runner.specs.ListSays.{last_written, last_state, has_written, call_writes}
 
 -- The end and the place in which its list leaves a peer, and how many frames it has freed: one more

@@ -18,11 +18,11 @@ use Rattle.scenario_text.specs.Running.{has_turn}
 use Rattle.lawful_history.specs.declared.line.Line.{Line}
 use Rattle.lawful_history.specs.declared.line.Line.TheVariants as line
 use Rattle.record_text.specs.Parts.{Part, peers_of, running_peers}
-use Rattle.peer_runner.specs.PassView.{PassView}
-use Rattle.peer_runner.specs.DerivedStates.{FrameNumber, accepted_last, delivered_next, DoorbellRequest, Nowhere, Written, At, event_word, lapsed, request_after_look, DerivedState}
-use Rattle.peer_runner.specs.Rules.{CarriesNone}
-use Rattle.peer_runner.specs.Passes.{actions_of}
-use Rattle.peer_runner.specs.DoorbellPaths.{events_of}
+use Rattle.shared_words.specs.PassView.{PassView}
+use Rattle.shared_words.specs.DerivedStates.{FrameNumber, accepted_last, delivered_next, DoorbellRequest, Nowhere, Written, At, event_word, lapsed, request_after_look, DerivedState}
+use Rattle.shared_words.specs.Rules.{CarriesNone}
+use Rattle.shared_words.specs.Passes.{actions_of}
+use Rattle.shared_words.specs.PeerRoutes.{events_of}
 use Rattle.peer_runner.specs.OwnRecord.{IsOwnRecord}
 
 -- the lines of a peer: none where it doesn't run

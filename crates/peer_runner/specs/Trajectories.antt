@@ -8,15 +8,16 @@ use Rattle.link_endpoint.specs.Engine.{Engine}
 use Rattle.link_endpoint.specs.Plan.{Plan}
 use Rattle.step_lines.specs.Places.{HasFrames}
 use Rattle.doorbell_irq.specs.declared.route.Route.{Route}
-use Rattle.peer_runner.specs.declared.run_setup.RunSetup.{RunSetup}
-use Rattle.peer_runner.specs.declared.sessions.SessionWord.{SessionWord}
-use Rattle.peer_runner.specs.declared.sessions.SessionWord.TheVariants.{Own}
+use Rattle.shared_words.specs.declared.run_setup.RunSetup.{RunSetup}
+use Rattle.shared_words.specs.declared.sessions.SessionWord.{SessionWord}
+use Rattle.shared_words.specs.declared.sessions.SessionWord.TheVariants.{Own}
 use Rattle.peer_runner.specs.declared.turns.AutoPeer.{AutoPeer}
 use Rattle.peer_runner.specs.declared.doorbell_paths.Done.{Done}
-use Rattle.peer_runner.specs.PassView.{PassView}
-use Rattle.peer_runner.specs.RunSetups.{config_in}
-use Rattle.peer_runner.specs.Passes.{IsOf}
-use Rattle.peer_runner.specs.DoorbellPaths.{route_to, is_guarded, doorbell_path_in}
+use Rattle.shared_words.specs.PassView.{PassView}
+use Rattle.shared_words.specs.RunSetups.{config_in}
+use Rattle.shared_words.specs.Passes.{IsOf}
+use Rattle.shared_words.specs.PeerRoutes.{route_to}
+use Rattle.peer_runner.specs.DoorbellPaths.{is_guarded, doorbell_path_in}
 use Rattle.peer_runner.specs.Turns.{has_turn_left, IsSpanSpent}
 use Rattle.peer_runner.specs.Runners.{Runner, initial_runner, has_finished, place_in, IsDone, due_of, looks_now, looked_on, due_word, met_on, restarted_on, turned, RunnerRefines, IsThere, IsAutoPeer}
 

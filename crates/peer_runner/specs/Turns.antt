@@ -16,9 +16,10 @@ use Rattle.lawful_history.specs.EventRecords.{access_lines, mark_line}
 use Rattle.lawful_history.specs.Peers.{Auto, Driver, Chooses, Storms, Peer, opened, stepped, was_reset}
 use Rattle.lawful_history.specs.Storm.{storm_after}
 use Rattle.doorbell_irq.specs.declared.route.Route.{Route}
-use Rattle.peer_runner.specs.DerivedStates.{ObservedAccess, touch, MemoryOp, called, numbered, carried, restarted}
-use Rattle.peer_runner.specs.Actions.{Action, accessed, looked, cleared}
-use Rattle.peer_runner.specs.DoorbellPaths.{route_to, doorbell_path_to, is_guarded, doorbell_path_in, rung_by}
+use Rattle.shared_words.specs.DerivedStates.{ObservedAccess, touch, MemoryOp, called, numbered, carried, restarted}
+use Rattle.shared_words.specs.Actions.{Action, accessed, looked, cleared}
+use Rattle.shared_words.specs.PeerRoutes.{route_to}
+use Rattle.peer_runner.specs.DoorbellPaths.{doorbell_path_to, is_guarded, doorbell_path_in, rung_by}
 
 -- A turn:
 -- * `Looks`: a look, which finds the word `found`;

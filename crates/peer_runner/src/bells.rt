@@ -1,15 +1,15 @@
 //! The parts of a doorbell that one turn makes.
 ghost use Rattle.std.specs.Prelude.{◌≡◌, true, None};
 ghost use Rattle.split_ring.specs.declared.steps.Access.{Access};
-ghost use Rattle.peer_runner.specs.DoorbellPaths.{AreRoutes, doorbell_path_to, is_guarded};
-ghost use Rattle.peer_runner.specs.Rules.{front};
-ghost use Rattle.peer_runner.specs.Passes.{IsFilled};
+ghost use Rattle.shared_words.specs.PeerRoutes.{AreRoutes};
+ghost use Rattle.peer_runner.specs.DoorbellPaths.{doorbell_path_to, is_guarded};
+ghost use Rattle.shared_words.specs.Rules.{front};
+ghost use Rattle.shared_words.specs.Passes.{IsFilled};
 ghost use Rattle.peer_runner.specs.Runners.{MayRingBy, IsDone, value_done, awaits_ring, done_of, made};
 
 use crate::doorbell_paths::{Done, DoorbellPath, doorbell_path_to};
-use crate::interrupts::{clear, ring};
-use crate::words::{Pass, Words};
 use doorbell_irq::Route;
+use shared_words::{Pass, Words, clear, ring};
 
 /// Makes the part of a doorbell that one turn makes, and returns it. `ringing` says whether its
 /// clear is done and found the bit.

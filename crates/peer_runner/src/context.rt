@@ -1,6 +1,6 @@
 //! What the turns of an automatic peer use and leave as it is.
-use crate::words::Words;
 use doorbell_irq::Route;
+use shared_words::Words;
 use std::alloc::Global;
 
 /// The surroundings of a running peer, which stay the same through all its turns.

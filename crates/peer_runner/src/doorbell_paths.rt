@@ -1,7 +1,8 @@
 //! The paths of running peers' doorbells, and what one turn does of a step.
 ghost use Rattle.std.specs.Prelude.{◌≡◌};
 ghost use Rattle.doorbell_irq.specs.Routes.{bit_for, bit_rung};
-ghost use Rattle.peer_runner.specs.DoorbellPaths.{doorbell_path_to, route_to};
+ghost use Rattle.shared_words.specs.PeerRoutes.{route_to};
+ghost use Rattle.peer_runner.specs.DoorbellPaths.{doorbell_path_to};
 ghost use Rattle.peer_runner.specs.Turns.{is_set};
 ghost use Rattle.peer_runner.specs.Runners.{value_done, awaits_ring};
 

@@ -4,12 +4,12 @@ ghost use Rattle.lawful_history.specs.declared.line.Line.TheVariants as line;
 ghost use Rattle.lawful_history.specs.Storm.{storm_after};
 ghost use Rattle.link_endpoint.specs.Plan.{Plan};
 ghost use Rattle.step_lines.specs.Storms.{IsStormOf};
-ghost use Rattle.peer_runner.specs.RunSetups.{world_in, honest_of};
-ghost use Rattle.peer_runner.specs.Actions.{accessed};
-ghost use Rattle.peer_runner.specs.DerivedStates.{restarted};
+ghost use Rattle.shared_words.specs.RunSetups.{world_in, honest_of};
+ghost use Rattle.shared_words.specs.Actions.{accessed};
+ghost use Rattle.shared_words.specs.DerivedStates.{restarted};
 ghost use Rattle.peer_runner.specs.Turns.{all_turns, has_turn_left, IsSpanSpent};
-ghost use Rattle.peer_runner.specs.Passes.{IsOf, IsFirstIn, added};
-ghost use Rattle.peer_runner.specs.DoorbellPaths.{AreRoutes};
+ghost use Rattle.shared_words.specs.Passes.{IsOf, IsFirstIn, added};
+ghost use Rattle.shared_words.specs.PeerRoutes.{AreRoutes};
 ghost use Rattle.peer_runner.specs.Runners.{Runner, has_finished};
 ghost use Rattle.peer_runner.specs.Contexts.{setup_of, IsHonest, HasRoutes, IsSeated, IsOn, Records, IsBeforeTurn, TookTurn, WasReset};
 ghost use Rattle.peer_runner.specs.Contexts.{IsBeforeSpan, TookSpan};
@@ -18,14 +18,12 @@ ghost use Rattle.peer_runner.specs.Drives.{MayBeAuto, MayDrive, starting, stormi
 use crate::context::PeerContext;
 use crate::doorbell_paths::route_to;
 use crate::gate::Gate;
-use crate::sessions::reset;
 use crate::spans::Spans;
 use crate::storms::take_step;
 use crate::turns::{
     AutoPeer, exchange_session_number, is_finished, is_look_next, look_turn, looks_due, take_turn,
     word_due,
 };
-use crate::words::{Pass, Words};
 use arrayvec::ArrayVec;
 use call_grammar::places_follow_trees;
 use doorbell_irq::Route;
@@ -34,6 +32,7 @@ use lawful_history::{Line, Lines};
 use link_endpoint::{Auto, AutoEndpoint, Endpoint};
 use record_text::OwnTrace;
 use section_map::Geometry;
+use shared_words::{Pass, Words, reset};
 use split_ring::Queue;
 use std::alloc::Global;
 use step_lines::Storm;

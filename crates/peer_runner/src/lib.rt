@@ -1,7 +1,8 @@
 //! Peers that run in threads of their own, over words that they share. A peer may be reset as it
 //! runs.
 //!
-//! The words are an `atomic_table` under one rule. Whatever hostile threads store, the rule gives:
+//! The words are those of `shared_words`, under its rule. Whatever hostile threads store, the rule
+//! gives:
 //!
 //! - each access of an honest peer is the next one of its calls;
 //! - the frames that an honest peer delivers in a session are the first ones that the other honest
@@ -12,15 +13,13 @@
 //! that its pass has. It says nothing of an order between peers, and doesn't say that a peer makes
 //! progress. `laws` states what the words and the lists show between any two accesses.
 //!
-//! The crate uses `link_endpoint` for the ends, `link_invariant` and `pair_sessions` for what the
-//! ends keep between them, `doorbell_irq` for the routes of doorbells, and `record_text` for the
+//! The crate acts on the words by the single actions of `shared_words` alone. It uses
+//! `link_endpoint` for the ends, `link_invariant` and `pair_sessions` for what the ends keep
+//! between them, `doorbell_irq` for the routes of doorbells, and `record_text` for the
 //! record of a run.
 //!
 //! # Design
 //!
-//! - The table has the words of the region, then two words for the interrupts of each peer, then
-//!   two session words. So one pass has all actions of a peer, in their order. No ring, look or
-//!   clear touches a word of the region.
 //! - A doorbell at a peer in one-shot mode takes two turns if its clear found Interrupt Control
 //!   set, else one. Between the two the step isn't done: the call of an automatic peer is open, and
 //!   a storm stays at its draw.
@@ -33,32 +32,23 @@
 //    which accesses were made, that a peer makes progress, that threads run at the same time.
 #![tactic(auto)]
 
-mod accesses;
 mod bells;
 mod context;
 mod doorbell_paths;
 mod driving;
 mod gate;
-mod interrupts;
 pub mod laws;
 mod notes;
 mod peers;
 mod plans;
-mod routes;
-mod rule;
-mod run_setup;
-mod sessions;
 mod spans;
 mod storms;
 mod turns;
-mod view;
-mod words;
 
 pub use driving::{Driver, PeerPlan, drive};
 pub use gate::{Gate, OpenGate};
 pub use peers::run_peers;
-pub use rule::Rule;
-pub use run_setup::RunSetup;
+pub use shared_words::{
+    Pass, Rule, RunSetup, View, Words, join_pass, learn, split_pass, words_for,
+};
 pub use spans::Spans;
-pub use view::View;
-pub use words::{Pass, Words, join_pass, learn, split_pass, words_for};

@@ -5,20 +5,20 @@ ghost use Rattle.scenario_text.specs.Running.{not_running};
 ghost use Rattle.scenario_text.specs.Spelling.{world_of};
 ghost use Rattle.record_text.specs.OwnParts.{part_of};
 ghost use Rattle.record_text.specs.Parts.{peers_of, running_peers};
-ghost use Rattle.peer_runner.specs.RunSetups.{IsMadeFor};
-ghost use Rattle.peer_runner.specs.Actions.{Action};
-ghost use Rattle.peer_runner.specs.DerivedStates.{CallAccess, MemoryOp};
-ghost use Rattle.peer_runner.specs.Passes.{IsOf, IsWhole, IsUnused, held};
+ghost use Rattle.shared_words.specs.RunSetups.{IsMadeFor};
+ghost use Rattle.shared_words.specs.Actions.{Action};
+ghost use Rattle.shared_words.specs.DerivedStates.{CallAccess, MemoryOp};
+ghost use Rattle.shared_words.specs.Passes.{IsOf, IsWhole, IsUnused, held};
 ghost use Rattle.peer_runner.specs.Drives.{IsPlanFor, RanOne, RanAll, BothOk};
 ghost use Rattle.peer_runner.specs.RunningRecord.{IsRunOf};
 
 use crate::driving::{PeerPlan, drive};
 use crate::gate::Gate;
 use crate::plans::plan_of;
-use crate::words::{Pass, Words, join_pass, learn, split_pass};
 use ivs_base::NoMemory;
 use record_text::{OwnTrace, OwnTraces, RunTrace};
 use scenario_text::Scenario;
+use shared_words::{Pass, Words, join_pass, learn, split_pass};
 use std::alloc::Global;
 use std::thread::{Threads, join};
 

@@ -8,12 +8,12 @@ ghost use Rattle.peer_runner.specs.OwnRecord.{span_in, spans_of};
 ghost use Rattle.peer_runner.specs.Drives.{IsDriver, IsPlanFor, gathered, seeded, Gathers, Seeds};
 
 use crate::driving::{Driver, PeerPlan};
-use crate::routes::routes_of;
 use crate::spans::Spans;
 use ivs_base::{Frame, NoMemory};
 use link_endpoint::{Auto, Endpoint};
 use pci_space::Wiring;
 use scenario_text::{Act, Scenario};
+use shared_words::routes_of;
 use std::alloc::Global;
 
 /// The vector of the doorbells of offers and polls.

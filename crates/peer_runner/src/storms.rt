@@ -1,22 +1,22 @@
 //! A turn of a storm.
 ghost use Rattle.std.specs.Prelude.{◌≡◌, ◌++◌, true, false, if◌then◌else◌, None, OnOk};
 ghost use Rattle.step_lines.specs.Storms.{IsStormOf, IsDrawn};
-ghost use Rattle.peer_runner.specs.RunSetups.{world_in, honest_of};
-ghost use Rattle.peer_runner.specs.DoorbellPaths.{AreRoutes, is_guarded, doorbell_path_in};
-ghost use Rattle.peer_runner.specs.Rules.{front};
+ghost use Rattle.shared_words.specs.RunSetups.{world_in, honest_of};
+ghost use Rattle.shared_words.specs.PeerRoutes.{AreRoutes};
+ghost use Rattle.peer_runner.specs.DoorbellPaths.{is_guarded, doorbell_path_in};
+ghost use Rattle.shared_words.specs.Rules.{front};
 ghost use Rattle.peer_runner.specs.Turns.{lines_in};
 ghost use Rattle.peer_runner.specs.Drives.{storm_in, storm_on};
 ghost use Rattle.peer_runner.specs.Runners.{made, value_done, done_of, turn_of, drawn_lines, IsDone, awaits_ring, MayRingBy};
-ghost use Rattle.peer_runner.specs.Passes.{IsFirstIn};
+ghost use Rattle.shared_words.specs.Passes.{IsFirstIn};
 
-use crate::accesses::{set_state, store};
 use crate::bells::ring_turn;
 use crate::doorbell_paths::Done;
 use crate::notes::record_access;
-use crate::words::{Pass, Words};
 use doorbell_irq::Route;
 use ivs_base::NoMemory;
 use lawful_history::Lines;
+use shared_words::{Pass, Words, set_state, store};
 use split_ring::steps::Access;
 use std::marker::Brand;
 use step_lines::Storm;

@@ -6,9 +6,9 @@ ghost use Rattle.call_grammar.specs.Ends.{End};
 ghost use Rattle.call_grammar.specs.Places as places;
 ghost use Rattle.call_grammar.specs.Places.{WritingState};
 ghost use Rattle.link_endpoint.specs.Refinement.{RefinesAt};
-ghost use Rattle.peer_runner.specs.Actions.{accessed, looked};
-ghost use Rattle.peer_runner.specs.Rules.{front};
-ghost use Rattle.peer_runner.specs.Passes.{IsOf, added};
+ghost use Rattle.shared_words.specs.Actions.{accessed, looked};
+ghost use Rattle.shared_words.specs.Rules.{front};
+ghost use Rattle.shared_words.specs.Passes.{IsOf, added};
 ghost use Rattle.peer_runner.specs.DoorbellPaths.{is_guarded, doorbell_path_in};
 ghost use Rattle.peer_runner.specs.Turns.{interrupt_lines, is_below, looks_after, opens};
 ghost use Rattle.peer_runner.specs.Runners.{Runner};
@@ -18,19 +18,17 @@ ghost use Rattle.peer_runner.specs.Runners.{due_word, state_for, memory_op_met, 
 ghost use Rattle.peer_runner.specs.Contexts.{setup_of, end_config, IsHonest, HasRoutes, IsSeated, state_of, IsNextOf, AtItsPlace};
 ghost use Rattle.peer_runner.specs.Contexts.{IsStepDue, after_step, is_guarded_at};
 
-use crate::accesses::{load, set_state, store};
 use crate::bells::ring_turn;
 use crate::context::PeerContext;
 use crate::doorbell_paths::Done;
-use crate::interrupts::look;
 use crate::notes::{RecordedStep, record_access, record_interrupts, record_step};
-use crate::rule::Begins;
-use crate::sessions::{SessionWord, load_session, store_session};
-use crate::words::Pass;
 use doorbell_irq::Route;
 use ivs_base::NoMemory;
 use lawful_history::Lines;
 use link_endpoint::{Auto, AutoEndpoint, Choice, Endpoint};
+use shared_words::{
+    Begins, Pass, SessionWord, load, load_session, look, set_state, store, store_session,
+};
 use split_ring::steps::Access;
 use std::marker::Brand;
 

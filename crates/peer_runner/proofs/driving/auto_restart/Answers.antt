@@ -2,7 +2,7 @@ use Rattle.std.proofs.Common.{◌≡◌, true, false, refl, sym, ap, ◌∙◌, 
 use Rattle.link_endpoint.specs.Engine.{Engine}
 use Rattle.link_endpoint.specs.Refinement.{RefinesAt}
 use Rattle.link_endpoint.specs.declared.auto_endpoint.AutoEndpoint.{AutoEndpoint}
-use Rattle.peer_runner.specs.PassView.{PassView}
+use Rattle.shared_words.specs.PassView.{PassView}
 use Rattle.peer_runner.specs.Turns.{Restarts}
 use Rattle.peer_runner.specs.Runners.{has_finished, restarted_on, IsAutoPeer}
 use Rattle.peer_runner.specs.Trajectories.{by_reset}

@@ -3,7 +3,7 @@ use Rattle.std.specs.Prelude.{◌-◌, length}
 use Rattle.peer_runner.specs.Turns.{spent}
 use Rattle.peer_runner.specs.Runners.{Runner, has_finished}
 use Rattle.peer_runner.specs.Trajectories.{WentTo}
-use Rattle.peer_runner.proofs.Keys.{clash}
+use Rattle.shared_words.proofs.Keys.{clash}
 use Rattle.peer_runner.proofs.Runs.{counted_of, err_free}
 use Rattle.peer_runner.proofs.Courses.{left_in_span, few_turns, one_more}
 use Rattle.peer_runner.proofs.driving.auto_span.Goals as goal

@@ -3,9 +3,10 @@ use Rattle.std.specs.Prelude.{Some, None}
 use Rattle.call_grammar.specs.Places.{access_at}
 use Rattle.link_endpoint.specs.Engine.{Engine, is_busy}
 use Rattle.link_endpoint.specs.Plan.{Closes}
-use Rattle.peer_runner.specs.PassView.{PassView}
-use Rattle.peer_runner.specs.RunSetups.{config_in}
-use Rattle.peer_runner.specs.DoorbellPaths.{route_to, is_guarded, doorbell_path_in}
+use Rattle.shared_words.specs.PassView.{PassView}
+use Rattle.shared_words.specs.RunSetups.{config_in}
+use Rattle.shared_words.specs.PeerRoutes.{route_to}
+use Rattle.peer_runner.specs.DoorbellPaths.{is_guarded, doorbell_path_in}
 use Rattle.peer_runner.specs.Turns.{Looks, looks_after}
 use Rattle.peer_runner.specs.Runners.{has_finished, place_in, IsDone, due_of, looks_now, looked_on, due_word, turn_met, met_on, turned, turn_on, IsThere, IsAutoPeer, Turns}
 use Rattle.peer_runner.specs.Trajectories.{by_look, by_word, by_step}

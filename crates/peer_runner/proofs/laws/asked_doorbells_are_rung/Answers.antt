@@ -1,6 +1,6 @@
-use Rattle.peer_runner.specs.Rules.{region, accesses_by}
+use Rattle.shared_words.specs.Rules.{region, accesses_by}
 use Rattle.peer_runner.proofs.PairLaws.{woken_lem}
-use Rattle.peer_runner.proofs.Happening.{made_in}
+use Rattle.shared_words.proofs.Happening.{made_in}
 use Rattle.peer_runner.proofs.laws.asked_doorbells_are_rung.Goals as goal
 
 pub returns : goal.returns

@@ -2,9 +2,9 @@ use Rattle.std.proofs.Common.{◌≡◌, List, ◌++◌, sym, ap, ◌∙◌, sub
 use Rattle.std.specs.Prelude.{OnOk}
 use Rattle.split_ring.specs.declared.steps.Access.{Access}
 use Rattle.lawful_history.specs.declared.line.Line.{Line}
-use Rattle.peer_runner.specs.RunSetups.{world_in}
+use Rattle.shared_words.specs.RunSetups.{world_in}
 use Rattle.peer_runner.specs.DoorbellPaths.{is_guarded, doorbell_path_in}
-use Rattle.peer_runner.specs.Rules.{front}
+use Rattle.shared_words.specs.Rules.{front}
 use Rattle.peer_runner.specs.Runners.{done_of, IsDone, MayRingBy, made}
 use Rattle.peer_runner.proofs.Storming.{drawn_access, drawn_told, storm_after_turn}
 use Rattle.peer_runner.proofs.storms.take_step.Goals as goal

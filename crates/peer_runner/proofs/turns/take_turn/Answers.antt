@@ -6,11 +6,11 @@ use Rattle.lawful_history.specs.declared.line.Line.{Line}
 use Rattle.step_lines.proofs.Marks.{busy_is, plan_counted}
 use Rattle.link_endpoint.specs.declared.auto.Choice.{Choice}
 use Rattle.peer_runner.specs.declared.doorbell_paths.Done.{Done}
-use Rattle.peer_runner.specs.PassView.{PassView}
-use Rattle.peer_runner.specs.RunSetups.{config_in}
-use Rattle.peer_runner.specs.DerivedStates.{derived_state, IsNext}
-use Rattle.peer_runner.specs.Actions.{accesses_in}
-use Rattle.peer_runner.specs.Rules.{front}
+use Rattle.shared_words.specs.PassView.{PassView}
+use Rattle.shared_words.specs.RunSetups.{config_in}
+use Rattle.shared_words.specs.DerivedStates.{derived_state, IsNext}
+use Rattle.shared_words.specs.Actions.{accesses_in}
+use Rattle.shared_words.specs.Rules.{front}
 use Rattle.peer_runner.specs.Contexts.{IsNextOf}
 use Rattle.peer_runner.proofs.Runs.{opened_busy}
 use Rattle.call_grammar.specs.Calls.{EndConfig}

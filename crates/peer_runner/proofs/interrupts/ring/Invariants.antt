@@ -1,5 +1,0 @@
-use Rattle.peer_runner.specs.Rules.{rings_at}
-use Rattle.peer_runner.proofs.interrupts.ring.Given as goal
-
-abbrev pub ghosts-ring_by : goal.ghosts-ring_by
-ghosts-ring_by a = record { then = rings_at a.target a.bit }

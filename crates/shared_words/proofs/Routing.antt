@@ -1,0 +1,105 @@
+-- The routes of a scenario's peers, and the key that is made of them.
+use Rattle.std.proofs.Common.{◌≡◌, ◌≢◌, ℕ, zero, suc, ◌+◌, ◌^◌, ◌<◌, ◌≤◌, ◌==◌, max, nat_lt, Bool, true, false, ◌&&◌, List, [], ◌∷◌, ◌++◌, length, take, get_or, refl, sym, ap, ◌∙◌, subst, arith}
+use Rattle.std.specs.Prelude.{if◌then◌else◌, not, bit_or, slice_index_or}
+use Rattle.std.specs.Int.{bit_at}
+use Rattle.std.proofs.lemmas.Bool.Decides.{nat_tests}
+use Rattle.std.proofs.lemmas.Option.{slice_get_read}
+use Rattle.std.proofs.lemmas.List.{take_more, get_or_append_left, get_or-append-add}
+use Rattle.std.proofs.lemmas.Grind.{fold-append}
+use Rattle.std.proofs.lemmas.Nat.Bits.{bit_at_or, bit_at-pow_same, bit_at-pow_other, bit_at-zero}
+use mathlib.Core.Logic.{dite}
+use native.Mathlib.Decide.{ℕ_discrete, dec_lt}
+use Rattle.pci_space.specs.Fields.{is_access}
+use Rattle.scenario_text.specs.declared.acts.Act.{Act}
+use Rattle.scenario_text.specs.declared.acts.Act.TheVariants as act
+use Rattle.scenario_text.specs.Scenario.{World, IsWorld, IsAllowed, is_aligned, is_hostile, is_peer}
+use Rattle.doorbell_irq.specs.declared.route.Route.{Route}
+use Rattle.doorbell_irq.specs.Events.{Event}
+use Rattle.doorbell_irq.specs.Routes.{IsRoute}
+use Rattle.lawful_history.specs.Device.{devices_of}
+use Rattle.shared_words.specs.declared.run_setup.RunSetup.{RunSetup}
+use Rattle.shared_words.specs.RunSetups.{IsMadeFor}
+use Rattle.shared_words.specs.Interrupts.{one_if}
+use Rattle.shared_words.specs.PeerRoutes.{nowhere, route_to, AreRoutes, events_in, events_of, MaySet, AreRoutesOf}
+
+-- The devices along the acts
+
+pub events_none : events_of [] ≡ []
+unfolding events_of
+events_none = refl
+
+pub events_snoc : (acts : List Act) (a : Act) → events_of (acts ++ a ∷ []) ≡ events_in a ++ events_of acts
+unfolding events_of
+events_snoc acts a = fold-append (λ (events : List Event) (x : Act). events_in x ++ events) [] acts (a ∷ [])
+
+below : (p peers : ℕ) → nat_lt p peers ≡ true → p < peers
+below p peers is = grind (arith, nat_tests)
+
+within : (offset width : ℕ) → is_aligned offset width ≡ true → offset ≤ 255 → 1 ≤ width → width ≤ 4 → is_access 256 offset width ≡ true
+within offset zero is small least most = absurd (omega arith)
+within offset (suc zero) is small least most = grind (arith, nat_tests)
+within offset (suc (suc zero)) is small least most = grind (arith, nat_tests)
+within offset (suc (suc (suc zero))) is small least most = absurd (let e : false ≡ true = is in cc)
+within offset (suc (suc (suc (suc zero)))) is small least most = grind (arith, nat_tests)
+within offset (suc (suc (suc (suc (suc more))))) is small least most = absurd (omega arith)
+
+first_true : (a b : Bool) → (a && b) ≡ true → a ≡ true
+first_true true b is = refl
+first_true false b is = absurd (cc)
+
+its_peer : (w : World) (p : ℕ) (b : Bool) → (if b then is_hostile w p else is_peer w p) ≡ true → is_peer w p ≡ true
+its_peer w p true is = first_true (is_peer w p) (not (slice_index_or w.honest p false)) is
+its_peer w p false is = is
+
+may_set : (w : World) (before : List Act) (a : Act) → IsAllowed w before a → MaySet w.geometry.peers a
+may_set w before (act.CfgWrite p offset width value) is = (below p w.geometry.peers is.peer, within offset width is.range is.values.2.1 is.values.2.2.0 is.values.2.2.1)
+may_set w before (act.MmioWrite p offset value) is = below p w.geometry.peers (its_peer w p (offset == 16) is.peer)
+may_set w before (act.MsixWrite p offset value) is = below p w.geometry.peers is.peer
+may_set w before a is = tt
+
+pub sets_at : (w : World) (i : ℕ) (a : Act) → IsWorld w → i < length w.acts → a ≡ get_or w.acts i a → MaySet w.geometry.peers a
+sets_at w i a is inside at = may_set w (take i w.acts) a (is.allowed i a (slice_get_read w.acts (length w.acts) i a refl inside at))
+
+pub events_at : (acts : List Act) (i : ℕ) (a : Act) → i < length acts → a ≡ get_or acts i a → events_of (take (i + 1) acts) ≡ events_in a ++ events_of (take i acts)
+events_at acts i a inside at = ap events_of (take_more acts i a inside ∙ ap (λ x. take i acts ++ x ∷ []) (sym at)) ∙ events_snoc (take i acts) a
+
+-- The routes so far
+
+pub routed_more : (w : World) (routes : List Route) (route : Route) (i p : ℕ) → length routes ≡ i → p < i + 1 → ((q : ℕ) → q < i → IsRoute (devices_of w) (events_of w.acts) q (route_to routes q)) → IsRoute (devices_of w) (events_of w.acts) i route →
+    IsRoute (devices_of w) (events_of w.acts) p (route_to (routes ++ route ∷ []) p)
+routed_more w routes route i p size lt all here = let P : ℕ → Route → Type 0 = IsRoute (devices_of w) (events_of w.acts) in dite (dec_lt p i)
+    (λ low. subst (P p) (sym (get_or_append_left routes (route ∷ []) nowhere p (omega arith))) (all p low))
+    (λ high. let e : p ≡ length routes + 0 = omega arith in let same : i ≡ p = omega arith in
+    subst (P p) (sym (ap (λ k. get_or (routes ++ route ∷ []) k nowhere) e ∙ get_or-append-add routes (route ∷ []) 0 nowhere)) (subst (λ k. P k route) same here))
+
+-- The masks of the key
+
+pub bit_there : (mask peer k : ℕ) (flag : Bool) → k ≡ 2 ^ peer → bit_at mask peer ≡ 0 → flag ≡ true → bit_at (bit_or mask k) peer ≡ one_if flag
+bit_there mask peer k flag pow none on = ap (λ n. bit_at (bit_or mask n) peer) pow ∙ (let a : bit_at (bit_or mask (2 ^ peer)) peer ≡ max (bit_at mask peer) (bit_at (2 ^ peer) peer) = bit_at_or mask (2 ^ peer) peer in
+    let one : bit_at (2 ^ peer) peer ≡ 1 = bit_at-pow_same peer in let b : bit_at (bit_or mask (2 ^ peer)) peer ≡ 1 = omega arith in b ∙ sym (ap one_if on))
+
+pub bit_beside : (mask peer k : ℕ) → k ≡ 2 ^ peer → (p : ℕ) → p ≢ peer → bit_at (bit_or mask k) p ≡ bit_at mask p
+bit_beside mask peer k pow p ne = ap (λ n. bit_at (bit_or mask n) p) pow ∙ (let a : bit_at (bit_or mask (2 ^ peer)) p ≡ max (bit_at mask p) (bit_at (2 ^ peer) p) = bit_at_or mask (2 ^ peer) p in
+    let none : bit_at (2 ^ peer) p ≡ 0 = bit_at-pow_other peer p ne in let b : bit_at (bit_or mask (2 ^ peer)) p ≡ bit_at mask p = omega arith in b)
+
+-- the mask of the first peers of a list
+abbrev pub IsMask : (Route → Bool) → List Route → ℕ → ℕ → Type 0
+IsMask pick routes mask n = ((p : ℕ) → p < n → bit_at mask p ≡ one_if (pick (route_to routes p))) × ((p : ℕ) → n ≤ p → bit_at mask p ≡ 0)
+
+pub mask_none : (pick : Route → Bool) (routes : List Route) → IsMask pick routes 0 0
+mask_none pick routes = (λ p lt. absurd (omega arith), λ p le. bit_at-zero p)
+
+pub mask_more : (pick : Route → Bool) (routes : List Route) (mask next n k : ℕ) (flag : Bool) → k ≡ n → flag ≡ pick (route_to routes n) → bit_at next k ≡ one_if flag → ((p : ℕ) → p ≢ k → bit_at next p ≡ bit_at mask p) → IsMask pick routes mask n → IsMask pick routes next (n + 1)
+mask_more pick routes mask next n k flag same is here beside was = (
+  λ p lt. dite (ℕ_discrete p n) (λ e. ap (bit_at next) (e ∙ sym same) ∙ (here ∙ (ap one_if is ∙ ap (λ q. one_if (pick (route_to routes q))) (sym e))))
+      (λ ne. beside p (λ e. ne (e ∙ same)) ∙ was.0 p (omega arith)),
+  λ p le. beside p (λ e. omega arith) ∙ was.1 p (omega arith),
+)
+
+-- the key that was made for a scenario is made with its routes
+pub routes_made : (w : World) (key : RunSetup) (routes : List Route) → IsMadeFor w key → AreRoutesOf w routes → AreRoutes key routes
+routes_made w key routes made are = let peers : key.geometry.peers ≡ w.geometry.peers = ap (λ g. g.peers) made.geometry in record {
+  count = are.count ∙ sym peers;
+  one_shot = λ p lt. let here : p < w.geometry.peers = subst (λ n. p < n) peers lt in made.one_shot p here ∙ ap one_if (sym (are.each p here).one_shot);
+  enabled = λ p lt. let here : p < w.geometry.peers = subst (λ n. p < n) peers lt in made.enabled p here ∙ ap one_if (sym (are.each p here).enabled);
+}

@@ -1,0 +1,252 @@
+-- Sums over lists of actions and over peers.
+use Rattle.std.proofs.Common.{◌≡◌, ◌≢◌, ℕ, zero, suc, ◌+◌, ◌<◌, ◌≤◌, Bool, true, false, List, [], ◌∷◌, ◌++◌, length, refl, sym, ap, ◌∙◌, subst, arith, eq-eqb, ne_eqb}
+use mathlib.Core.Logic.{dite}
+use native.Mathlib.Decide.{ℕ_discrete, dec_le}
+use Rattle.std.specs.Prelude.{◌==◌, ◌&&◌, if◌then◌else◌}
+use Rattle.std.specs.Int.{bit_at}
+use Rattle.std.proofs.lemmas.List.{take_all, take-append-le}
+use Rattle.shared_words.specs.Actions.{Action, accessed, rang, looked, cleared}
+use Rattle.shared_words.specs.Interrupts.{weigh, tally, one_if, rings, aims, finds, wins, strikes, FollowsClears}
+use Rattle.shared_words.specs.SharedMemory.{Appends}
+
+pub weigh_none : {A : Type 0} → (f : Action A → ℕ) → weigh f [] ≡ 0
+unfolding weigh
+weigh_none f = refl
+
+pub weigh_snoc : {A : Type 0} → (f : Action A → ℕ) (l : List (Action A)) (t : Action A) → weigh f (l ++ t ∷ []) ≡ weigh f l + f t
+unfolding weigh
+weigh_snoc f [] t = omega arith
+weigh_snoc f (x ∷ l) t = let e : weigh f (l ++ t ∷ []) ≡ weigh f l + f t = weigh_snoc f l t in omega arith
+
+-- a weight of the accesses is at most another
+pub weigh_most : {A : Type 0} → (f g : Action A → ℕ) → ((t : Action A) → f t ≤ g t) → (l : List (Action A)) → weigh f l ≤ weigh g l
+unfolding weigh
+weigh_most f g all [] = omega arith
+weigh_most f g all (x ∷ l) = let a : f x ≤ g x = all x in let b : weigh f l ≤ weigh g l = weigh_most f g all l in omega arith
+
+pub tally_most : (n : ℕ) (f g : ℕ → ℕ) → ((p : ℕ) → p < n → f p ≤ g p) → tally n f ≤ tally n g
+unfolding tally
+tally_most zero f g all = omega arith
+tally_most (suc n) f g all = let a : tally n f ≤ tally n g = tally_most n f g (λ p lt. all p (omega arith)) in let b : f n ≤ g n = all n (omega arith) in omega arith
+
+pub tally_same : (n : ℕ) (f g : ℕ → ℕ) → ((p : ℕ) → p < n → f p ≡ g p) → tally n f ≡ tally n g
+unfolding tally
+tally_same zero f g all = refl
+tally_same (suc n) f g all = let a : tally n f ≡ tally n g = tally_same n f g (λ p lt. all p (omega arith)) in let b : f n ≡ g n = all n (omega arith) in omega arith
+
+pub tally_zero : (n : ℕ) (f : ℕ → ℕ) → ((p : ℕ) → p < n → f p ≡ 0) → tally n f ≡ 0
+unfolding tally
+tally_zero zero f all = refl
+tally_zero (suc n) f all = let a : tally n f ≡ 0 = tally_zero n f (λ p lt. all p (omega arith)) in let b : f n ≡ 0 = all n (omega arith) in omega arith
+
+pub tally_sum : (n : ℕ) (f g : ℕ → ℕ) → tally n (λ p. f p + g p) ≡ tally n f + tally n g
+unfolding tally
+tally_sum zero f g = refl
+tally_sum (suc n) f g = let a : tally n (λ p. f p + g p) ≡ tally n f + tally n g = tally_sum n f g in omega arith
+
+-- sums in either order
+pub tally_turned : (n m : ℕ) (f : ℕ → ℕ → ℕ) → tally n (λ b. tally m (λ p. f p b)) ≡ tally m (λ p. tally n (λ b. f p b))
+unfolding tally
+tally_turned n zero f = tally_zero n (λ b. 0) (λ p lt. refl)
+tally_turned n (suc m) f = let a : tally n (λ b. tally m (λ p. f p b) + f m b) ≡ tally n (λ b. tally m (λ p. f p b)) + tally n (λ b. f m b) = tally_sum n (λ b. tally m (λ p. f p b)) (λ b. f m b) in
+    let e : tally n (λ b. tally m (λ p. f p b)) ≡ tally m (λ p. tally n (λ b. f p b)) = tally_turned n m f in omega arith
+
+pub weigh_turned : {A : Type 0} → (n : ℕ) (f : ℕ → Action A → ℕ) (l : List (Action A)) → tally n (λ b. weigh (f b) l) ≡ weigh (λ t. tally n (λ b. f b t)) l
+unfolding weigh
+weigh_turned n f [] = tally_zero n (λ b. 0) (λ p lt. refl)
+weigh_turned n f (x ∷ l) = tally_sum n (λ b. f b x) (λ b. weigh (f b) l) ∙ (let e : tally n (λ b. weigh (f b) l) ≡ weigh (λ t. tally n (λ b. f b t)) l = weigh_turned n f l in ap (λ k. tally n (λ b. f b x) + k) e)
+
+-- one peer did one access more
+pub weigh_here : {A : Type 0} → (f : Action A → ℕ) (acc next : ℕ → List (Action A)) (p : ℕ) (t : Action A) → Appends acc next p t → weigh f (next p) ≡ weigh f (acc p) + f t
+weigh_here f acc next p t g = ap (weigh f) g.here ∙ weigh_snoc f (acc p) t
+
+pub weigh_else : {A : Type 0} → (f : Action A → ℕ) (acc next : ℕ → List (Action A)) (p q : ℕ) (t : Action A) → Appends acc next p t → q ≢ p → weigh f (next q) ≡ weigh f (acc q)
+weigh_else f acc next p q t g ne = ap (weigh f) (g.neighbour_word q ne)
+
+pub weigh_still : {A : Type 0} → (f : Action A → ℕ) (acc next : ℕ → List (Action A)) (p q : ℕ) (t : Action A) → Appends acc next p t → f t ≡ 0 → weigh f (next q) ≡ weigh f (acc q)
+weigh_still f acc next p q t g none = dite (ℕ_discrete q p)
+    (λ e. let h : weigh f (next p) ≡ weigh f (acc p) + f t = weigh_here f acc next p t g in let same : weigh f (next p) ≡ weigh f (acc p) = omega arith in subst (λ k. weigh f (next k) ≡ weigh f (acc k)) (sym e) same)
+    (λ ne. weigh_else f acc next p q t g ne)
+
+tally_before : {A : Type 0} → (n : ℕ) (f : Action A → ℕ) (acc next : ℕ → List (Action A)) (p : ℕ) (t : Action A) → Appends acc next p t → n ≤ p → tally n (λ q. weigh f (next q)) ≡ tally n (λ q. weigh f (acc q))
+tally_before n f acc next p t g le = tally_same n _ _ (λ q lt. weigh_else f acc next p q t g (λ e. omega arith))
+
+pub tally_grows : {A : Type 0} → (n : ℕ) (f : Action A → ℕ) (acc next : ℕ → List (Action A)) (p : ℕ) (t : Action A) → Appends acc next p t → p < n → tally n (λ q. weigh f (next q)) ≡ tally n (λ q. weigh f (acc q)) + f t
+unfolding tally
+tally_grows zero f acc next p t g lt = absurd (omega arith)
+tally_grows (suc n) f acc next p t g lt = dite (ℕ_discrete n p)
+    (λ e. let a : tally n (λ q. weigh f (next q)) ≡ tally n (λ q. weigh f (acc q)) = tally_before n f acc next p t g (omega arith) in
+    let b : weigh f (next n) ≡ weigh f (acc n) + f t = subst (λ k. weigh f (next k) ≡ weigh f (acc k) + f t) (sym e) (weigh_here f acc next p t g) in omega arith)
+    (λ ne. let a : tally n (λ q. weigh f (next q)) ≡ tally n (λ q. weigh f (acc q)) + f t = tally_grows n f acc next p t g (omega arith) in
+    let b : weigh f (next n) ≡ weigh f (acc n) = weigh_else f acc next p n t g ne in omega arith)
+
+-- the weights of an access to the region
+pub rings_accessed : {A : Type 0} → (target bit : ℕ) (t : A) → rings target bit (accessed t) ≡ 0
+unfolding rings
+rings_accessed target bit t = refl
+
+pub aims_accessed : {A : Type 0} → (target : ℕ) (t : A) → aims target (accessed t) ≡ 0
+unfolding aims
+aims_accessed target t = refl
+
+pub finds_accessed : {A : Type 0} → (bit : ℕ) (t : A) → finds bit (accessed t) ≡ 0
+unfolding finds
+finds_accessed bit t = refl
+
+pub wins_accessed : {A : Type 0} → (target : ℕ) (t : A) → wins target (accessed t) ≡ 0
+unfolding wins
+wins_accessed target t = refl
+
+-- of a ring
+pub rings_same : (A : Type 0) → (target bit k : ℕ) → rings {A = A} target bit (rang target k) ≡ one_if (k == bit)
+unfolding rings
+rings_same A target bit k = ap (λ (b : Bool). one_if (b && (k == bit))) (eq-eqb target target refl)
+
+pub rings_here : (A : Type 0) → (target bit : ℕ) → rings {A = A} target bit (rang target bit) ≡ 1
+unfolding rings
+rings_here A target bit = ap (λ (b : Bool). one_if (b && (bit == bit))) (eq-eqb target target refl) ∙ ap (λ (b : Bool). one_if b) (eq-eqb bit bit refl)
+
+pub finds_rang : (A : Type 0) → (bit at b : ℕ) → finds {A = A} bit (rang at b) ≡ 0
+unfolding finds
+finds_rang A bit at b = refl
+
+pub wins_rang : (A : Type 0) → (target at b : ℕ) → wins {A = A} target (rang at b) ≡ 0
+unfolding wins
+wins_rang A target at b = refl
+
+pub aims_here : (A : Type 0) → (target b : ℕ) → aims {A = A} target (rang target b) ≡ 1
+unfolding aims
+aims_here A target b = ap (λ (c : Bool). one_if c) (eq-eqb target target refl)
+
+pub aims_else : (A : Type 0) → (target at b : ℕ) → at ≢ target → aims {A = A} target (rang at b) ≡ 0
+unfolding aims
+aims_else A target at b ne = ap (λ (c : Bool). one_if c) (ne_eqb at target ne)
+
+-- of a look
+pub finds_looked : (A : Type 0) → (bit found : ℕ) → finds {A = A} bit (looked found) ≡ bit_at found bit
+unfolding finds
+finds_looked A bit found = refl
+
+pub rings_looked : (A : Type 0) → (target bit found : ℕ) → rings {A = A} target bit (looked found) ≡ 0
+unfolding rings
+rings_looked A target bit found = refl
+
+pub aims_looked : (A : Type 0) → (target found : ℕ) → aims {A = A} target (looked found) ≡ 0
+unfolding aims
+aims_looked A target found = refl
+
+pub wins_looked : (A : Type 0) → (target found : ℕ) → wins {A = A} target (looked found) ≡ 0
+unfolding wins
+wins_looked A target found = refl
+
+-- of a clear
+pub finds_cleared : (A : Type 0) → (bit at found : ℕ) → finds {A = A} bit (cleared at found) ≡ 0
+unfolding finds
+finds_cleared A bit at found = refl
+
+pub rings_cleared : (A : Type 0) → (target bit at found : ℕ) → rings {A = A} target bit (cleared at found) ≡ 0
+unfolding rings
+rings_cleared A target bit at found = refl
+
+pub aims_cleared : (A : Type 0) → (target at found : ℕ) → aims {A = A} target (cleared at found) ≡ 0
+unfolding aims
+aims_cleared A target at found = refl
+
+pub wins_here : (A : Type 0) → (target found : ℕ) → wins {A = A} target (cleared target found) ≡ bit_at found 0
+unfolding wins
+wins_here A target found = ap (λ (c : Bool). if c then bit_at found 0 else 0) (eq-eqb target target refl)
+
+pub wins_else : (A : Type 0) → (target at found : ℕ) → at ≢ target → wins {A = A} target (cleared at found) ≡ 0
+unfolding wins
+wins_else A target at found ne = ap (λ (c : Bool). if c then bit_at found 0 else 0) (ne_eqb at target ne)
+
+-- of clears, whatever they found
+pub strikes_accessed : {A : Type 0} → (target : ℕ) (t : A) → strikes target (accessed t) ≡ 0
+unfolding strikes
+strikes_accessed target t = refl
+
+pub strikes_rang : (A : Type 0) → (target at b : ℕ) → strikes {A = A} target (rang at b) ≡ 0
+unfolding strikes
+strikes_rang A target at b = refl
+
+pub strikes_looked : (A : Type 0) → (target found : ℕ) → strikes {A = A} target (looked found) ≡ 0
+unfolding strikes
+strikes_looked A target found = refl
+
+pub strikes_here : (A : Type 0) → (target found : ℕ) → strikes {A = A} target (cleared target found) ≡ 1
+unfolding strikes
+strikes_here A target found = ap (λ (c : Bool). one_if c) (eq-eqb target target refl)
+
+pub strikes_else : (A : Type 0) → (target at found : ℕ) → at ≢ target → strikes {A = A} target (cleared at found) ≡ 0
+unfolding strikes
+strikes_else A target at found ne = ap (λ (c : Bool). one_if c) (ne_eqb at target ne)
+
+-- of rings of another bit, or at another target
+pub rings_else : (A : Type 0) → (target bit k : ℕ) → k ≢ bit → rings {A = A} target bit (rang target k) ≡ 0
+rings_else A target bit k ne = rings_same A target bit k ∙ ap (λ (c : Bool). one_if c) (ne_eqb k bit ne)
+
+pub rings_off : (A : Type 0) → (target bit at k : ℕ) → at ≢ target → rings {A = A} target bit (rang at k) ≡ 0
+unfolding rings
+rings_off A target bit at k ne = ap (λ (c : Bool). one_if (c && (k == bit))) (ne_eqb at target ne)
+
+-- a ring is of one bit
+no_bit : (n b : ℕ) → n ≤ b → tally n (λ bit. one_if (b == bit)) ≡ 0
+no_bit n b le = tally_zero n _ (λ p lt. ap (λ (x : Bool). one_if x) (ne_eqb b p (λ e. omega arith)))
+
+one_bit : (n b : ℕ) → tally n (λ bit. one_if (b == bit)) ≤ 1
+unfolding tally
+one_bit zero b = omega arith
+one_bit (suc n) b = dite (ℕ_discrete b n)
+    (λ e. let none : tally n (λ bit. one_if (b == bit)) ≡ 0 = no_bit n b (omega arith) in let one : one_if (b == n) ≡ 1 = ap (λ (x : Bool). one_if x) (eq-eqb b n e) in omega arith)
+    (λ ne. let few : tally n (λ bit. one_if (b == bit)) ≤ 1 = one_bit n b in let none : one_if (b == n) ≡ 0 = ap (λ (x : Bool). one_if x) (ne_eqb b n ne) in omega arith)
+
+of_bits : (n b : ℕ) (c : Bool) → tally n (λ bit. one_if (c && (b == bit))) ≤ one_if c
+of_bits n b true = one_bit n b
+of_bits n b false = let e : tally n (λ bit. 0) ≡ 0 = tally_zero n _ (λ p lt. refl) in omega arith
+
+pub rings_bits : {A : Type 0} → (n target : ℕ) (t : Action A) → tally n (λ bit. rings target bit t) ≤ aims target t
+unfolding rings aims
+rings_bits n target (accessed t) = let e : tally n (λ bit. 0) ≡ 0 = tally_zero n _ (λ p lt. refl) in omega arith
+rings_bits n target (looked found) = let e : tally n (λ bit. 0) ≡ 0 = tally_zero n _ (λ p lt. refl) in omega arith
+rings_bits n target (cleared at found) = let e : tally n (λ bit. 0) ≡ 0 = tally_zero n _ (λ p lt. refl) in omega arith
+rings_bits n target (rang at b) = of_bits n b (at == target)
+
+-- each ring of a list comes after a clear, and so does each ring of the list with one more action
+pub behind_none : (A : Type 0) → (target : ℕ) → FollowsClears {A = A} target []
+unfolding weigh
+behind_none A target zero = omega arith
+behind_none A target (suc n) = omega arith
+
+pub behind_all : {A : Type 0} → (target : ℕ) (l : List (Action A)) → FollowsClears target l → weigh (aims target) l ≤ weigh (wins target) l
+behind_all target l b = subst (λ k. weigh (aims target) k ≤ weigh (wins target) k) (take_all (length l) l (omega arith)) (b (length l))
+
+pub behind_snoc : {A : Type 0} → (target : ℕ) (l : List (Action A)) (t : Action A) → FollowsClears target l → weigh (aims target) (l ++ t ∷ []) ≤ weigh (wins target) (l ++ t ∷ []) → FollowsClears target (l ++ t ∷ [])
+behind_snoc target l t b last = λ n. dite (dec_le n (length l))
+    (λ le. subst (λ k. weigh (aims target) k ≤ weigh (wins target) k) (sym (take-append-le n l (t ∷ []) le)) (b n))
+    (λ gt. subst (λ k. weigh (aims target) k ≤ weigh (wins target) k) (sym (take_all n (l ++ t ∷ []) (longer l t n gt))) last)
+  where
+    size : {A : Type 0} → (l : List (Action A)) (t : Action A) → length (l ++ t ∷ []) ≡ suc (length l)
+    size [] t = refl
+    size (x ∷ l) t = ap suc (size l t)
+
+    longer : {A : Type 0} → (l : List (Action A)) (t : Action A) (n : ℕ) → (n ≤ length l → ⊥) → length (l ++ t ∷ []) ≤ n
+    longer l t n gt = let e : length (l ++ t ∷ []) ≡ suc (length l) = size l t in omega arith
+
+pub weigh_append : {A : Type 0} → (f : Action A → ℕ) (l m : List (Action A)) → weigh f (l ++ m) ≡ weigh f l + weigh f m
+unfolding weigh
+weigh_append f [] m = omega arith
+weigh_append f (x ∷ l) m = let e : weigh f (l ++ m) ≡ weigh f l + weigh f m = weigh_append f l m in omega arith
+
+pub weigh_one : {A : Type 0} → (f : Action A → ℕ) (t : Action A) → weigh f (t ∷ []) ≡ f t
+unfolding weigh
+weigh_one f t = omega arith
+
+pub tally_first : (n : ℕ) (f : ℕ → ℕ) → tally (suc n) f ≡ f 0 + tally n (λ p. f (suc p))
+unfolding tally
+tally_first zero f = omega arith
+tally_first (suc n) f = let e : tally n f + f n ≡ f 0 + tally n (λ p. f (suc p)) = tally_first n f in omega arith
+
+pub tally_has : (n k : ℕ) (f : ℕ → ℕ) → k < n → f k ≤ tally n f
+unfolding tally
+tally_has zero k f lt = absurd (omega arith)
+tally_has (suc n) k f lt = dite (ℕ_discrete k n) (λ e. let h : f k ≡ f n = ap f e in omega arith) (λ ne. let h : f k ≤ tally n f = tally_has n k f (omega arith) in omega arith)

@@ -1,0 +1,10 @@
+pub mod RunSetups
+pub mod Actions
+pub mod Interrupts
+pub mod DerivedStates
+pub mod SharedMemory
+pub mod Happened
+pub mod Rules
+pub mod PassView
+pub mod Passes
+pub mod PeerRoutes

@@ -1,0 +1,50 @@
+-- The routes of interrupts to running peers, as the acts of their scenario set the devices.
+use Rattle.std.specs.Prelude.{ℕ, ◌≡◌, ◌<◌, true, false, List, [], ◌∷◌, ◌++◌, length, get_or}
+use Rattle.std.specs.Int.{bit_at}
+use Rattle.std.specs.List.{fold}
+use Rattle.doorbell_irq.specs.declared.route.Route.{Route}
+use Rattle.pci_space.specs.Fields.{is_access}
+use Rattle.doorbell_irq.specs.Events.{Event, ConfigWritten, RegisterWritten, MsixWritten}
+use Rattle.doorbell_irq.specs.Routes.{IsRoute}
+use Rattle.scenario_text.specs.declared.acts.Act.{Act}
+use Rattle.scenario_text.specs.declared.acts.Act.TheVariants as act
+use Rattle.scenario_text.specs.Scenario.{World}
+use Rattle.lawful_history.specs.Device.{devices_of}
+use Rattle.shared_words.specs.declared.run_setup.RunSetup.{RunSetup}
+use Rattle.shared_words.specs.Interrupts.{one_if}
+
+-- the route to a peer: no interrupt comes to one that isn't there
+abbrev pub nowhere : Route
+nowhere = record { vectors = 0; intx = false; one_shot = false; enabled = false }
+
+abbrev pub route_to : List Route → ℕ → Route
+route_to routes target = get_or routes target nowhere
+
+-- these are the routes of all peers with which the words were made
+pub record AreRoutes (key : RunSetup) (routes : List Route) : Type 0 where
+  pub count : length routes ≡ key.geometry.peers
+  pub one_shot : (p : ℕ) → p < key.geometry.peers → bit_at key.one_shot p ≡ one_if (route_to routes p).one_shot
+  pub enabled : (p : ℕ) → p < key.geometry.peers → bit_at key.enabled p ≡ one_if (route_to routes p).enabled
+
+-- what an act does to the devices, and what all acts did to them, the newest event first
+abbrev pub events_in : Act → List Event
+events_in (act.CfgWrite p offset width value) = ConfigWritten p offset width value ∷ []
+events_in (act.MsixWrite p offset value) = MsixWritten p offset value ∷ []
+events_in (act.MmioWrite p offset value) = RegisterWritten p offset value ∷ []
+events_in other = []
+
+unfoldable pub events_of : List Act → List Event
+events_of acts = fold (λ events a. events_in a ++ events) [] acts
+
+-- an act that sets a device names one of `peers` peers, and a configuration write is a permitted
+-- access
+abbrev pub MaySet : ℕ → Act → Type 0
+MaySet peers (act.CfgWrite p offset width value) = (p < peers) × (is_access 256 offset width ≡ true)
+MaySet peers (act.MsixWrite p offset value) = p < peers
+MaySet peers (act.MmioWrite p offset value) = p < peers
+MaySet peers other = Unit {0}
+
+-- these are the routes of a scenario's peers, once its acts have set their devices
+pub record AreRoutesOf (world : World) (routes : List Route) : Type 0 where
+  pub count : length routes ≡ world.geometry.peers
+  pub each : (p : ℕ) → p < world.geometry.peers → IsRoute (devices_of world) (events_of world.acts) p (route_to routes p)

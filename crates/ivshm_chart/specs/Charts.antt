@@ -4,38 +4,52 @@ use Rattle.ivs_base.specs.SourceAndSink.{Input, Output, Gave, GaveMany, HasEnded
 use Rattle.record_text.specs.declared.faults.RecordFault.{RecordFault}
 use Rattle.record_text.specs.Spelling.{Record, IsSpelling}
 use Rattle.record_text.specs.Judge.{answer}
-use Rattle.record_chart.specs.declared.pictures.Picture.{Picture}
+use Rattle.trace_replay.specs.declared.verdict.Verdict.{Verdict}
+use Rattle.trace_replay.specs.declared.verdict.Verdict.TheVariants.{Same, Differs}
+use Rattle.trace_replay.specs.Texts.{IsVerdictOfText}
 use Rattle.record_chart.specs.Pictures.{IsPicture}
 use Rattle.ivshm_chart.specs.declared.words.Span.{Span}
+use Rattle.ivshm_chart.specs.declared.words.Form.{Form}
+use Rattle.ivshm_chart.specs.declared.replies.Drawn.{Drawn}
 use Rattle.ivshm_chart.specs.declared.status.Status.{Status}
 use Rattle.ivshm_chart.specs.declared.status.Status.TheVariants.{Done, Usage, Refused, ReadFault, WriteFault, NoMemory}
 use Rattle.ivshm_chart.specs.Refusals.{line_of}
 
 abbrev pub usage_line : List ℕ
-usage_line = codes "usage: ivshm_chart | ivshm_chart FROM TO\n"
+usage_line = codes "usage: ivshm_chart [--text] [FROM TO]\n"
 
 -- The most bytes that are read, as for `ivshm replay`.
 abbrev pub limit : ℕ
 limit = 1073741824
 
--- The bytes spell a record, and the picture is one of the lines asked for.
-abbrev pub Draws : Span → List ℕ → Option Picture → Type 0
+-- The line at which a record differs from the lawful history of its scenario.
+abbrev pub differing : Verdict → Option ℕ
+differing Same = None
+differing (Differs fault) = Some fault.line
+
+-- The line that the picture marks is that of the verdict of `ivshm replay`.
+abbrev pub IsMark : List ℕ → Option ℕ → Type 0
+IsMark bytes differs = (verdict : Verdict) × IsVerdictOfText bytes verdict × (differs ≡ differing verdict)
+
+-- The bytes spell a record, and the picture is one of the lines asked for, with its mark.
+abbrev pub Draws : Span → List ℕ → Option Drawn → Type 0
 Draws span bytes None = ⊥
-Draws span bytes (Some picture) = (r : Record) × IsSpelling r bytes × IsPicture r.world r.lines span.first span.last picture
+Draws span bytes (Some drawn) =
+    (r : Record) × IsSpelling r bytes × IsPicture r.world r.lines span.first span.last drawn.picture × IsMark bytes drawn.differs
 
 -- The bytes spell no record, and the text is the line that says why.
 abbrev pub IsRefusal : List ℕ → (text : List ℕ) → Type 0
 IsRefusal bytes text = (fault : RecordFault) × (answer bytes ≡ Err fault) × (text ≡ line_of fault)
 
 -- The reply to the input: its status, its text and its picture.
-abbrev pub IsReply : Span → List ℕ → Status → (text : List ℕ) → Option Picture → Type 0
+abbrev pub IsReply : Span → List ℕ → Status → (text : List ℕ) → Option Drawn → Type 0
 IsReply span bytes Done text drawn = Draws span bytes drawn
 IsReply span bytes Refused text drawn = IsRefusal bytes text × (drawn ≡ None)
 IsReply span bytes _ text drawn = ⊥
 
 -- A record was read to its end, and a whole text was written. `drawn` is the picture that the text
 -- shows.
-pub record Charts (span : Span) (before now : Input) (before' now' : Output) (drawn : Option Picture) : Type 0 where
+pub record Charts (span : Span) (before now : Input) (before' now' : Output) (drawn : Option Drawn) : Type 0 where
   pub bytes : List ℕ
   pub text : List ℕ
   pub gave : Gave before bytes now
@@ -55,12 +69,12 @@ pub record Refuses (before now : Input) (before' now' : Output) : Type 0 where
   pub wrote : Took before' text now'
 
 -- Each status has its cause.
-abbrev pub HasCause : Status → Option Span → (before now : Input) → (before' now' : Output) → Option Picture → Type 0
-HasCause Done (Some span) before now before' now' drawn = Charts span before now before' now' drawn
+abbrev pub HasCause : Status → Option Form → (before now : Input) → (before' now' : Output) → Option Drawn → Type 0
+HasCause Done (Some form) before now before' now' drawn = Charts form.span before now before' now' drawn
 HasCause Done None before now before' now' drawn = ⊥
 HasCause Usage None before now before' now' drawn = (now ≡ before) × Took before' usage_line now'
-HasCause Usage (Some span) before now before' now' drawn = ⊥
-HasCause Refused (Some span) before now before' now' drawn = Refuses before now before' now'
+HasCause Usage (Some form) before now before' now' drawn = ⊥
+HasCause Refused (Some form) before now before' now' drawn = Refuses before now before' now'
 HasCause Refused None before now before' now' drawn = ⊥
 HasCause ReadFault form before now before' now' drawn = SourceFailed before now × (now' ≡ before')
 HasCause WriteFault form before now before' now' drawn = SinkFailed before' now'

@@ -1,5 +1,6 @@
 //! The program `ivshm_chart`: it reads a record, and writes a picture of its history as an SVG
-//! file. It uses `record_text` for the record and `record_chart` for the picture. The top call is
+//! file, or as a text for a terminal. It uses `record_text` for the record, `trace_replay` for the
+//! line at which it leaves the lawful history, and `record_chart` for the picture. The top call is
 //! [`program::chart`], over any source and sink. The arguments and the two real streams are the
 //! trusted edge: no contract describes them.
 #![tactic(auto)]
@@ -8,6 +9,7 @@ mod arguments;
 mod fronts;
 mod program;
 mod refusals;
+mod replies;
 mod status;
 #[cfg(test)]
 mod tests;

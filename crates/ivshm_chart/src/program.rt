@@ -1,91 +1,22 @@
 //! The top call.
-ghost use Rattle.std.specs.Prelude.{◌≡◌, ◌≢◌, ◌⊎◌, ◌≤◌, ℕ, None, Some, IfOk, IsErrOf, map, take, length};
+ghost use Rattle.std.specs.Prelude.{◌≡◌, ◌≢◌, ◌⊎◌, None, IfOk, IsErrOf, map};
 ghost use Rattle.std.specs.String.{string_bytes};
 ghost use Rattle.ivs_base.specs.SourceAndSink.{Took, SinkFailed};
 ghost use Rattle.ivshm_chart.specs.Forms.{form_of};
-ghost use Rattle.ivshm_chart.specs.Refusals.{line_of};
-ghost use Rattle.ivshm_chart.specs.Charts.{HasCause, IsReply};
+ghost use Rattle.ivshm_chart.specs.Charts.{HasCause};
 
 use crate::arguments::WordsFault;
-use crate::fronts::{Front, front_of};
-use crate::refusals::refusal_line;
+use crate::replies::{Drawn, Reply, reply_to};
 use crate::status::Status;
-use crate::words::{Span, read_form};
-use ivs_base::{NoMemory, ReadEnd, Sink, Source, read_all, write_whole};
-use record_chart::{Picture, draw, picture_of, picture_of_front};
-use record_text::{RecordFault, parse};
+use crate::words::read_form;
+use ivs_base::{ReadEnd, Sink, Source, read_all, write_whole};
 use std::alloc::Global;
 
 /// The usage line, which lists the program's words.
-const USAGE: &[u8] = b"usage: ivshm_chart | ivshm_chart FROM TO\n";
+const USAGE: &[u8] = b"usage: ivshm_chart [--text] [FROM TO]\n";
 
 /// The most bytes that are read.
 const LIMIT: u64 = 1_073_741_824;
-
-/// The reply to the input: a status, a text, and the picture that the text shows.
-#[derive(Drop)]
-struct Reply {
-    status: Status,
-    text: Vec<u8>,
-    drawn: Option<Picture>,
-}
-
-/// Returns the reply to a text that is refused.
-fn reply_to_fault(alloc: Global, fault: RecordFault) -> Result<Reply, NoMemory>
-    ensures { IfOk result (λ reply. (reply.status ≡ Status.Refused) × (reply.text.items ≡ line_of fault) × (reply.drawn ≡ None)) }
-{
-    let text = refusal_line(alloc, fault)?;
-    Ok(Reply {
-        status: Status::Refused,
-        text,
-        drawn: None,
-    })
-}
-
-/// Returns the reply to the input, by all lines of its record.
-fn reply_to_whole(alloc: Global, span: Span, bytes: &[u8]) -> Result<Reply, NoMemory>
-    requires { 1 ≤ span.first }
-    ensures { IfOk result (λ reply. IsReply span bytes.now reply.status reply.text.items reply.drawn) }
-{
-    match parse(alloc, bytes) {
-        Ok(trace) => {
-            let picture = picture_of(alloc, &trace, span.first, span.last)?;
-            let total = trace.lines.items().len() as u64;
-            let text = draw(alloc, &trace, total, span.first, &picture)?;
-            Ok(Reply {
-                status: Status::Done,
-                text,
-                drawn: Some(picture),
-            })
-        }
-        Err(RecordFault::NoMemory) => Err(NoMemory),
-        Err(fault) => reply_to_fault(alloc, fault),
-    }
-}
-
-/// Returns the reply to the input. The lines of the record are read one by one, and only the first
-/// ones are kept. If the picture needs more of them, for example for long runs that are folded, all
-/// are kept.
-fn reply_to(alloc: Global, span: Span, bytes: &[u8]) -> Result<Reply, NoMemory>
-    requires { 1 ≤ span.first }
-    ensures { IfOk result (λ reply. IsReply span bytes.now reply.status reply.text.items reply.drawn) }
-{
-    let Front { trace, others } = match front_of(alloc, span.first, bytes) {
-        Ok(front) => front,
-        Err(RecordFault::NoMemory) => return Err(NoMemory),
-        Err(fault) => return reply_to_fault(alloc, fault),
-    };
-    let Some(picture) = picture_of_front(alloc, &trace, others, span.first, span.last)? else {
-        return reply_to_whole(alloc, span, bytes);
-    };
-    let total = (trace.lines.items().len() as u64).saturating_add(others);
-    let text = draw(alloc, &trace, total, span.first, &picture)?;
-    Ok(Reply {
-        status: Status::Done,
-        text,
-        drawn: Some(picture),
-    })
-}
 
 /// Writes `text`. Returns `status` if all of the text was written, and WriteFault otherwise.
 fn write_text<K: Sink>(sink: &mut K, text: &[u8], status: Status) -> Status
@@ -100,21 +31,22 @@ fn write_text<K: Sink>(sink: &mut K, text: &[u8], status: Status) -> Status
 }
 
 /// Runs the program's words, its arguments after its name: reads a record to its end, and writes
-/// the picture of the lines asked for. Nothing is written before the text is complete.
+/// the picture of the lines asked for, as an SVG file or as a text for a terminal. Nothing is
+/// written before the text is complete.
 ///
-/// `drawn` is `None` before the call. After the call it holds the picture, if the text that was due
-/// is a picture.
+/// `drawn` is `None` before the call. After the call it holds the picture and the line that it
+/// marks, if the text that was due is a picture.
 // claim cause: If the chart is done, the source was read to its end, its bytes spell a record, and
-//    a picture of the lines asked for was written. A text that spells no record is refused by the
-//    line of its first fault.
-// claim unread, usage: The words are none, or FROM and TO with 1 ≤ FROM ≤ TO. Words that are no
-//    form read nothing.
+//    a picture of the lines asked for was written. The line that it marks is that of the verdict of
+//    `ivshm replay`. A text that spells no record is refused by the line of its first fault.
+// claim unread, usage: The words are none, or FROM and TO with 1 ≤ FROM ≤ TO, after `--text` or
+//    without it. Words that are no form read nothing.
 pub fn chart<S: Source, K: Sink>(
     alloc: Global,
     words: &[String],
     source: &mut S,
     sink: &mut K,
-    drawn: &mut Option<Picture>,
+    drawn: &mut Option<Drawn>,
 ) -> Status
     requires { drawn.old ≡ None }
     ensures cause { HasCause result (form_of (map string_bytes words.now)) (S.input source.old) (S.input source.new)
@@ -123,7 +55,7 @@ pub fn chart<S: Source, K: Sink>(
     ensures usage { form_of (map string_bytes words.now) ≡ None → (result ≡ Status.Usage) ⊎ (result ≡ Status.WriteFault) }
     ensures unread { form_of (map string_bytes words.now) ≡ None → source.new ≡ source.old }
 {
-    let Some(span) = read_form(words) else {
+    let Some(form) = read_form(words) else {
         return write_text(sink, USAGE, Status::Usage);
     };
     let bytes = match read_all(alloc, source, LIMIT) {
@@ -132,15 +64,15 @@ pub fn chart<S: Source, K: Sink>(
         Err(ReadEnd::NoMemory) => return Status::NoMemory,
         Err(ReadEnd::TooLong) => return write_text(sink, b"refused 0 TooLong\n", Status::Refused),
     };
-    let Ok(reply) = reply_to(alloc, span, &bytes) else {
+    let Ok(reply) = reply_to(alloc, form, &bytes) else {
         return Status::NoMemory;
     };
     let Reply {
         status,
         text,
-        drawn: picture,
+        drawn: made,
     } = reply;
-    *drawn = picture;
+    *drawn = made;
     write_text(sink, &text, status)
 }
 
@@ -151,7 +83,7 @@ pub fn status_of_words<S: Source, K: Sink>(
     words: Result<Vec<String>, WordsFault>,
     source: &mut S,
     sink: &mut K,
-    drawn: &mut Option<Picture>,
+    drawn: &mut Option<Drawn>,
 ) -> Status
     requires { drawn.old ≡ None }
     ensures words { IfOk words (λ w. HasCause result (form_of (map string_bytes w.items)) (S.input source.old) (S.input source.new)

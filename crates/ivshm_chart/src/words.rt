@@ -1,7 +1,7 @@
 //! The words of the program.
 ghost use Rattle.std.specs.Prelude.{◌≡◌, ◌≤◌, map, IfSome};
 ghost use Rattle.std.specs.String.{string_bytes};
-ghost use Rattle.ivshm_chart.specs.Forms.{span_of, form_of};
+ghost use Rattle.ivshm_chart.specs.Forms.{span_of, all, picture_of, text_of, form_of};
 
 use line_format::number;
 
@@ -10,6 +10,32 @@ use line_format::number;
 pub struct Span {
     pub first: u64,
     pub last: u64,
+}
+
+/// How the picture is written.
+#[derive(Clone, Copy, Debug, PartialEq, Eq)]
+pub enum Kind {
+    /// As an SVG file.
+    Svg,
+    /// As a text for a terminal.
+    Text,
+}
+
+/// What the words ask for: a picture of these lines.
+#[derive(Clone, Copy, Debug, PartialEq, Eq)]
+pub struct Form {
+    pub kind: Kind,
+    pub span: Span,
+}
+
+/// Returns all lines.
+fn all() -> Span
+    ensures { result ≡ all }
+{
+    Span {
+        first: 1,
+        last: u64::MAX,
+    }
 }
 
 /// Returns the lines from one number to another, if they are a span.
@@ -23,18 +49,47 @@ fn span_of(first: Option<u64>, last: Option<u64>) -> Option<Span>
     }
 }
 
-/// Returns the lines that the words ask for: all lines if there are no words, or those from FROM to
-/// TO.
-pub fn read_form(words: &[String]) -> Option<Span>
+/// Returns a picture of this kind of the lines, if they are a span.
+fn picture_of(kind: Kind, span: Option<Span>) -> Option<Form>
+    requires { IfSome span (λ span. 1 ≤ span.first) }
+    ensures form { result ≡ picture_of kind span }
+    ensures some { IfSome result (λ form. 1 ≤ form.span.first) }
+{
+    match span {
+        Some(span) => Some(Form { kind, span }),
+        None => None,
+    }
+}
+
+/// Returns a text of the lines, if the word is `--text` and they are a span.
+fn text_of(word: &str, span: Option<Span>) -> Option<Form>
+    requires { IfSome span (λ span. 1 ≤ span.first) }
+    ensures form { result ≡ text_of word.now span }
+    ensures some { IfSome result (λ form. 1 ≤ form.span.first) }
+{
+    match word {
+        "--text" => picture_of(Kind::Text, span),
+        _ => None,
+    }
+}
+
+/// Returns what the words ask for: all lines, or those from FROM to TO, and a text if `--text` is
+/// the first word.
+pub fn read_form(words: &[String]) -> Option<Form>
     ensures form { result ≡ form_of (map string_bytes words.now) }
-    ensures some { IfSome result (λ span. 1 ≤ span.first) }
+    ensures some { IfSome result (λ form. 1 ≤ form.span.first) }
 {
     match words {
-        [] => Some(Span {
-            first: 1,
-            last: u64::MAX,
-        }),
-        [first, last] => span_of(number(first.as_bytes()), number(last.as_bytes())),
+        [] => picture_of(Kind::Svg, Some(all())),
+        [word] => text_of(word.as_str(), Some(all())),
+        [first, last] => picture_of(
+            Kind::Svg,
+            span_of(number(first.as_bytes()), number(last.as_bytes())),
+        ),
+        [word, first, last] => text_of(
+            word.as_str(),
+            span_of(number(first.as_bytes()), number(last.as_bytes())),
+        ),
         _ => None,
     }
 }

@@ -4,15 +4,16 @@ use crate::arrows::Arrow;
 use crate::labels::{Folded, folded_of, grouped, label_of, state_name};
 use crate::lines::{line_at, peer_of};
 use crate::pictures::{Picture, is_link};
-use crate::places::{COLUMN, GUTTER, ROW, TOP, column_x, row_y};
+use crate::places::{COLUMN, GUTTER, LABEL, NUMBER, ROW, TOP, column_x, row_y};
 use crate::rows::Row;
 use crate::sheets::Sheet;
+use crate::titles::{has_line, shown_by, title_of};
 use crate::tracks::{put_bands, put_calls, state_class};
 use ivs_base::NoMemory;
 use lawful_history::Line;
 use record_text::Trace;
 use scenario_text::Scenario;
-use std::alloc::{AllocError, Global};
+use std::alloc::Global;
 
 /// The colours, for light paper and for dark paper.
 const STYLE: &str = "<style>
@@ -31,6 +32,7 @@ text{font:11px system-ui,sans-serif;fill:#1f2328}
 .write{fill:#1f2328}
 .bar{fill:#afb8c1;opacity:.5}
 .stripe{fill:#818b98;opacity:.12}
+.differs{fill:#cf222e;opacity:.25}
 .bracket{fill:none;stroke:#59636e;stroke-width:1.2}
 .cut{stroke-dasharray:3 2}
 .bell{fill:none;stroke:#0969da;stroke-width:1.2}
@@ -112,7 +114,7 @@ fn put_bell(sheet: &mut Sheet, peers: u32, peer: u32, target: u32, y: u64) -> Re
     let x = column_x(peer);
     let end = column_x(target);
     if peer < target {
-        sheet.level("bell", x + 150, end.saturating_sub(10), y)?;
+        sheet.level("bell", x + 200, end.saturating_sub(10), y)?;
         sheet.head("bellhead", end.saturating_sub(4), y, true)
     } else {
         sheet.level("bell", x.saturating_sub(4), end + COLUMN + 6, y)?;
@@ -166,19 +168,36 @@ fn put_row(
     let base = row_y(at) + 12;
     let number = row.first;
     let number = format!(in alloc; "{number}")?;
-    sheet.words("number", 48, base, number.as_str())?;
+    sheet.words("number", NUMBER, base, number.as_str())?;
     let label = label_of(alloc, &trace.scenario, storms, line, row)?;
     if peer >= peers {
         let label = format!(in alloc; "peer {peer}: {label}")?;
-        return sheet.words("warn", column_x(0) + 46, base, label.as_str());
+        return sheet.words_within("warn", column_x(0) + 46, base, LABEL, label.as_str());
     }
     put_mark(sheet, peers, peer, shape, at)?;
-    sheet.words(
+    sheet.words_within(
         words_class(shape),
         column_x(peer) + 46,
         base,
+        LABEL,
         label.as_str(),
     )
+}
+
+/// Marks the row of the line at which the record differs from the lawful history, if it is shown.
+fn put_difference(
+    sheet: &mut Sheet,
+    peers: u32,
+    rows: &[Row],
+    differs: Option<u64>,
+) -> Result<(), NoMemory> {
+    let width = column_x(peers) - GUTTER;
+    for (at, row) in rows.iter().enumerate() {
+        if has_line(row, differs) {
+            sheet.rect("differs", 0, row_y(at), width, ROW)?;
+        }
+    }
+    Ok(())
 }
 
 /// Returns the index of the row of this line, or of the first or the last row.
@@ -228,27 +247,27 @@ fn put_arrow(
 
 /// Draws the legend of the colour of a state, 0 to 3.
 fn put_state(sheet: &mut Sheet, state: u32) -> Result<(), NoMemory> {
-    let x = 16 + 66 * u64::from(state.min(3));
+    let x = 16 + 72 * u64::from(state.min(3));
     sheet.rect(state_class(state), x, 38, 10, 10)?;
     sheet.words("soft", x + 14, 47, state_name(state))
 }
 
 /// Draws the part above the rows: the legend of colours and marks, and the heads of the columns.
 fn put_heads(alloc: Global, sheet: &mut Sheet, scenario: &Scenario) -> Result<(), NoMemory> {
-    sheet.words("number", 48, TOP - 14, "line")?;
+    sheet.words("number", NUMBER, TOP - 14, "line")?;
     for state in 0..4 {
         put_state(sheet, state)?;
     }
-    sheet.circle("read", 294, 43)?;
-    sheet.words("soft", 302, 47, "reads")?;
-    sheet.circle("write", 346, 43)?;
-    sheet.words("soft", 354, 47, "writes")?;
-    sheet.level("bell", 404, 420, 43)?;
-    sheet.head("bellhead", 426, 43, true)?;
-    sheet.words("soft", 432, 47, "doorbell, interrupt")?;
-    sheet.level("way", 538, 552, 43)?;
-    sheet.head("wayhead", 558, 43, true)?;
-    sheet.words("soft", 564, 47, "frame")?;
+    sheet.circle("read", 314, 43)?;
+    sheet.words("soft", 322, 47, "reads")?;
+    sheet.circle("write", 376, 43)?;
+    sheet.words("soft", 384, 47, "writes")?;
+    sheet.level("bell", 442, 458, 43)?;
+    sheet.head("bellhead", 464, 43, true)?;
+    sheet.words("soft", 470, 47, "doorbell, interrupt")?;
+    sheet.level("way", 614, 628, 43)?;
+    sheet.head("wayhead", 634, 43, true)?;
+    sheet.words("soft", 640, 47, "frame")?;
     for (at, honest) in scenario.honest.items().iter().enumerate() {
         let kind = if *honest { "honest" } else { "hostile" };
         let peer = at.min(8) as u32;
@@ -258,31 +277,19 @@ fn put_heads(alloc: Global, sheet: &mut Sheet, scenario: &Scenario) -> Result<()
     Ok(())
 }
 
-/// Returns the title: the numbers of the lines shown, `shown` of `total` lines from `first` on.
-fn title_of(alloc: Global, first: u64, shown: u64, total: u64) -> Result<String, AllocError> {
-    if shown == 0 {
-        return format!(in alloc; "No history lines from {first} on: there are {total}");
-    }
-    let last = first.saturating_add(shown - 1);
-    format!(in alloc; "History lines {first} to {last} of {total}")
-}
-
 /// Writes the head of the file: its size, its title and its description.
 fn put_start(
     alloc: Global,
     sheet: &mut Sheet,
     trace: &Trace,
     picture: &Picture,
-    first: u64,
-    shown: u64,
-    total: u64,
+    title: &str,
 ) -> Result<(), NoMemory> {
     let peers = trace.scenario.geometry.peers();
-    let width = (column_x(peers) - GUTTER).max(620) + 44;
+    let width = (column_x(peers) - GUTTER).max(680) + 44;
     let height = row_y(picture.rows.len()) + 40;
     let rows = picture.rows.len();
     let arrows = picture.arrows.len();
-    let title = title_of(alloc, first, shown, total)?;
     let start = format!(in alloc;
         "<svg xmlns='http://www.w3.org/2000/svg' width='{width}' height='{height}' viewBox='0 0 {width} {height}' "
     )?;
@@ -297,7 +304,7 @@ fn put_start(
     sheet.raw(text.as_str())?;
     sheet.raw(STYLE)?;
     sheet.rect("paper", 0, 0, width, height)?;
-    sheet.words("title", 16, 24, title.as_str())
+    sheet.words("title", 16, 24, title)
 }
 
 /// Draws faint stripes that help the eye to follow a row.
@@ -323,24 +330,24 @@ fn put_end(alloc: Global, sheet: &mut Sheet, picture: &Picture) -> Result<(), No
 }
 
 /// Returns the SVG file of a picture of the lines of a record from line `first` on. The record has
-/// `total` lines. The trace has all lines that are shown, and those before them.
+/// `total` lines, and differs from the lawful history first at line `differs`, if it does. The
+/// trace has all lines that are shown, and those before them.
 pub fn draw(
     alloc: Global,
     trace: &Trace,
     total: u64,
     first: u64,
     picture: &Picture,
+    differs: Option<u64>,
 ) -> Result<Vec<u8>, NoMemory> {
     let lines = trace.lines.items();
     let rows = picture.rows.as_slice();
     let peers = trace.scenario.geometry.peers();
-    let mut shown: u64 = 0;
-    for row in rows {
-        shown = shown.saturating_add(row.count);
-    }
+    let title = title_of(alloc, first, shown_by(rows), total, differs)?;
     let mut sheet = Sheet::new(alloc);
-    put_start(alloc, &mut sheet, trace, picture, first, shown, total)?;
+    put_start(alloc, &mut sheet, trace, picture, title.as_str())?;
     put_stripes(&mut sheet, peers, rows.len())?;
+    put_difference(&mut sheet, peers, rows, differs)?;
     put_heads(alloc, &mut sheet, &trace.scenario)?;
     for peer in 0..peers.min(8) {
         put_bands(&mut sheet, lines, first, rows, peer)?;

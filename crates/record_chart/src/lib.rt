@@ -1,8 +1,8 @@
 //! A picture of a record: the lines of a history that share a row, the arrows from a frame's
-//! acceptance to its delivery, and the SVG file that shows them. The crate uses `record_text` for
-//! records. Its contracts promise that the rows are the lines of the record, each once and in
-//! order. They promise that a delivered frame of an honest pair has the arrow from its own
-//! acceptance.
+//! acceptance to its delivery, and the SVG file or the text that shows them. The crate uses
+//! `record_text` for records. Its contracts promise that the rows are the lines of the record, each
+//! once and in order. They promise that a delivered frame of an honest pair has the arrow from its
+//! own acceptance.
 //!
 //! # Design
 //!
@@ -20,7 +20,7 @@
 //!   since two frames may be equal. That both ends of an arrow have the same frame follows from the
 //!   rows of the link machine.
 // tested: The SVG file around the rows and arrows, by `checks/pictures`, which also reads it as
-//    XML.
+//    XML, and the text for a terminal, by `worked_rows`.
 #![tactic(auto)]
 
 mod arrows;
@@ -28,10 +28,13 @@ mod drawing;
 mod labels;
 mod laws;
 mod lines;
+mod pages;
 mod pictures;
 mod places;
 mod rows;
 mod sheets;
+mod texts;
+mod titles;
 mod tracks;
 mod words;
 
@@ -40,3 +43,4 @@ pub use drawing::draw;
 pub use laws::{deliveries_have_their_arrows, rows_are_the_lines};
 pub use pictures::{Picture, picture_of, picture_of_front};
 pub use rows::{Row, Rows, rows_of, storms_of};
+pub use texts::draw_text;

@@ -5,13 +5,19 @@ ghost use Rattle.std.specs.Prelude.{◌≤◌};
 pub const ROW: u64 = 16;
 
 /// The width of a peer's column.
-pub const COLUMN: u64 = 256;
+pub const COLUMN: u64 = 300;
 
 /// The width of the space between two columns, in which the arrows of frames run down.
 pub const GUTTER: u64 = 40;
 
+/// The width of a label, from its left edge to the end of its column.
+pub const LABEL: u64 = COLUMN - 46 - 10;
+
+/// The right edge of the numbers of lines. A number has at most nine digits.
+pub const NUMBER: u64 = 72;
+
 /// The left edge of the first column; the numbers of lines are left of it.
-const LEFT: u64 = 56;
+const LEFT: u64 = 80;
 
 /// The upper edge of the first row.
 pub const TOP: u64 = 104;
@@ -26,7 +32,7 @@ pub fn row_y(row: usize) -> u64
 
 /// Returns the left edge of a peer's column.
 pub fn column_x(column: u32) -> u64
-    ensures least { 56 ≤ result }
+    ensures least { 80 ≤ result }
     ensures most { result ≤ 10000 }
 {
     LEFT + (COLUMN + GUTTER) * u64::from(column.min(8))

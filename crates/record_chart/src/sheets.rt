@@ -3,6 +3,12 @@
 use ivs_base::NoMemory;
 use std::alloc::Global;
 
+/// The mean width of a bold character in a wide font, in pixels.
+const WIDEST: u64 = 8;
+
+/// The mean width of a character in a usual font, in pixels.
+const USUAL: u64 = 6;
+
 /// The text of an SVG file while it is written. Places are in pixels from the upper left corner.
 #[derive(Drop)]
 pub struct Sheet {
@@ -86,6 +92,29 @@ impl Sheet {
         write!(
             self.text,
             "<text class='{class}' x='{x}' y='{y}'>{words}</text>\n"
+        )?;
+        Ok(())
+    }
+
+    /// Appends words from `x`, `y` on that are at most `width` pixels wide in every font. Words
+    /// that may be wider are set in that width, or in six pixels for each character if that is
+    /// less.
+    pub fn words_within(
+        &mut self,
+        class: &str,
+        x: u64,
+        y: u64,
+        width: u64,
+        words: &str,
+    ) -> Result<(), NoMemory> {
+        let count = words.len() as u64;
+        if count <= width / WIDEST {
+            return self.words(class, x, y, words);
+        }
+        let set = width.min(count.saturating_mul(USUAL));
+        write!(
+            self.text,
+            "<text class='{class}' x='{x}' y='{y}' textLength='{set}' lengthAdjust='spacingAndGlyphs'>{words}</text>\n"
         )?;
         Ok(())
     }

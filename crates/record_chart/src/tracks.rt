@@ -29,7 +29,7 @@ fn state_set(line: &Line, peer: u32) -> Option<u32> {
 }
 
 /// Returns the state of the peer after these lines, a prefix of a history.
-fn state_after(lines: &[Line], peer: u32) -> u32 {
+pub fn state_after(lines: &[Line], peer: u32) -> u32 {
     let mut state = 0;
     for line in lines {
         if let Some(value) = state_set(line, peer) {
@@ -95,7 +95,7 @@ pub fn put_bands(
 
 /// Returns the name of the call that a line belongs to, as far as the line shows it, or `None` if
 /// it belongs to no call.
-fn call_of(line: &Line) -> Option<&'static str> {
+pub fn call_of(line: &Line) -> Option<&'static str> {
     match line {
         Line::Saw { .. } => Some("tick"),
         Line::Reclaim { .. } | Line::Full { .. } | Line::Accept { .. } => Some("offer"),
@@ -115,7 +115,7 @@ fn call_of(line: &Line) -> Option<&'static str> {
 }
 
 /// Whether the line ends the call.
-fn ends_call(line: &Line) -> bool {
+pub fn ends_call(line: &Line) -> bool {
     matches!(
         line,
         Line::Full { .. } | Line::Done { .. } | Line::Over { .. } | Line::Down { .. }

@@ -5,12 +5,14 @@ use section_map::Section;
 use split_ring::Queue;
 use std::alloc::{AllocError, Global};
 
-/// The contents of a word: one number, a number in the high half next to flags, or two numbers.
+/// The contents of a word: one number, a number in the high half next to flags, two numbers, or
+/// four bytes of the data area.
 #[derive(Clone, Copy, Debug, PartialEq, Eq)]
 enum Halves {
     Whole,
     Index,
     Two,
+    Bytes,
 }
 
 /// Returns the contents of the word of a section.
@@ -20,13 +22,15 @@ fn halves_of(queue: &Queue, word: u32) -> Halves {
         Halves::Index
     } else if index < word && word < queue.used_event_word() {
         Halves::Two
+    } else if word >= queue.payload() / 4 {
+        Halves::Bytes
     } else {
         Halves::Whole
     }
 }
 
 /// Returns the text of the value of a word of a section. An index is shown without its flags if
-/// they are 0.
+/// they are 0. Bytes are shown in hexadecimal, in the order in which they stand.
 fn halves_text(alloc: Global, halves: Halves, value: u32) -> Result<String, AllocError> {
     let low = value % 65_536;
     let high = value / 65_536;
@@ -34,6 +38,7 @@ fn halves_text(alloc: Global, halves: Halves, value: u32) -> Result<String, Allo
         Halves::Index if low == 0 => format!(in alloc; "{high}"),
         Halves::Index => format!(in alloc; "{high}, flags {low}"),
         Halves::Two => format!(in alloc; "{low}, {high}"),
+        Halves::Bytes => hex::encode(alloc, &value.to_le_bytes()),
         Halves::Whole => format!(in alloc; "{value}"),
     }
 }

@@ -18,7 +18,7 @@ fn two_thousand_rows(rt: HostRuntime) -> Result<(), Fail> {
     let picture = picture_of(rt.alloc(), &trace, 1, 2002)?;
     assert_eq!(rt; picture.rows.len(), 2000);
     assert_eq!(rt; picture.left_out, 2);
-    let file = draw(rt.alloc(), &trace, 2002, 1, &picture)?;
+    let file = draw(rt.alloc(), &trace, 2002, 1, &picture, None)?;
     assert!(rt;
         file.starts_with(b"<svg xmlns='http://www.w3.org/2000/svg'"),
         "the head"

@@ -212,6 +212,33 @@ fn picture(alloc: Global, input: &[u8], first: u32, last: u32) -> io::Result<Ans
     answered(Ok(text.into_bytes()))
 }
 
+/// Returns the text of a picture of lines of a record, for a terminal. `differs` is the line to be
+/// marked, or 0.
+fn picture_text(
+    alloc: Global,
+    input: &[u8],
+    first: u32,
+    last: u32,
+    differs: u32,
+) -> io::Result<Answer> {
+    let trace = match record_text::parse(alloc, input) {
+        Ok(trace) => trace,
+        Err(fault) => return refused(alloc, &fault),
+    };
+    let first = u64::from(first.max(1));
+    let picture = record_chart::picture_of(alloc, &trace, first, u64::from(last)).map_err(
+        |_| ErrorKind::OutOfMemory,
+    )?;
+    let differs = if differs == 0 {
+        None
+    } else {
+        Some(u64::from(differs))
+    };
+    let total = trace.lines.items().len() as u64;
+    let text = record_chart::draw_text(alloc, &trace, total, first, &picture, differs);
+    answered(Ok(text.map_err(|_| ErrorKind::OutOfMemory)?))
+}
+
 /// Reads a capture file and prints it.
 fn capture_file(alloc: Global, input: &[u8]) -> io::Result<Answer> {
     match frame_capture::parse(alloc, input) {
@@ -250,6 +277,13 @@ pub(crate) fn answer(alloc: Global, question: &Question) -> io::Result<Answer> {
         "bridge_run" => bridge_run(alloc, input),
         "lawful" => lawful(alloc, input),
         "picture" => picture(alloc, input, number(words, 1), number(words, 2)),
+        "picture_text" => picture_text(
+            alloc,
+            input,
+            number(words, 1),
+            number(words, 2),
+            number(words, 3),
+        ),
         "capture_file" => capture_file(alloc, input),
         _ => Err(io::Error::from(ErrorKind::InvalidInput)),
     }

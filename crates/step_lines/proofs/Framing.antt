@@ -1,11 +1,15 @@
 -- The frames that the marks of a step have.
 use Rattle.std.proofs.Common.{◌≡◌, ◌≢◌, ℕ, zero, suc, ◌+◌, ◌≤◌, Bool, true, false, List, [], ◌∷◌, ◌++◌, length, refl, sym, ◌∙◌, ap, subst, arith}
-use Rattle.std.specs.Prelude.{◌==◌, ◌&&◌, nat_le, not, if◌then◌else◌, map}
+use Rattle.std.specs.Prelude.{◌==◌, not, if◌then◌else◌, map, ◌%◌}
 use Rattle.std.proofs.lemmas.Bool.Decides.{nat_tests}
+use Rattle.split_ring.specs.declared.sizes.TheConstants.{SHORTEST_FRAME}
 use Rattle.split_ring.specs.declared.ranges.Refused.{Refused}
 use Rattle.split_ring.specs.declared.steps.Note.{Note}
 use Rattle.split_ring.specs.declared.steps.Note.TheVariants as note
 use Rattle.split_ring.specs.Layout.{has_events}
+use Rattle.split_ring.specs.Ranges.{is_desc_length, is_avail_index, is_used_index, is_used_id}
+use Rattle.split_ring.specs.Spelling.{high_half}
+use Rattle.split_ring.proofs.Tests.{length_holds}
 use Rattle.link_handshake.specs.declared.Move.{Move}
 use Rattle.link_handshake.specs.declared.Move.TheVariants.{Stay, Set, ClearThenSet}
 use Rattle.link_handshake.specs.HandshakeState.{move_of}
@@ -15,7 +19,7 @@ use Rattle.call_grammar.specs.Words.{words_for, frame_in}
 use Rattle.call_grammar.specs.Calls.{EndConfig, Call, Tick, Stop, Offer, Poll, in_run, pending_of}
 use Rattle.call_grammar.specs.Ticks.{tick_marks}
 use Rattle.call_grammar.specs.Offers.{PendingOffer, returned_by, descriptor_of}
-use Rattle.call_grammar.specs.Polls.{is_length, is_last, published_by}
+use Rattle.call_grammar.specs.Polls.{is_last, published_by}
 use Rattle.call_grammar.specs.Places.{Place, Closed, ReadingOtherState, Clearing, WritingState, Refusing, NotInRun, ReadingUsedIndex, ReadingUsedId, WritingFrameWord, WritingDescAddressLow, WritingDescAddressHigh, WritingDescLength, WritingDescFlags, WritingAvailEntry, WritingAvailIndex, ReadingAvailEvent, RingingOffer, ReadingAvailIndex, WritingAvailEvent, ReadingAvailEntry, ReadingDescAddressLow, ReadingDescAddressHigh, ReadingDescLength, ReadingDescFlags, ReadingFrameWord, WritingUsedId, WritingUsedLength, WritingUsedIndex, RingingPoll, marks_at, next_place, first_place, fill_place, ids_place, items_place, none_place, words_place, tick_place, clear_place, is_open}
 use Rattle.call_grammar.specs.Reach.{IsPermittedCall}
 use Rattle.link_endpoint.specs.Refinement.{mark_between, marks_between}
@@ -61,8 +65,8 @@ marks_hold P f config (Clearing at more state) value accepts delivers = f.none
 marks_hold P f config (WritingState state) value accepts delivers = f.over
 marks_hold P f config Refusing value accepts delivers = f.over
 marks_hold P f config NotInRun value accepts delivers = f.down
-marks_hold P f config (ReadingUsedIndex pending freed) value accepts delivers = either P (nat_le (returned_by freed value) _) _ _ (either P (returned_by freed value == 0) _ _ (after_reclaim P f _) (f.reclaim (returned_by freed value))) (f.refused _)
-marks_hold P f config (ReadingUsedId pending freed more) value accepts delivers = either P (value == descriptor_of config freed) _ _ (either P (more == 0) _ _ (either P _ _ _ f.none f.full) f.none) (f.refused _)
+marks_hold P f config (ReadingUsedIndex pending freed) value accepts delivers = either P (is_used_index (freed % 65536) (high_half value) _) _ _ (either P (returned_by freed value == 0) _ _ (after_reclaim P f _) (f.reclaim (returned_by freed value))) (f.refused _)
+marks_hold P f config (ReadingUsedId pending freed more) value accepts delivers = either P (is_used_id (descriptor_of config freed) value) _ _ (either P (more == 0) _ _ (either P _ _ _ f.none f.full) f.none) (f.refused _)
 marks_hold P f config (WritingFrameWord pending at more) value accepts delivers = f.none
 marks_hold P f config (WritingDescAddressLow pending) value accepts delivers = f.none
 marks_hold P f config (WritingDescAddressHigh pending) value accepts delivers = f.none
@@ -74,7 +78,7 @@ marks_hold P f config (ReadingAvailEvent number) value accepts delivers = either
 marks_hold P f config RingingOffer value accepts delivers = f.over
 marks_hold P f config (ReadingAvailIndex taken last) value accepts delivers =
     let none = either P last _ _ f.look_done (f.look 0) in
-    either P (nat_le (published_by taken value) _) _ _ (either P (published_by taken value == 0) _ _ none (f.look (published_by taken value))) (f.refused _)
+    either P (is_avail_index config.sizes (taken % 65536) (high_half value)) _ _ (either P (published_by taken value == 0) _ _ none (f.look (published_by taken value))) (f.refused _)
 marks_hold P f config (WritingAvailEvent taken) value accepts delivers = f.none
 marks_hold P f config (ReadingAvailEntry number more) value accepts delivers = either P _ _ _ f.none (f.refused _)
 marks_hold P f config (ReadingDescAddressLow number more entry) value accepts delivers = f.none
@@ -168,11 +172,11 @@ moves config Stay = tt
 moves config (Set state) = tt
 moves config (ClearThenSet state) = clears config.own config.words state
 
-fills : (pending : PendingOffer) (at count : ℕ) → 14 ≤ length pending.frame → HasFrames (fill_place pending at count)
+fills : (pending : PendingOffer) (at count : ℕ) → SHORTEST_FRAME ≤ length pending.frame → HasFrames (fill_place pending at count)
 fills pending at zero least = least
 fills pending at (suc more) least = least
 
-ids : (config : EndConfig) (pending : PendingOffer) (freed count : ℕ) → 14 ≤ length pending.frame → HasFrames (ids_place config pending freed count)
+ids : (config : EndConfig) (pending : PendingOffer) (freed count : ℕ) → SHORTEST_FRAME ≤ length pending.frame → HasFrames (ids_place config pending freed count)
 ids config pending freed zero least = on _ (fill_place pending 0 (words_for (length pending.frame))) Closed (fills pending 0 (words_for (length pending.frame)) least) tt
 ids config pending freed (suc more) least = least
 
@@ -180,15 +184,12 @@ takes : (number count : ℕ) → HasFrames (items_place number count)
 takes number zero = tt
 takes number (suc more) = tt
 
-reads : (number more entry address bytes : ℕ) (read : List ℕ) (words : ℕ) → 14 ≤ bytes → HasFrames (words_place number more entry address bytes read words)
+reads : (number more entry address bytes : ℕ) (read : List ℕ) (words : ℕ) → SHORTEST_FRAME ≤ bytes → HasFrames (words_place number more entry address bytes read words)
 reads number more entry address bytes read zero least = tt
 reads number more entry address bytes read (suc words) least = least
 
-length_passed : (address bytes out : ℕ) → (nat_le 14 bytes && (nat_le bytes 65553 && nat_le (address + bytes) out)) ≡ true → 14 ≤ bytes
-length_passed address bytes out is = grind (arith, nat_tests)
-
-at_length : (config : EndConfig) (number more entry address value : ℕ) (b : Bool) → is_length config.sizes address value ≡ b → HasFrames (if b then ReadingDescFlags number more entry address value else Refusing)
-at_length config number more entry address value true is = length_passed address value config.sizes.out is
+at_length : (config : EndConfig) (number more entry address value : ℕ) (b : Bool) → is_desc_length config.sizes address value ≡ b → HasFrames (if b then ReadingDescFlags number more entry address value else Refusing)
+at_length config number more entry address value true is = (length_holds config.sizes address value is).0
 at_length config number more entry address value false is = tt
 
 pub next_frames : (config : EndConfig) (place : Place) (value : ℕ) → HasFrames place → HasFrames (next_place config place value)
@@ -217,7 +218,7 @@ next_frames config (WritingAvailEvent taken) value has = tt
 next_frames config (ReadingAvailEntry number more) value has = on _ (ReadingDescAddressLow number more _) Refusing tt tt
 next_frames config (ReadingDescAddressLow number more entry) value has = tt
 next_frames config (ReadingDescAddressHigh number more entry low) value has = on _ (ReadingDescLength number more entry _) Refusing tt tt
-next_frames config (ReadingDescLength number more entry address) value has = at_length config number more entry address value (is_length config.sizes address value) refl
+next_frames config (ReadingDescLength number more entry address) value has = at_length config number more entry address value (is_desc_length config.sizes address value) refl
 next_frames config (ReadingDescFlags number more entry address bytes) value has = on _ (words_place number more entry address bytes [] (words_for bytes)) Refusing (reads number more entry address bytes [] (words_for bytes) has) tt
 next_frames config (ReadingFrameWord number more entry address bytes read words) value has = reads number more entry address bytes (read ++ value ∷ []) words has
 next_frames config (WritingUsedId number more entry) value has = tt
@@ -226,7 +227,7 @@ next_frames config (WritingUsedIndex number more) value has = takes (number + 1)
 next_frames config RingingPoll value has = tt
 
 -- A frame read from its words has a byte.
-some_bytes : (bytes : ℕ) (read : List ℕ) (value : ℕ) → 14 ≤ bytes → length (frame_in bytes (read ++ value ∷ [])) ≢ 0
+some_bytes : (bytes : ℕ) (read : List ℕ) (value : ℕ) → SHORTEST_FRAME ≤ bytes → length (frame_in bytes (read ++ value ∷ [])) ≢ 0
 some_bytes (suc bytes) [] value least = λ none. cc
 some_bytes (suc bytes) (word ∷ read) value least = λ none. cc
 some_bytes zero read value least = absurd (omega arith)
@@ -257,7 +258,7 @@ one_accepted me frame some = rw (not_none (length frame) some) refl
 one_delivered : (me : ℕ) (frame : List ℕ) → length frame ≢ 0 → HaveFrames (map (mark_line me) (Deliver frame ∷ []))
 one_delivered me frame some = rw (not_none (length frame) some) refl
 
-least_some : (n : ℕ) → 14 ≤ n → n ≢ 0
+least_some : (n : ℕ) → SHORTEST_FRAME ≤ n → n ≢ 0
 least_some n least = λ none. omega arith
 
 -- The marks of a step have frames with a byte.

@@ -1,10 +1,11 @@
 -- The avail_event of an end whose last read of the available index found no frame is the next
 -- frame's number.
 use Rattle.std.proofs.Common.{◌≡◌, ◌≢◌, ℕ, zero, suc, ◌+◌, ◌-◌, ◌%◌, ◌<◌, Bool, true, false, List, [], ◌∷◌, ◌++◌, length, refl, sym, ap, ◌∙◌, subst}
-use Rattle.std.specs.Prelude.{◌==◌, ◌||◌, not, nat_le, if◌then◌else◌}
+use Rattle.std.specs.Prelude.{◌==◌, ◌||◌, not, if◌then◌else◌}
 use Rattle.split_ring.specs.declared.ranges.FieldName.TheVariants as field_name
-use Rattle.split_ring.specs.Layout.{has_events, size_of, limit_of}
-use Rattle.split_ring.specs.Spelling.{low_half, high_half}
+use Rattle.split_ring.specs.Layout.{has_events, limit_of}
+use Rattle.split_ring.specs.Spelling.{low_half, high_half, desc_flags}
+use Rattle.split_ring.specs.Ranges.{is_avail_entry, is_desc_address, is_desc_length, is_desc_flags, is_used_id, is_avail_index, is_used_index}
 use Rattle.link_handshake.specs.declared.Phase.{Phase}
 use Rattle.link_handshake.specs.declared.Phase.TheVariants.{Reset, Init, Ready, Run}
 use Rattle.link_handshake.specs.declared.Move.{Move}
@@ -16,7 +17,7 @@ use Rattle.call_grammar.specs.Words.{words_for, address_of, frame_in}
 use Rattle.call_grammar.specs.Ticks.{tick_marks}
 use Rattle.call_grammar.specs.Calls.{EndConfig, Call, Tick, Stop, Offer, Poll, in_run, pending_of}
 use Rattle.call_grammar.specs.Offers.{PendingOffer, frame_fits, descriptor_of, refusal, full_marks, returned_by, reclaim_marks, wants_doorbell}
-use Rattle.call_grammar.specs.Polls.{is_entry, is_address, is_length, is_last, entry_in, published_by, look_marks}
+use Rattle.call_grammar.specs.Polls.{is_last, entry_in, published_by, look_marks}
 use Rattle.call_grammar.specs.Places.{Place, Closed, ReadingOtherState, Clearing, WritingState, Refusing, NotInRun, ReadingUsedIndex, ReadingUsedId, WritingFrameWord, WritingDescAddressLow, WritingDescAddressHigh, WritingDescLength, WritingDescFlags, WritingAvailEntry, WritingAvailIndex, ReadingAvailEvent, RingingOffer, ReadingAvailIndex, WritingAvailEvent, ReadingAvailEntry, ReadingDescAddressLow, ReadingDescAddressHigh, ReadingDescLength, ReadingDescFlags, ReadingFrameWord, WritingUsedId, WritingUsedLength, WritingUsedIndex, RingingPoll, clear_place, tick_place, fill_place, ids_place, items_place, words_place, first_place, access_at, next_place, step_at, is_open}
 use Rattle.link_invariant.specs.Fields.{AvailEvent}
 use Rattle.link_invariant.specs.LinkConfig.{LinkConfig, IsLinkConfig, config_of, fields}
@@ -147,14 +148,14 @@ module _ (link_config : LinkConfig) (p : ℕ) (memory : ℕ → ℕ) (event : �
   used_index pending freed h a =
       let config = config_of link_config p in
       let count = returned_by freed value in
-      by_test event end (nat_le count (pending.number - freed)) (ids_place config pending freed count) Refusing (reclaim_marks config pending freed count) (refusal field_name.UsedIndex (high_half value))
+      by_test event end (is_used_index (freed % 65536) (high_half value) (pending.number - freed)) (ids_place config pending freed count) Refusing (reclaim_marks config pending freed count) (refusal field_name.UsedIndex (high_half value))
       (λ _. ids_armed config event (with_marks end (reclaim_marks config pending freed count)) pending freed count
       (by_marks event end (count == 0) (Reclaim 0 ∷ full_marks config pending freed) (Reclaim count ∷ []) (full_asked config event (record end { freed = end.freed + 0 }) pending freed a) a)) (λ _. a)
 
   used_id : (pending : PendingOffer) (freed more : ℕ) → ComesArmed (ReadingUsedId pending freed more)
   used_id pending freed more h a =
       let config = config_of link_config p in
-      by_test event end (value == descriptor_of config freed) (ids_place config pending (freed + 1) more) Refusing (if more == 0 then full_marks config pending (freed + 1) else []) (refusal field_name.UsedId value)
+      by_test event end (is_used_id (descriptor_of config freed) value) (ids_place config pending (freed + 1) more) Refusing (if more == 0 then full_marks config pending (freed + 1) else []) (refusal field_name.UsedId value)
       (λ _. ids_armed config event (with_marks end (if more == 0 then full_marks config pending (freed + 1) else [])) pending (freed + 1) more
       (by_marks event end (more == 0) (full_marks config pending (freed + 1)) [] (full_asked config event end pending (freed + 1) a) a)) (λ _. a)
 
@@ -162,7 +163,7 @@ module _ (link_config : LinkConfig) (p : ℕ) (memory : ℕ → ℕ) (event : �
   last_look taken h stood =
       let count = published_by taken value in
       let run = h.0 in
-      by_test event end (nat_le count (size_of link_config.sizes)) (if count == 0 then Closed else items_place taken count) Refusing (look_marks true count) (refusal field_name.AvailIndex (high_half value))
+      by_test event end (is_avail_index link_config.sizes (taken % 65536) (high_half value)) (if count == 0 then Closed else items_place taken count) Refusing (look_marks true count) (refusal field_name.AvailIndex (high_half value))
       (λ _. by_test event end (count == 0) Closed (items_place taken count) (Look 0 ∷ Done ∷ []) (Look count ∷ [])
       (λ _. (λ ready. let e : Run ≡ Ready = sym run ∙ ready in cc, λ _ none. stood)) (λ some. items_armed event (record end { found_none = count == 0 }) taken count some))
       (λ _. (λ ready. let e : Run ≡ Ready = sym run ∙ ready in cc, λ _ none. stood))
@@ -170,27 +171,27 @@ module _ (link_config : LinkConfig) (p : ℕ) (memory : ℕ → ℕ) (event : �
   first_look : (taken : ℕ) → ComesArmed (ReadingAvailIndex taken false)
   first_look taken h a =
       let count = published_by taken value in
-      by_test event end (nat_le count (size_of link_config.sizes)) (if count == 0 then WritingAvailEvent taken else items_place taken count) Refusing (look_marks false count) (refusal field_name.AvailIndex (high_half value))
+      by_test event end (is_avail_index link_config.sizes (taken % 65536) (high_half value)) (if count == 0 then WritingAvailEvent taken else items_place taken count) Refusing (look_marks false count) (refusal field_name.AvailIndex (high_half value))
       (λ _. by_test event end (count == 0) (WritingAvailEvent taken) (items_place taken count) (Look 0 ∷ []) (Look count ∷ [])
       (λ _. tt) (λ some. items_armed event (record end { found_none = count == 0 }) taken count some)) (λ _. a)
 
   entry : (number more : ℕ) → ComesArmed (ReadingAvailEntry number more)
   entry number more h found =
       let e = entry_in (config_of link_config p) number value in
-      by_test event end (is_entry link_config.sizes e) (ReadingDescAddressLow number more e) Refusing [] (refusal field_name.AvailEntry e) (λ _. found) (λ _. found_asked event end found)
+      by_test event end (is_avail_entry link_config.sizes e) (ReadingDescAddressLow number more e) Refusing [] (refusal field_name.AvailEntry e) (λ _. found) (λ _. found_asked event end found)
 
   high : (number more entry low : ℕ) → ComesArmed (ReadingDescAddressHigh number more entry low)
   high number more entry low h found =
       let x = address_of low value in
-      by_test event end (is_address link_config.sizes x) (ReadingDescLength number more entry x) Refusing [] (refusal field_name.DescAddress x) (λ _. found) (λ _. found_asked event end found)
+      by_test event end (is_desc_address link_config.sizes x) (ReadingDescLength number more entry x) Refusing [] (refusal field_name.DescAddress x) (λ _. found) (λ _. found_asked event end found)
 
   bytes_at : (number more entry address : ℕ) → ComesArmed (ReadingDescLength number more entry address)
   bytes_at number more entry address h found =
-      by_test event end (is_length link_config.sizes address value) (ReadingDescFlags number more entry address value) Refusing [] (refusal field_name.DescLength value) (λ _. found) (λ _. found_asked event end found)
+      by_test event end (is_desc_length link_config.sizes address value) (ReadingDescFlags number more entry address value) Refusing [] (refusal field_name.DescLength value) (λ _. found) (λ _. found_asked event end found)
 
   flags : (number more entry address bytes : ℕ) → ComesArmed (ReadingDescFlags number more entry address bytes)
   flags number more entry address bytes h found =
-      by_test event end (low_half value == 0) (words_place number more entry address bytes [] (words_for bytes)) Refusing [] (refusal field_name.DescFlags (low_half value))
+      by_test event end (is_desc_flags (desc_flags value)) (words_place number more entry address bytes [] (words_for bytes)) Refusing [] (refusal field_name.DescFlags (desc_flags value))
       (λ _. words_armed event end number more entry address bytes [] (words_for bytes) found) (λ _. found_asked event end found)
 
   word : (number more entry address bytes : ℕ) (read : List ℕ) (words : ℕ) → ComesArmed (ReadingFrameWord number more entry address bytes read words)

@@ -9,18 +9,18 @@ use Rattle.split_ring.specs.declared.ranges.FieldName.{FieldName}
 use Rattle.split_ring.specs.declared.ranges.FieldName.TheVariants as field_name
 use Rattle.split_ring.specs.declared.steps.Access.TheVariants as access
 use Rattle.split_ring.specs.Layout.{size_of, limit_of, data_area_start, word_offset, DescAddress, DescLength, DescFlags, AvailIndex, AvailEntry, UsedIndex, UsedId, AvailEvent}
-use Rattle.split_ring.specs.Spelling.{low_half, high_half, entry_half}
-use Rattle.split_ring.specs.Ranges.{IsAvailIndex, IsAvailEntry, IsDescAddress, IsDescLength, IsDescFlags, IsUsedIndex, IsUsedId}
+use Rattle.split_ring.specs.Spelling.{high_half, entry_half, desc_flags}
+use Rattle.split_ring.specs.Ranges.{IsAvailIndex, IsAvailEntry, IsDescAddress, IsDescLength, IsDescFlags, IsUsedIndex, IsUsedId, is_avail_entry, is_desc_address, is_desc_length, is_desc_flags, is_used_id, is_avail_index, is_used_index}
+use Rattle.split_ring.proofs.Tests.{entry_fails, address_fails, length_fails, flags_fails}
 use Rattle.call_grammar.specs.Steps.{Mark}
 use Rattle.call_grammar.specs.Ends.{End}
 use Rattle.call_grammar.specs.Words.{address_of}
 use Rattle.call_grammar.specs.Calls.{EndConfig}
 use Rattle.call_grammar.specs.Offers.{PendingOffer, descriptor_of, avail_entry_of, refusal, returned_by, reclaim_marks, full_marks}
-use Rattle.call_grammar.specs.Polls.{Item, item_entry, item_address, is_entry, is_address, is_length, published_by, look_marks}
+use Rattle.call_grammar.specs.Polls.{Item, item_entry, item_address, published_by, look_marks}
 use Rattle.call_grammar.specs.Places.{Place, Closed, ReadingOtherState, Clearing, WritingState, Refusing, NotInRun, ReadingUsedIndex, ReadingUsedId, WritingFrameWord, WritingDescAddressLow, WritingDescAddressHigh, WritingDescLength, WritingDescFlags, WritingAvailEntry, WritingAvailIndex, ReadingAvailEvent, RingingOffer, ReadingAvailIndex, WritingAvailEvent, ReadingAvailEntry, ReadingDescAddressLow, ReadingDescAddressHigh, ReadingDescLength, ReadingDescFlags, ReadingFrameWord, WritingUsedId, WritingUsedLength, WritingUsedIndex, RingingPoll, access_at, marks_at}
 use Rattle.link_machine.specs.LinkMachine.{Side}
 use Rattle.call_grammar.proofs.OfferLists.{no}
-use Rattle.call_grammar.proofs.PollLists.{entry_fails, address_fails, length_fails}
 use Rattle.link_invariant.specs.LinkConfig.{LinkConfig, IsLinkConfig, config_of}
 use Rattle.link_invariant.specs.EndInvariant.{EndInvariant}
 use Rattle.link_invariant.specs.Sides.{SideIs}
@@ -56,7 +56,7 @@ Last config side reads word value field_name.DescLength refused =
     (word ≡ config.theirs + word_offset config.sizes (DescLength (item_entry config (length side.delivered) read))) × (refused ≡ value) × (¬ IsDescLength config.sizes (item_address read) refused)
 Last config side reads word value field_name.DescFlags refused =
     (read : Item) × IsAvailEntry config.sizes (item_entry config (length side.delivered) read) ×
-    (word ≡ config.theirs + word_offset config.sizes (DescFlags (item_entry config (length side.delivered) read))) × (refused ≡ low_half value) × (¬ IsDescFlags refused)
+    (word ≡ config.theirs + word_offset config.sizes (DescFlags (item_entry config (length side.delivered) read))) × (refused ≡ desc_flags value) × (¬ IsDescFlags refused)
 Last config side reads word value field_name.UsedIndex refused =
     (word ≡ config.theirs + word_offset config.sizes UsedIndex) × (refused ≡ high_half value) × (¬ IsUsedIndex (side.freed % 65536) refused (length side.accepted - side.freed))
 Last config side reads word value field_name.UsedId refused =
@@ -87,7 +87,7 @@ last_of config side reads word value field_name.DescLength refused b =
 last_of config side reads word value field_name.DescFlags refused b =
     let number = length side.delivered in
     let s = snoc_inj reads (entry_read config number b.0 ∷ low_read config number b.0 ∷ high_read config number b.0 ∷ length_read config number b.0 ∷ []) (got word value) (flags_read config number b.0) b.1 in
-    (b.0, b.2, word_is word value _ _ s.1, b.5 ∙ ap low_half (value_is word value _ b.0.flags_word s.1), b.6)
+    (b.0, b.2, word_is word value _ _ s.1, b.5 ∙ ap desc_flags (value_is word value _ b.0.flags_word s.1), b.6)
 last_of config side reads word value field_name.UsedIndex refused b =
     let e = (snoc_inj reads b.0 (got word value) _ b.2).1 in (word_is word value _ b.1 e, b.3 ∙ ap high_half (value_is word value _ b.1 e), b.4)
 last_of config side reads word value field_name.UsedId refused b =
@@ -274,7 +274,7 @@ module _ (link_config : LinkConfig) (p : ℕ) (memory : ℕ → ℕ) (end : End)
       at_field config side reads word value field field_name.AvailIndex refused (marks_at config (ReadingAvailIndex taken final) value) only
       (λ l. let n = number_of (ReadingAvailIndex taken final) taken f.si f.alone.holds.1 in
       let beyond : ¬ IsAvailIndex link_config.sizes (taken % 65536) (high_half value) = subst (λ (k : ℕ). ¬ IsAvailIndex link_config.sizes (k % 65536) (high_half value)) (sym n) (subst (λ (r : ℕ). ¬ IsAvailIndex link_config.sizes (length side.delivered % 65536) r) l.1 l.2) in
-      refused_as _ field_name.AvailIndex (high_half value) refused (no (nat_le count (size_of link_config.sizes)) (look_marks final count) (refusal field_name.AvailIndex (high_half value)) (test_fails count (size_of link_config.sizes) beyond)) l.1) last
+      refused_as _ field_name.AvailIndex (high_half value) refused (no (is_avail_index link_config.sizes (taken % 65536) (high_half value)) (look_marks final count) (refusal field_name.AvailIndex (high_half value)) (test_fails count (size_of link_config.sizes) beyond)) l.1) last
 
   used_index_beyond : (pending : PendingOffer) (freed : ℕ) → Refuses (ReadingUsedIndex pending freed)
   unfolding Refuses Last
@@ -288,7 +288,7 @@ module _ (link_config : LinkConfig) (p : ℕ) (memory : ℕ → ℕ) (end : End)
       (λ l. let beyond : ¬ IsUsedIndex (side.freed % 65536) (high_half value) (length side.accepted - side.freed) = subst (λ (r : ℕ). ¬ IsUsedIndex (side.freed % 65536) r (length side.accepted - side.freed)) l.1 l.2 in
       let mine : ¬ IsUsedIndex (freed % 65536) (high_half value) (pending.number - freed) =
       subst (λ (n : ℕ). ¬ IsUsedIndex (freed % 65536) (high_half value) (n - freed)) (sym number) (subst (λ (k : ℕ). ¬ IsUsedIndex (k % 65536) (high_half value) (length side.accepted - k)) (sym freed_is) beyond) in
-      refused_as _ field_name.UsedIndex (high_half value) refused (no (nat_le count (pending.number - freed)) (reclaim_marks config pending freed count) (refusal field_name.UsedIndex (high_half value)) (test_fails count (pending.number - freed) mine)) l.1) last
+      refused_as _ field_name.UsedIndex (high_half value) refused (no (is_used_index (freed % 65536) (high_half value) (pending.number - freed)) (reclaim_marks config pending freed count) (refusal field_name.UsedIndex (high_half value)) (test_fails count (pending.number - freed) mine)) l.1) last
 
   same_number : (freed number count : ℕ) → freed < count → count ≤ freed + limit_of link_config.sizes → number < count → count ≤ number + limit_of link_config.sizes → number % size_of link_config.sizes ≡ freed % size_of link_config.sizes → number ≡ freed
   same_number freed number count f1 f2 n1 n2 same =
@@ -309,7 +309,7 @@ module _ (link_config : LinkConfig) (p : ℕ) (memory : ℕ → ℕ) (end : End)
       let low = l.1 in let high = l.2 in
       let number : l.0 ≡ freed = same_number freed l.0 side.freed (omega arith) (omega arith) low high place in
       let wrong : ¬ IsUsedId (freed % limit_of link_config.sizes) value = subst (λ (k : ℕ). ¬ IsUsedId (k % limit_of link_config.sizes) value) number (subst (λ (r : ℕ). ¬ IsUsedId (l.0 % limit_of link_config.sizes) r) l.4 l.5) in
-      refused_as _ field_name.UsedId value refused (no (value == descriptor_of config freed) (if more == 0 then full_marks config pending (freed + 1) else []) (refusal field_name.UsedId value) (same_fails value (descriptor_of config freed) wrong)) l.4) last
+      refused_as _ field_name.UsedId value refused (no (is_used_id (descriptor_of config freed) value) (if more == 0 then full_marks config pending (freed + 1) else []) (refusal field_name.UsedId value) (same_fails value (descriptor_of config freed) wrong)) l.4) last
 
   entry_beyond : (number more : ℕ) → Refuses (ReadingAvailEntry number more)
   unfolding Refuses Last
@@ -321,7 +321,7 @@ module _ (link_config : LinkConfig) (p : ℕ) (memory : ℕ → ℕ) (end : End)
       (λ l. let n = number_of (ReadingAvailEntry number more) number f.si f.alone.holds.1 in
       let entry = entry_half (avail_entry_of config number) value in
       let same : refused ≡ entry = l.1 ∙ ap (λ (k : ℕ). entry_half (avail_entry_of config k) value) (sym n) in
-      refused_as _ field_name.AvailEntry entry refused (no (is_entry link_config.sizes entry) [] (refusal field_name.AvailEntry entry) (entry_fails link_config.sizes entry (subst (λ (r : ℕ). ¬ IsAvailEntry link_config.sizes r) same l.2))) same) last
+      refused_as _ field_name.AvailEntry entry refused (no (is_avail_entry link_config.sizes entry) [] (refusal field_name.AvailEntry entry) (entry_fails link_config.sizes entry (subst (λ (r : ℕ). ¬ IsAvailEntry link_config.sizes r) same l.2))) same) last
 
   low_beyond : (number more entry : ℕ) → Refuses (ReadingDescAddressLow number more entry)
   unfolding Refuses Last
@@ -341,7 +341,7 @@ module _ (link_config : LinkConfig) (p : ℕ) (memory : ℕ → ℕ) (end : End)
       at_field config side reads word value field field_name.DescAddress refused (marks_at config (ReadingDescAddressHigh number more entry low) value) only
       (λ l. let lows = ap (λ (g : Got). g.value) (second_of _ _ _ _ _ _ (sym r.1 ∙ l.1)) in
       let same : refused ≡ address = l.4 ∙ ap (λ (k : ℕ). address_of k value) (sym (r.4 ∙ lows)) in
-      refused_as _ field_name.DescAddress address refused (no (is_address link_config.sizes address) [] (refusal field_name.DescAddress address) (address_fails link_config.sizes address (subst (λ (k : ℕ). ¬ IsDescAddress link_config.sizes k) same l.5))) same) last
+      refused_as _ field_name.DescAddress address refused (no (is_desc_address link_config.sizes address) [] (refusal field_name.DescAddress address) (address_fails link_config.sizes address (subst (λ (k : ℕ). ¬ IsDescAddress link_config.sizes k) same l.5))) same) last
 
   length_beyond : (number more entry address : ℕ) → Refuses (ReadingDescLength number more entry address)
   unfolding Refuses Last
@@ -355,7 +355,7 @@ module _ (link_config : LinkConfig) (p : ℕ) (memory : ℕ → ℕ) (end : End)
       let highs = ap (λ (g : Got). g.value) (third_of _ _ _ _ _ _ _ _ (sym r.1 ∙ l.1)) in
       let same : item_address l.0 ≡ address = sym (r.4 ∙ (ap (λ (k : ℕ). address_of k r.0.high) lows ∙ ap (address_of l.0.low) highs)) in
       let beyond : ¬ IsDescLength link_config.sizes address value = subst (λ (k : ℕ). ¬ IsDescLength link_config.sizes k value) same (subst (λ (k : ℕ). ¬ IsDescLength link_config.sizes (item_address l.0) k) l.4 l.5) in
-      refused_as _ field_name.DescLength value refused (no (is_length link_config.sizes address value) [] (refusal field_name.DescLength value) (length_fails link_config.sizes address value beyond)) l.4) last
+      refused_as _ field_name.DescLength value refused (no (is_desc_length link_config.sizes address value) [] (refusal field_name.DescLength value) (length_fails link_config.sizes address value beyond)) l.4) last
 
   flags_beyond : (number more entry address bytes : ℕ) → Refuses (ReadingDescFlags number more entry address bytes)
   unfolding Refuses Last
@@ -365,7 +365,7 @@ module _ (link_config : LinkConfig) (p : ℕ) (memory : ℕ → ℕ) (end : End)
       let small : entry < size_of link_config.sizes = subst (λ (e : ℕ). e < size_of link_config.sizes) (sym r.2) r.3 in
       let only = only_flags config entry small field (subst (FieldWord config field) (read_word _ word at) there) in
       at_field config side reads word value field field_name.DescFlags refused (marks_at config (ReadingDescFlags number more entry address bytes) value) only
-      (λ l. refused_as _ field_name.DescFlags (low_half value) refused (no (low_half value == 0) [] (refusal field_name.DescFlags (low_half value)) (same_fails (low_half value) 0 (subst (λ (k : ℕ). ¬ IsDescFlags k) l.3 l.4))) l.3) last
+      (λ l. refused_as _ field_name.DescFlags (desc_flags value) refused (no (is_desc_flags (desc_flags value)) [] (refusal field_name.DescFlags (desc_flags value)) (flags_fails (desc_flags value) (subst (λ (k : ℕ). ¬ IsDescFlags k) l.3 l.4))) l.3) last
 
   word_beyond : (number more entry address bytes : ℕ) (words : List ℕ) (left : ℕ) → Refuses (ReadingFrameWord number more entry address bytes words left)
   unfolding Refuses Last

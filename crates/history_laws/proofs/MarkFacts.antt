@@ -10,8 +10,9 @@ use Rattle.split_ring.specs.declared.steps.Access.{Access}
 use Rattle.split_ring.specs.declared.steps.Access.TheVariants as access
 use Rattle.ivs_base.specs.Numbers.{distance}
 use Rattle.split_ring.specs.Layout.{Field, has_events, size_of, limit_of, word_offset, AvailIndex, UsedIndex, AvailEvent as LayoutAvailEvent}
-use Rattle.split_ring.specs.Spelling.{low_half, high_half, entry_half, Spells}
-use Rattle.split_ring.specs.Ranges.{IsAvailIndex, IsDescLength, IsUsedIndex}
+use Rattle.split_ring.specs.Spelling.{low_half, high_half, entry_half, Spells, desc_flags}
+use Rattle.split_ring.specs.Ranges.{IsAvailIndex, IsDescLength, IsUsedIndex, is_avail_entry, is_desc_address, is_desc_length, is_desc_flags, is_used_id, is_avail_index, is_used_index}
+use Rattle.split_ring.proofs.Tests.{entry_denies, address_denies, length_denies, flags_denies}
 use Rattle.link_handshake.specs.declared.Move.{Move}
 use Rattle.link_handshake.specs.declared.Move.TheVariants.{Stay, Set, ClearThenSet}
 use Rattle.link_handshake.specs.HandshakeState.{move_of}
@@ -22,10 +23,9 @@ use Rattle.call_grammar.specs.Words.{words_for, address_of, frame_in}
 use Rattle.call_grammar.specs.Ticks.{tick_marks}
 use Rattle.call_grammar.specs.Calls.{EndConfig}
 use Rattle.call_grammar.specs.Offers.{PendingOffer, frame_fits, descriptor_of, avail_entry_of, refusal, returned_by, reclaim_marks, full_marks, wants_doorbell}
-use Rattle.call_grammar.specs.Polls.{Item, is_entry, is_address, is_length, published_by, look_marks}
+use Rattle.call_grammar.specs.Polls.{Item, published_by, look_marks}
 use Rattle.call_grammar.specs.Places.{Place, Closed, ReadingOtherState, Clearing, WritingState, Refusing, NotInRun, ReadingUsedIndex, ReadingUsedId, WritingFrameWord, WritingDescAddressLow, WritingDescAddressHigh, WritingDescLength, WritingDescFlags, WritingAvailEntry, WritingAvailIndex, ReadingAvailEvent, RingingOffer, ReadingAvailIndex, WritingAvailEvent, ReadingAvailEntry, ReadingDescAddressLow, ReadingDescAddressHigh, ReadingDescLength, ReadingDescFlags, ReadingFrameWord, WritingUsedId, WritingUsedLength, WritingUsedIndex, RingingPoll, access_at, marks_at}
 use Rattle.link_machine.specs.LinkMachine.{Side, Gave, Marked}
-use Rattle.call_grammar.proofs.PollLists.{entry_denies, address_denies, length_denies}
 use Rattle.link_invariant.specs.LinkConfig.{section_of}
 use Rattle.link_invariant.specs.Steps.{ReadsMemory, MemoryAfter}
 use Rattle.link_invariant.specs.EndInvariant.{EndInvariant}
@@ -162,9 +162,6 @@ delivered_number end place side now si e = ap length (sym (e ∙ si.delivered))
 zero_tells : (n : ℕ) → (n == 0) ≡ true → n ≡ 0
 zero_tells n test = grind (arith, nat_tests)
 
-nonzero_tells : (n : ℕ) → (n == 0) ≡ false → n ≢ 0
-nonzero_tells n test = grind (arith, nat_tests)
-
 same_denies : (a b : ℕ) → (a == b) ≡ false → a ≢ b
 same_denies a b test = grind (arith, nat_tests)
 
@@ -202,7 +199,7 @@ module _ (world : World) (p : ℕ) (past older : List Line) (value : ℕ) (end :
       let freed_is : freed ≡ (side_of older p).freed = h.2 ∙ sym (a.stays.freed ∙ a.side.freed) in
       let number : pending.number ≡ length (side_of older p).accepted = h.1.number ∙ accepted_number end (ReadingUsedIndex pending freed) (side_of past p) (side_of older p).accepted a.side a.stays.accepted in
       let read : IsIndexRead (config_of world p) p older UsedIndex (side_of older p).freed count = index_rest UsedIndex (side_of older p).freed count (high_half value, lone, ap (λ (k : ℕ). distance (k % 65536) (high_half value)) freed_is) in
-      by_test world older p (nat_le count (pending.number - freed)) (reclaim_marks config pending freed count) (refusal field_name.UsedIndex (high_half value))
+      by_test world older p (is_used_index (freed % 65536) (high_half value) (pending.number - freed)) (reclaim_marks config pending freed count) (refusal field_name.UsedIndex (high_half value))
       (λ _. by_test world older p (count == 0) (Reclaim 0 ∷ full_marks config pending freed) (Reclaim count ∷ [])
       (λ none. (subst (IsIndexRead (config_of world p) p older UsedIndex (side_of older p).freed) (zero_tells count none) read, full_rest world (line.Reclaim p 0 ∷ older) p config pending freed)) (λ _. (read, tt)))
       (λ test. let beyond = within_denies count (pending.number - freed) test in
@@ -274,7 +271,7 @@ module _ (world : World) (p : ℕ) (past older : List Line) (value : ℕ) (end :
       let n = number_is (ReadingAvailIndex taken last) taken a.alone.holds.1 a a.stays in
       let lone : IsLoneRead (pair.config_of (link_config_of world) p) p older AvailIndex (high_half value) = (value, past, a.head, a.were, refl) in
       let read : IsIndexRead (config_of world p) p older AvailIndex (length (side_of older p).delivered) count = index_rest AvailIndex (length (side_of older p).delivered) count (high_half value, lone, ap (λ (k : ℕ). distance (k % 65536) (high_half value)) n) in
-      by_test world older p (nat_le count (size_of world.queue)) (look_marks last count) (refusal field_name.AvailIndex (high_half value))
+      by_test world older p (is_avail_index world.queue (taken % 65536) (high_half value)) (look_marks last count) (refusal field_name.AvailIndex (high_half value))
       (λ _. by_test world older p (count == 0) (if last then Look 0 ∷ Done ∷ [] else Look 0 ∷ []) (Look count ∷ [])
       (λ none. let found_none = subst (IsIndexRead (config_of world p) p older AvailIndex (length (side_of older p).delivered)) (zero_tells count none) read in
       by_test world older p last (Look 0 ∷ Done ∷ []) (Look 0 ∷ []) (λ final. (found_none, (λ has _. done_rest taken last a final n has, tt))) (λ _. (found_none, tt))) (λ _. (read, tt)))
@@ -286,7 +283,7 @@ module _ (world : World) (p : ℕ) (past older : List Line) (value : ℕ) (end :
       let config = pair.config_of (link_config_of world) p in
       let number = length (side_of older p).delivered in
       let entry = entry_half (avail_entry_of config number) value in
-      by_test world older p (is_entry world.queue entry) [] (refusal field_name.AvailEntry entry) (λ _. tt)
+      by_test world older p (is_avail_entry world.queue entry) [] (refusal field_name.AvailEntry entry) (λ _. tt)
       (λ test. refused_rest field_name.AvailEntry entry (with_entry_word value, a.reads ∙ ap (λ (r : List Got). r ++ entry_read config number (with_entry_word value) ∷ []) a.were, refl, entry_denies world.queue entry test) tt)
 
   high_rest : (more entry low : ℕ) → AtMarks world p past older (ReadingDescAddressHigh (length (side_of older p).delivered) more entry low) value end → MarksRest world older p (marks_at (pair.config_of (link_config_of world) p) (ReadingDescAddressHigh (length (side_of older p).delivered) more entry low) value)
@@ -295,7 +292,7 @@ module _ (world : World) (p : ℕ) (past older : List Line) (value : ℕ) (end :
       let number = length (side_of older p).delivered in
       let address = address_of low value in
       let r = a.were in
-      by_test world older p (is_address world.queue address) [] (refusal field_name.DescAddress address) (λ _. tt)
+      by_test world older p (is_desc_address world.queue address) [] (refusal field_name.DescAddress address) (λ _. tt)
       (λ test. refused_rest field_name.DescAddress address
       (record (r.0) { high = value }, a.reads ∙ high_taken config number value (reads_of past p) r.0 entry r.1 r.2, r.3, ap (λ (l : ℕ). address_of l value) r.4, address_denies world.queue address test) tt)
 
@@ -305,7 +302,7 @@ module _ (world : World) (p : ℕ) (past older : List Line) (value : ℕ) (end :
       let config = pair.config_of (link_config_of world) p in
       let number = length (side_of older p).delivered in
       let r = a.were in
-      by_test world older p (is_length world.queue address value) [] (refusal field_name.DescLength value) (λ _. tt)
+      by_test world older p (is_desc_length world.queue address value) [] (refusal field_name.DescLength value) (λ _. tt)
       (λ test. refused_rest field_name.DescLength value
       (record (r.0) { bytes = value }, a.reads ∙ length_taken config number value (reads_of past p) r.0 entry r.1 r.2, r.3, r.5, refl, subst (λ (x : ℕ). ¬ IsDescLength world.queue x value) r.4 (length_denies world.queue address value test)) tt)
 
@@ -315,9 +312,9 @@ module _ (world : World) (p : ℕ) (past older : List Line) (value : ℕ) (end :
       let config = pair.config_of (link_config_of world) p in
       let number = length (side_of older p).delivered in
       let r = a.were in
-      by_test world older p (low_half value == 0) [] (refusal field_name.DescFlags (low_half value)) (λ _. tt)
-      (λ test. refused_rest field_name.DescFlags (low_half value)
-      (record (r.0) { flags_word = value }, a.reads ∙ flags_taken config number value (reads_of past p) r.0 entry r.1 r.2, r.3, r.5, r.7, refl, nonzero_tells (low_half value) test) tt)
+      by_test world older p (is_desc_flags (desc_flags value)) [] (refusal field_name.DescFlags (desc_flags value)) (λ _. tt)
+      (λ test. refused_rest field_name.DescFlags (desc_flags value)
+      (record (r.0) { flags_word = value }, a.reads ∙ flags_taken config number value (reads_of past p) r.0 entry r.1 r.2, r.3, r.5, r.7, refl, flags_denies (desc_flags value) test) tt)
 
   -- The avail_event read is the value of its word.
   event_rest : (number : ℕ) → AtMarks world p past older (ReadingAvailEvent number) value end → wants_doorbell (low_half value) number ≡ false →
@@ -341,7 +338,7 @@ module _ (world : World) (p : ℕ) (past older : List Line) (value : ℕ) (end :
   marks_rest (ReadingUsedIndex pending freed) a = used_index_rest pending freed a
   marks_rest (ReadingUsedId pending freed more) a =
       let config = pair.config_of (link_config_of world) p in
-      by_test world older p (value == descriptor_of config freed) (if more == 0 then full_marks config pending (freed + 1) else []) (refusal field_name.UsedId value)
+      by_test world older p (is_used_id (descriptor_of config freed) value) (if more == 0 then full_marks config pending (freed + 1) else []) (refusal field_name.UsedId value)
       (λ _. by_test world older p (more == 0) (full_marks config pending (freed + 1)) [] (λ _. full_rest world older p config pending (freed + 1)) (λ _. tt))
       (λ test. used_id_rest pending freed more a test)
   marks_rest (WritingFrameWord pending at more) a = tt

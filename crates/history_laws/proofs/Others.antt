@@ -2,7 +2,7 @@
 use Rattle.std.proofs.Common.{◌≡◌, ℕ, ◌<◌, Bool, true, false, List, [], ◌∷◌, ◌++◌, refl, sym, ◌∙◌, ap, subst}
 use Rattle.std.specs.Prelude.{if◌then◌else◌, Option, Some, None, reverse}
 use Rattle.std.specs.List.{AllByRecursion}
-use Rattle.section_map.specs.MayWrite.{MayWrite}
+use Rattle.section_map.specs.MayWrite.{MayWrite, may_write}
 use Rattle.split_ring.specs.declared.steps.Access.{Access}
 use Rattle.split_ring.specs.declared.steps.Access.TheVariants as access
 use Rattle.scenario_text.specs.Scenario.{World, IsWorld, is_link}
@@ -18,7 +18,7 @@ use Rattle.lawful_history.specs.Sides.{config_of}
 use Rattle.lawful_history.specs.Storm.{drawn_access, draw, next_number}
 use Rattle.lawful_history.specs.EventRecords.{step_lines, turn_lines, region_access_lines}
 use Rattle.lawful_history.specs.Peers.{Driver, Waits, Chooses, Storms, Peer, chosen, opened_by, opened}
-use Rattle.lawful_history.specs.History.{driven_step, step_by, may_write, acted_step, turn_step}
+use Rattle.lawful_history.specs.History.{driven_step, step_by, acted_step, turn_step}
 use Rattle.lawful_history.proofs.Unique.{first_law}
 use Rattle.history_laws.proofs.Proper.{MayAct}
 use Rattle.history_laws.proofs.Stands.{Stands, IsQuiet, Alike, quiet_lines, stands_alike, first_after, answers}

@@ -1,13 +1,15 @@
 -- The values that a call has read at its place, and after each step.
 use Rattle.std.proofs.Common.{◌≡◌, ℕ, zero, suc, ◌+◌, ◌-◌, ◌/◌, ◌<◌, ◌≤◌, Bool, true, false, List, [], ◌∷◌, ◌++◌, length, refl, sym, ◌∙◌, ap, subst, arith, ne_eqb}
-use Rattle.std.specs.Prelude.{◌==◌, nat_le, if◌then◌else◌}
+use Rattle.std.specs.Prelude.{◌==◌, if◌then◌else◌, ◌%◌}
 use Rattle.std.proofs.lemmas.Bool.Decides.{nat_tests}
+use Rattle.split_ring.specs.declared.sizes.TheConstants.{SHORTEST_FRAME}
 use Rattle.split_ring.specs.declared.ranges.FieldName.TheVariants as field_name
 use Rattle.split_ring.specs.declared.steps.Access.{Access}
 use Rattle.split_ring.specs.declared.steps.Access.TheVariants as access
-use Rattle.split_ring.specs.Layout.{has_events, size_of, limit_of, word_offset, DescAddress, DescLength, DescFlags, UsedIndex}
-use Rattle.split_ring.specs.Spelling.{low_half, high_half, entry_half}
-use Rattle.split_ring.specs.Ranges.{IsAvailEntry, IsDescAddress, IsDescLength, IsDescFlags}
+use Rattle.split_ring.specs.Layout.{has_events, limit_of, word_offset, DescAddress, DescLength, DescFlags, UsedIndex}
+use Rattle.split_ring.specs.Spelling.{low_half, high_half, entry_half, desc_flags}
+use Rattle.split_ring.specs.Ranges.{IsAvailEntry, IsDescAddress, IsDescLength, IsDescFlags, is_avail_entry, is_desc_address, is_desc_length, is_desc_flags, is_used_id, is_avail_index, is_used_index}
+use Rattle.split_ring.proofs.Tests.{entry_of_test, address_of_test, length_of_test}
 use Rattle.link_handshake.specs.declared.Move.{Move}
 use Rattle.link_handshake.specs.declared.Move.TheVariants.{Stay, Set, ClearThenSet}
 use Rattle.link_handshake.specs.HandshakeState.{move_of}
@@ -17,10 +19,9 @@ use Rattle.call_grammar.specs.Ends.{End}
 use Rattle.call_grammar.specs.Words.{words_for, address_of, frame_in}
 use Rattle.call_grammar.specs.Calls.{EndConfig, Call, Tick, Stop, Offer, Poll, in_run, pending_of}
 use Rattle.call_grammar.specs.Offers.{PendingOffer, frame_fits, descriptor_of, avail_entry_of, refusal, full_marks, returned_by, reclaim_marks, wants_doorbell}
-use Rattle.call_grammar.specs.Polls.{Item, item_entry, item_address, is_entry, is_address, is_length, is_last, published_by, look_marks}
+use Rattle.call_grammar.specs.Polls.{Item, item_entry, item_address, is_last, published_by, look_marks}
 use Rattle.call_grammar.specs.Places.{Place, Closed, ReadingOtherState, Clearing, WritingState, Refusing, NotInRun, ReadingUsedIndex, ReadingUsedId, WritingFrameWord, WritingDescAddressLow, WritingDescAddressHigh, WritingDescLength, WritingDescFlags, WritingAvailEntry, WritingAvailIndex, ReadingAvailEvent, RingingOffer, ReadingAvailIndex, WritingAvailEvent, ReadingAvailEntry, ReadingDescAddressLow, ReadingDescAddressHigh, ReadingDescLength, ReadingDescFlags, ReadingFrameWord, WritingUsedId, WritingUsedLength, WritingUsedIndex, RingingPoll, clear_place, tick_place, fill_place, ids_place, none_place, items_place, words_place, first_place, access_at, marks_at, next_place}
 use Rattle.call_grammar.proofs.OfferLists.{no}
-use Rattle.call_grammar.proofs.PollLists.{entry_of_test, address_of_test, length_of_test}
 use Rattle.history_laws.specs.Reads.{Got, got, entry_read, low_read, high_read, length_read, flags_read, word_reads}
 
 flags_of_test : (f : ℕ) → (f == 0) ≡ true → IsDescFlags f
@@ -49,7 +50,7 @@ ReadsAre config (ReadingDescFlags number more entry address bytes) reads =
 ReadsAre config (ReadingFrameWord number more entry address bytes words left) reads =
     (read : Item) × (reads ≡ entry_read config number read ∷ low_read config number read ∷ high_read config number read ∷ length_read config number read ∷ flags_read config number read ∷ word_reads config (item_address read) 0 words) ×
     (entry ≡ item_entry config number read) × IsAvailEntry config.sizes (item_entry config number read) ×
-    (address ≡ item_address read) × IsDescAddress config.sizes (item_address read) × (bytes ≡ read.bytes) × IsDescLength config.sizes (item_address read) read.bytes × IsDescFlags (low_half read.flags_word)
+    (address ≡ item_address read) × IsDescAddress config.sizes (item_address read) × (bytes ≡ read.bytes) × IsDescLength config.sizes (item_address read) read.bytes × IsDescFlags (desc_flags read.flags_word)
 ReadsAre config place reads = reads ≡ []
 
 -- The reads after a step: its marks empty the list.
@@ -172,7 +173,7 @@ ids_marked config pending freed zero taken = by_bool (frame_fits config pending 
     by_bool false = refl
 ids_marked config pending freed (suc more) taken = tt
 
-some_words : (bytes : ℕ) → 14 ≤ bytes → 0 < words_for bytes
+some_words : (bytes : ℕ) → SHORTEST_FRAME ≤ bytes → 0 < words_for bytes
 some_words bytes some = omega arith
 
 -- Each step
@@ -186,14 +187,14 @@ reads_on config Refusing value reads is = refl
 reads_on config NotInRun value reads is = refl
 reads_on config (ReadingUsedIndex pending freed) value reads is =
     let count = returned_by freed value in
-    by_test config _ (nat_le count (pending.number - freed)) (ids_place config pending freed count) Refusing (reclaim_marks config pending freed count) (refusal field_name.UsedIndex (high_half value))
+    by_test config _ (is_used_index (freed % 65536) (high_half value) (pending.number - freed)) (ids_place config pending freed count) Refusing (reclaim_marks config pending freed count) (refusal field_name.UsedIndex (high_half value))
     (λ _. subst (λ (r : List Got). ReadsAre config (ids_place config pending freed count) r) (sym (reclaimed (count == 0))) (ids_reads config pending freed count)) (λ _. refl)
   where
     reclaimed : (b : Bool) → reads_marked (if b then Reclaim 0 ∷ full_marks config pending freed else Reclaim (returned_by freed value) ∷ []) (reads ++ got (config.theirs + word_offset config.sizes UsedIndex) value ∷ []) ≡ []
     reclaimed true = refl
     reclaimed false = refl
 reads_on config (ReadingUsedId pending freed more) value reads is =
-    by_test config _ (value == descriptor_of config freed) (ids_place config pending (freed + 1) more) Refusing (if more == 0 then full_marks config pending (freed + 1) else []) (refusal field_name.UsedId value)
+    by_test config _ (is_used_id (descriptor_of config freed) value) (ids_place config pending (freed + 1) more) Refusing (if more == 0 then full_marks config pending (freed + 1) else []) (refusal field_name.UsedId value)
     (λ _. ids_marked config pending (freed + 1) more _) (λ _. refl)
 reads_on config (WritingFrameWord pending at more) value reads is = fill_reads config _ pending (at + 1) more
 reads_on config (WritingDescAddressLow pending) value reads is = tt
@@ -206,29 +207,29 @@ reads_on config (ReadingAvailEvent number) value reads is = by_test config _ (wa
 reads_on config RingingOffer value reads is = refl
 reads_on config (ReadingAvailIndex taken last) value reads is =
     let count = published_by taken value in
-    by_test config _ (nat_le count (size_of config.sizes)) (if count == 0 then none_place taken last else items_place taken count) Refusing (look_marks last count)
+    by_test config _ (is_avail_index config.sizes (taken % 65536) (high_half value)) (if count == 0 then none_place taken last else items_place taken count) Refusing (look_marks last count)
     (refusal field_name.AvailIndex (high_half value))
     (λ _. by_test config _ (count == 0) (none_place taken last) (items_place taken count) (if last then Look 0 ∷ Done ∷ [] else Look 0 ∷ []) (Look count ∷ [])
     (λ _. by_test config _ last Closed (WritingAvailEvent taken) (Look 0 ∷ Done ∷ []) (Look 0 ∷ []) (λ _. refl) (λ _. refl)) (λ _. items_reads config taken count)) (λ _. refl)
 reads_on config (WritingAvailEvent taken) value reads is = is
 reads_on config (ReadingAvailEntry number more) value reads is =
     let entry = entry_half (avail_entry_of config number) value in
-    by_test config _ (is_entry config.sizes entry) (ReadingDescAddressLow number more entry) Refusing [] (refusal field_name.AvailEntry entry)
+    by_test config _ (is_avail_entry config.sizes entry) (ReadingDescAddressLow number more entry) Refusing [] (refusal field_name.AvailEntry entry)
     (λ test. (with_entry_word value, ap (λ (r : List Got). r ++ entry_read config number (with_entry_word value) ∷ []) is, refl, entry_of_test config.sizes entry test)) (λ _. refl)
 reads_on config (ReadingDescAddressLow number more entry) value reads is = (record (is.0) { low = value }, low_taken config number value reads is.0 entry is.1 is.2, is.2, is.3, refl)
 reads_on config (ReadingDescAddressHigh number more entry low) value reads is =
     let read = record (is.0) { high = value } in
     let address : address_of low value ≡ item_address read = ap (λ (l : ℕ). address_of l value) is.4 in
-    by_test config _ (is_address config.sizes (address_of low value)) (ReadingDescLength number more entry (address_of low value)) Refusing [] (refusal field_name.DescAddress (address_of low value))
+    by_test config _ (is_desc_address config.sizes (address_of low value)) (ReadingDescLength number more entry (address_of low value)) Refusing [] (refusal field_name.DescAddress (address_of low value))
     (λ test. (read, high_taken config number value reads is.0 entry is.1 is.2, is.2, is.3, address, subst (IsDescAddress config.sizes) address (address_of_test config.sizes (address_of low value) test))) (λ _. refl)
 reads_on config (ReadingDescLength number more entry address) value reads is =
     let read = record (is.0) { bytes = value } in
-    by_test config _ (is_length config.sizes address value) (ReadingDescFlags number more entry address value) Refusing [] (refusal field_name.DescLength value)
+    by_test config _ (is_desc_length config.sizes address value) (ReadingDescFlags number more entry address value) Refusing [] (refusal field_name.DescLength value)
     (λ test. (read, length_taken config number value reads is.0 entry is.1 is.2, is.2, is.3, is.4, is.5, refl, subst (λ (a : ℕ). IsDescLength config.sizes a value) is.4 (length_of_test config.sizes address value test))) (λ _. refl)
 reads_on config (ReadingDescFlags number more entry address bytes) value reads is =
     let read = record (is.0) { flags_word = value } in
-    by_test config _ (low_half value == 0) (words_place number more entry address bytes [] (words_for bytes)) Refusing [] (refusal field_name.DescFlags (low_half value))
-    (λ test. words_reads config number more entry address bytes [] (words_for bytes) _ (some_words bytes (subst (λ k. 14 ≤ k) (sym is.6) is.7.0)) (λ left. (read, flags_taken config number value reads is.0 entry is.1 is.2, is.2, is.3, is.4, is.5, is.6, is.7, flags_of_test (low_half value) test))) (λ _. refl)
+    by_test config _ (is_desc_flags (desc_flags value)) (words_place number more entry address bytes [] (words_for bytes)) Refusing [] (refusal field_name.DescFlags (desc_flags value))
+    (λ test. words_reads config number more entry address bytes [] (words_for bytes) _ (some_words bytes (subst (λ k. SHORTEST_FRAME ≤ k) (sym is.6) is.7.0)) (λ left. (read, flags_taken config number value reads is.0 entry is.1 is.2, is.2, is.3, is.4, is.5, is.6, is.7, flags_of_test (desc_flags value) test))) (λ _. refl)
 reads_on config (ReadingFrameWord number more entry address bytes words zero) value reads is = refl
 reads_on config (ReadingFrameWord number more entry address bytes words (suc left)) value reads is =
     let none : (suc left == 0) ≡ false = ne_eqb (suc left) 0 (λ e. absurd (omega arith)) in

@@ -2,6 +2,7 @@
 use Rattle.std.proofs.Common.{◌≡◌, ◌≢◌, ℕ, ◌+◌, ◌*◌, ◌<◌, ◌≤◌, inl, inr, Bool, true, false, List, [], ◌∷◌, ◌++◌, length, refl, sym, ap, ◌∙◌, subst, arith, length-append, ne_eqb}
 use Rattle.std.specs.Prelude.{◌==◌, if◌then◌else◌}
 use Rattle.std.proofs.lemmas.List.{append-nil}
+use Rattle.split_ring.specs.declared.sizes.TheConstants.{LONGEST_FRAME}
 use Rattle.link_handshake.specs.declared.Phase.{Phase}
 use Rattle.link_handshake.specs.declared.Phase.TheVariants.{Reset, Init, Ready, Run}
 use Rattle.split_ring.specs.declared.steps.Access.TheVariants.{Read}
@@ -66,14 +67,14 @@ added : (xs ys : List Step) → items_bound (xs ++ ys) ≡ items_bound xs + item
 added [] ys = omega arith
 added (x ∷ xs) ys = let e = added xs ys in omega arith
 
-item_most : (config : EndConfig) (number : ℕ) (read : Item) → IsValidItem config number read → items_bound (item_steps config number read) ≤ 8 + words_for 65553
+item_most : (config : EndConfig) (number : ℕ) (read : Item) → IsValidItem config number read → items_bound (item_steps config number read) ≤ 8 + words_for LONGEST_FRAME
 item_most config number read good =
     let marks = Deliver (frame_in read.bytes read.words) ∷ [] in
     let most = good.bytes.1 in
     let size = frame_length read.bytes read.words good.words in
     omega (arith, words_most config (item_address read) 0 read.words marks, added (word_steps config (item_address read) 0 read.words marks) (return_steps config number (item_entry config number read)))
 
-items_most : (config : EndConfig) (number : ℕ) (reads : List Item) → AreValidItems config number reads → items_bound (items_steps config number reads) ≤ length reads * (8 + words_for 65553)
+items_most : (config : EndConfig) (number : ℕ) (reads : List Item) → AreValidItems config number reads → items_bound (items_steps config number reads) ≤ length reads * (8 + words_for LONGEST_FRAME)
 items_most config number [] good = omega arith
 items_most config number (read ∷ reads) good =
     let one = item_most config number read good.0 in let others = items_most config (number + 1) reads good.1 in
@@ -87,7 +88,7 @@ refused_most config number read steps (inr (inr (inr is))) = let b = ap items_bo
 
 -- The greatest number of steps of the items that a poll finds.
 abbrev items_most_of : EndConfig → ℕ
-items_most_of config = size_of config.sizes * (8 + words_for 65553)
+items_most_of config = size_of config.sizes * (8 + words_for LONGEST_FRAME)
 
 look_most : (config : EndConfig) (taken : ℕ) (FindsNone : List Step → Type 0) (steps : List Step) → (FindsNone steps → items_bound steps ≤ items_most_of config) →
     IsLook config taken FindsNone steps → items_bound steps ≤ items_most_of config

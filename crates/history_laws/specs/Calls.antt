@@ -1,6 +1,7 @@
 -- The calls of an honest link peer since its last reset: each begins in its turn, and ends within
 -- its bound. Event records and calls are listed newest first.
 use Rattle.std.specs.Prelude.{ℕ, ◌≡◌, ◌≢◌, ◌+◌, ◌*◌, ◌<◌, ◌≤◌, ◌⊎◌, true, if◌then◌else◌, Option, Some, None, List, [], ◌∷◌, ◌++◌, length, reverse, slice_get, All}
+use Rattle.split_ring.specs.declared.sizes.TheConstants.{LONGEST_FRAME}
 use Rattle.split_ring.specs.Layout.{has_events, size_of}
 use Rattle.scenario_text.specs.Scenario.{World, IsWorld, is_link}
 use Rattle.call_grammar.specs.Steps.{Step}
@@ -92,7 +93,7 @@ AreFinished config (begun ∷ earlier) = IsFinishedCall config begun × AreFinis
 -- The greatest number of steps of a call, for all values read. A Poll finds at most as many items
 -- as the queue has, each with a frame of at most 65,553 bytes.
 abbrev pub most_of : EndConfig → Call → ℕ
-most_of config Poll = (if has_events config.sizes then 4 else 2) + size_of config.sizes * (8 + words_for 65553)
+most_of config Poll = (if has_events config.sizes then 4 else 2) + size_of config.sizes * (8 + words_for LONGEST_FRAME)
 most_of config call = bound_of config call []
 
 -- The call is open: these are its first steps, and there are more. They are fewer than the bound of

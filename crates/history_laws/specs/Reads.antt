@@ -5,7 +5,7 @@ use Rattle.split_ring.specs.declared.ranges.FieldName.{FieldName}
 use Rattle.split_ring.specs.declared.ranges.FieldName.TheVariants as field_name
 use Rattle.split_ring.specs.declared.ranges.Refused.{Refused}
 use Rattle.split_ring.specs.Layout.{limit_of, word_offset, DescAddress, DescLength, DescFlags, AvailIndex, AvailEntry, UsedIndex, UsedId}
-use Rattle.split_ring.specs.Spelling.{low_half, high_half}
+use Rattle.split_ring.specs.Spelling.{high_half, desc_flags}
 use Rattle.split_ring.specs.Ranges.{IsAvailIndex, IsAvailEntry, IsDescAddress, IsDescLength, IsDescFlags, IsUsedIndex, IsUsedId}
 use Rattle.scenario_text.specs.Scenario.{World, IsWorld, is_link}
 use Rattle.call_grammar.specs.Calls.{EndConfig}
@@ -116,7 +116,7 @@ IsReadBeyond config side reads field_name.DescFlags value =
     ∷ high_read config (length side.delivered) read ∷ length_read config (length side.delivered) read ∷ flags_read config (length side.delivered) read
     ∷ []) ×
     IsAvailEntry config.sizes (item_entry config (length side.delivered) read) × IsDescAddress config.sizes (item_address read) ×
-    IsDescLength config.sizes (item_address read) read.bytes × (value ≡ low_half read.flags_word) × (¬ IsDescFlags value)
+    IsDescLength config.sizes (item_address read) read.bytes × (value ≡ desc_flags read.flags_word) × (¬ IsDescFlags value)
 IsReadBeyond config side reads field_name.UsedIndex value =
     (earlier : List Got) × (word : ℕ) × (reads ≡ earlier ++ got (config.theirs + word_offset config.sizes UsedIndex) word ∷ []) × (value ≡ high_half word) ×
     (¬ IsUsedIndex (side.freed % 65536) value (length side.accepted - side.freed))

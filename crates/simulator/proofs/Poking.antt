@@ -1,28 +1,18 @@
 -- A poke: the write is made if the peer may write the word, and denied otherwise.
-use Rattle.std.proofs.Common.{◌≡◌, ℕ, Bool, true, false, List, [], ◌∷◌, ◌++◌, refl, sym, ap, ◌∙◌, arith, inl, inr}
+use Rattle.std.proofs.Common.{◌≡◌, ℕ, Bool, true, false, List, [], ◌∷◌, ◌++◌, refl, sym, ap, ◌∙◌, arith}
 use Rattle.std.specs.Prelude.{reverse, slice_set, if◌then◌else◌}
-use Rattle.std.proofs.lemmas.Bool.Decides.{nat_tests}
-use Rattle.section_map.specs.Geometry.{Shape}
-use Rattle.section_map.specs.MayWrite.{MayWrite}
+use Rattle.section_map.specs.MayWrite.{MayWrite, may_write}
 use Rattle.split_ring.specs.declared.steps.Access.TheVariants as access
 use Rattle.scenario_text.specs.Scenario.{World}
 use Rattle.lawful_history.specs.declared.line.Line.{Line}
 use Rattle.lawful_history.specs.declared.line.Line.TheVariants as line
 use Rattle.lawful_history.specs.EventRecords.{region_access_lines}
-use Rattle.lawful_history.specs.History.{may_write, acted_step}
-use Rattle.lawful_history.proofs.Exists.{may}
+use Rattle.lawful_history.specs.History.{acted_step}
+use Rattle.section_map.proofs.Tests.{may_test, may_fails}
 use Rattle.simulator.specs.Log.{Output, Records}
 use Rattle.simulator.specs.WorldState.{WorldStateAfter}
 use Rattle.simulator.specs.declared.world_state.WorldState.{WorldState}
 use Rattle.simulator.proofs.Arriving.{written}
-
-may_test : (g : Shape) (p word : ℕ) → MayWrite g p word → may_write g p word ≡ true
-may_test g p word (inl here) = let low = here.0 in let high = here.1 in grind (arith, nat_tests)
-may_test g p word (inr here) = let low = here.0 in let high = here.1 in grind (arith, nat_tests)
-
-may_not_by : (g : Shape) (p word : ℕ) (b : Bool) → may_write g p word ≡ b → ¬ MayWrite g p word → may_write g p word ≡ false
-may_not_by g p word true is may_not = absurd (may_not (may g p word is))
-may_not_by g p word false is may_not = is
 
 -- The lines of a poke.
 poked_lines : (world : World) (past : List Line) (p word value : ℕ) (b : Bool) → may_write world.geometry p word ≡ b →
@@ -49,7 +39,7 @@ pub poke_denied : (world : World) (output : Output) (past : List Line) (losses :
     s'.device ≡ s.device → s'.unspent ≡ s.unspent → Records (line.Denied me word) s.log s'.log →
     WorldStateAfter world output (reverse (region_access_lines me (access.Write word value) (acted_step world me (access.Write word value) past) []) ++ past) losses s'
 poke_denied world output past losses s s' me word value after may_not region device unspent tells =
-    let is : may_write world.geometry me word ≡ false = ap (λ g. may_write g me word) (sym after.shape) ∙ may_not_by s.region.shape me word _ refl may_not in
+    let is : may_write world.geometry me word ≡ false = ap (λ g. may_write g me word) (sym after.shape) ∙ may_fails s.region.shape me word may_not in
     rw (poked_lines world past me word value false is) (record {
       is_world = after.is_world;
       shape = ap (λ r. r.shape) region ∙ after.shape;

@@ -13,6 +13,7 @@ use Rattle.call_grammar.specs.Calls.{EndConfig}
 use Rattle.call_grammar.specs.Reach.{CallsStayInReach}
 use Rattle.lawful_history.specs.declared.line.Line.{Line}
 use Rattle.split_ring.specs.declared.steps.Access.TheVariants as access
+use Rattle.section_map.specs.MayWrite.{may_write}
 use Rattle.call_grammar.specs.Steps.{Step, step_of}
 use Rattle.scenario_text.specs.declared.acts.Act.TheVariants as act
 use Rattle.call_grammar.specs.Trees.{Ended}
@@ -22,7 +23,7 @@ use Rattle.lawful_history.specs.Sides.{config_of}
 use Rattle.lawful_history.specs.EventRecords.{region_access_lines, lines_by}
 use Rattle.lawful_history.specs.Device.{arrivals, step_interrupts, device_lines, losses_with}
 use Rattle.lawful_history.specs.Peers.{Peer, at_start}
-use Rattle.lawful_history.specs.History.{HistoryState, may_write, acted_step, peer_at, peer_after, after_event, run, initial_state, history}
+use Rattle.lawful_history.specs.History.{HistoryState, acted_step, peer_at, peer_after, after_event, run, initial_state, history}
 use Rattle.lawful_history.proofs.Owners.{is_same, is_other}
 use Rattle.lawful_history.proofs.Few.{sessions_few}
 use Rattle.lawful_history.specs.Sessions.{recorded_in}

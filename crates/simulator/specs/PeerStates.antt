@@ -1,5 +1,6 @@
 -- The states of the peers: the refinement of each peer in the middle of the schedule.
 use Rattle.std.specs.Prelude.{ℕ, ◌≡◌, ◌+◌, ◌≤◌, ◌<◌, ◌^◌, Bool, true, false, Option, Some, None, List, [], map, length, All}
+use Rattle.split_ring.specs.declared.sizes.TheConstants.{FRAME_OVERHEAD, SHORTEST_FRAME}
 use Rattle.section_map.specs.Geometry.{Shape, IsShape, section_start}
 use Rattle.scenario_text.specs.Scenario.{World, IsWorld}
 use Rattle.call_grammar.specs.Trees.{Ended}
@@ -53,7 +54,7 @@ PeerStateRefines config peer peer_state.Idle = SitsBy Waits peer
 
 -- The frame may be offered.
 abbrev pub IsOffered : ℕ → List ℕ → Type 0
-IsOffered mtu frame = (14 ≤ length frame) × (length frame ≤ mtu + 18)
+IsOffered mtu frame = (SHORTEST_FRAME ≤ length frame) × (length frame ≤ mtu + FRAME_OVERHEAD)
 
 abbrev pub MayWait : ℕ → Waiting → Type 0
 MayWait mtu Tick = Unit {0}

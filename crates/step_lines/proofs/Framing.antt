@@ -9,7 +9,7 @@ use Rattle.split_ring.specs.declared.steps.Note.TheVariants as note
 use Rattle.split_ring.specs.Layout.{has_events}
 use Rattle.split_ring.specs.Ranges.{is_desc_length, is_avail_index, is_used_index, is_used_id}
 use Rattle.split_ring.specs.Spelling.{high_half}
-use Rattle.split_ring.proofs.Tests.{length_holds}
+use Rattle.split_ring.proofs.Tests.{length_of_test}
 use Rattle.link_handshake.specs.declared.Move.{Move}
 use Rattle.link_handshake.specs.declared.Move.TheVariants.{Stay, Set, ClearThenSet}
 use Rattle.link_handshake.specs.HandshakeState.{move_of}
@@ -189,7 +189,7 @@ reads number more entry address bytes read zero least = tt
 reads number more entry address bytes read (suc words) least = least
 
 at_length : (config : EndConfig) (number more entry address value : ℕ) (b : Bool) → is_desc_length config.sizes address value ≡ b → HasFrames (if b then ReadingDescFlags number more entry address value else Refusing)
-at_length config number more entry address value true is = (length_holds config.sizes address value is).0
+at_length config number more entry address value true is = (length_of_test config.sizes address value is).0
 at_length config number more entry address value false is = tt
 
 pub next_frames : (config : EndConfig) (place : Place) (value : ℕ) → HasFrames place → HasFrames (next_place config place value)

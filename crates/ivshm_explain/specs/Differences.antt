@@ -10,7 +10,7 @@ use Rattle.trace_replay.specs.Verdict.{IsDifference}
 use Rattle.ivshm_explain.specs.declared.differences.Difference.{Difference}
 use Rattle.ivshm_explain.specs.declared.refusals.Refusal.{Refusal}
 use Rattle.ivshm_explain.specs.declared.verdicts.Verdict.{Verdict}
-use Rattle.ivshm_explain.specs.declared.verdicts.Verdict.TheVariants.{Accepted, Refused, Differs, NotExplained}
+use Rattle.ivshm_explain.specs.declared.verdicts.Verdict.TheVariants.{Accepted, Refused, Differs}
 use Rattle.ivshm_explain.specs.Refusals.{of_record}
 
 -- the text is no record, and the refusal is that of its first fault
@@ -39,4 +39,3 @@ abbrev pub IsRecordVerdict : List ℕ → Verdict → Type 0
 IsRecordVerdict bytes Accepted = (r : Record) × IsSpelling r bytes × IsLawfulIn r.world r.version r.lines
 IsRecordVerdict bytes (Refused refusal) = IsRecordFault bytes refusal
 IsRecordVerdict bytes (Differs d) = IsFoundIn bytes d
-IsRecordVerdict bytes NotExplained = ⊥

@@ -9,7 +9,7 @@ use Rattle.ivshm_explain.specs.declared.refusals.Refusal.{Refusal}
 use Rattle.ivshm_explain.specs.declared.refusals.Place.TheVariants.{Whole}
 use Rattle.ivshm_explain.specs.declared.refusals.Reason.TheVariants.{TooLong}
 use Rattle.ivshm_explain.specs.declared.status.Status.{Status}
-use Rattle.ivshm_explain.specs.declared.status.Status.TheVariants.{Accepted, Differs, Usage, Refused, ReadFault, WriteFault, NoMemory, NotExplained}
+use Rattle.ivshm_explain.specs.declared.status.Status.TheVariants.{Accepted, Differs, Usage, Refused, ReadFault, WriteFault, NoMemory}
 use Rattle.ivshm_explain.specs.declared.verdicts.Verdict.TheVariants as verdicts
 use Rattle.ivshm_explain.specs.Forms.{limit_of}
 use Rattle.ivshm_explain.specs.Places.{place_of}
@@ -19,8 +19,8 @@ use Rattle.ivshm_explain.specs.Verdicts.{IsVerdict}
 abbrev pub usage_line : List ℕ
 usage_line = codes "usage: ivshm_explain sim | run | replay | renew | dump | config P | load N | capture P | feed P | ports | bridge\n"
 
--- the explanation begins with the line that `ivshm` answers, and with the number and the text of
--- the line that is faulty
+-- the explanation begins with the line that `ivshm` answers, and with the place that is faulty and
+-- what stands there
 pub record IsExplained (bytes : List ℕ) (refusal : Refusal) (text : List ℕ) : Type 0 where
   pub words : List ℕ
   pub is : text ≡ verdict_of refusal ++ place_of bytes refusal.place ++ words
@@ -30,15 +30,19 @@ abbrev pub IsReply : Form → List ℕ → Status → (text : List ℕ) → Type
 IsReply form bytes Accepted text = IsVerdict form bytes verdicts.Accepted
 IsReply form bytes Refused text = (refusal : Refusal) × IsVerdict form bytes (verdicts.Refused refusal) × IsExplained bytes refusal text
 IsReply form bytes Differs text = (difference : Difference) × IsVerdict form bytes (verdicts.Differs difference) × IsDifferenceText difference text
-IsReply form bytes NotExplained text = IsVerdict form bytes verdicts.NotExplained
 IsReply form bytes _ text = ⊥
+
+-- the input was read to its end; `load` reads nothing
+abbrev pub IsRead : Form → (before now : Input) → Type 0
+IsRead forms.Load before now = now ≡ before
+IsRead _ before now = HasEnded now
 
 -- bytes were read to their end, or none for `load`, and the whole reply to them was written
 pub record Replies (form : Form) (before now : Input) (before' now' : Output) (status : Status) : Type 0 where
   pub bytes : List ℕ
   pub text : List ℕ
   pub gave : Gave before bytes now
-  pub ended : HasEnded now
+  pub ended : IsRead form before now
   pub reply : IsReply form bytes status text
   pub wrote : Took before' text now'
 
@@ -53,7 +57,6 @@ pub record FindsTooMany (form : Form) (before now : Input) (before' now' : Outpu
 abbrev pub HasCause : Status → Option Form → (before now : Input) → (before' now' : Output) → Type 0
 HasCause Accepted (Some form) before now before' now' = Replies form before now before' now' Accepted
 HasCause Refused (Some form) before now before' now' = Replies form before now before' now' Refused ⊎ FindsTooMany form before now before' now'
-HasCause NotExplained (Some form) before now before' now' = Replies form before now before' now' NotExplained
 HasCause Differs (Some form) before now before' now' = Replies form before now before' now' Differs
 HasCause Usage None before now before' now' = (now ≡ before) × Took before' usage_line now'
 HasCause ReadFault form before now before' now' = SourceFailed before now × (now' ≡ before')

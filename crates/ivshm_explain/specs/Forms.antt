@@ -1,5 +1,5 @@
 -- The words of the program, and how many bytes a form reads: as of `ivshm` (profile).
-use Rattle.std.specs.Prelude.{ℕ, ◌-◌, ◌&&◌, nat_le, if◌then◌else◌, List, [], ◌∷◌, codes, Option, Some, None, option_and_then}
+use Rattle.std.specs.Prelude.{ℕ, ◌-◌, ◌<◌, ⊤, ◌&&◌, nat_le, if◌then◌else◌, List, [], ◌∷◌, codes, Option, Some, None, option_and_then}
 use Rattle.std.specs.Str.{bytes_eq}
 use Rattle.line_format.specs.Numbers.{number_of}
 use Rattle.ivshm_explain.specs.declared.forms.Form.{Form}
@@ -14,10 +14,15 @@ config_of _ = None
 abbrev pub load_of : List ℕ → Option Form
 load_of word = option_and_then (λ count. if nat_le 1 count && nat_le count 80000 then Some Load else None) (number_of word)
 
--- a form with the peer 0 or 1 after it, in one digit
-abbrev pub link_form_of : Form → List ℕ → Option Form
-link_form_of form (digit ∷ []) = if nat_le 48 digit && nat_le digit 49 then Some form else None
-link_form_of form _ = None
+-- `capture` with a link peer: one digit, 0 or 1
+abbrev pub capture_of : List ℕ → Option Form
+capture_of (digit ∷ []) = if nat_le 48 digit && nat_le digit 49 then Some Record else None
+capture_of _ = None
+
+-- `feed` with a link peer: one digit, 0 or 1
+abbrev pub feed_of : List ℕ → Option Form
+feed_of (digit ∷ []) = if nat_le 48 digit && nat_le digit 49 then Some (Feed (digit - 48)) else None
+feed_of _ = None
 
 -- the form that the words are, if they are one
 abbrev pub form_of : List (List ℕ) → Option Form
@@ -33,10 +38,15 @@ form_of (first ∷ []) =
 form_of (first ∷ second ∷ []) =
     if bytes_eq first (codes "config") then config_of second
     else if bytes_eq first (codes "load") then load_of second
-    else if bytes_eq first (codes "capture") then link_form_of Record second
-    else if bytes_eq first (codes "feed") then link_form_of Feed second
+    else if bytes_eq first (codes "capture") then capture_of second
+    else if bytes_eq first (codes "feed") then feed_of second
     else None
 form_of _ = None
+
+-- `feed` names a link peer
+abbrev pub IsFit : Form → Type 0
+IsFit (Feed peer) = peer < 2
+IsFit _ = ⊤
 
 -- how many bytes a form reads at most; `load` reads nothing
 abbrev pub limit_of : Form → ℕ

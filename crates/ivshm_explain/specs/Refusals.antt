@@ -8,16 +8,25 @@ use Rattle.port_text.specs.declared.faults.PortsFault.{PortsFault}
 use Rattle.port_text.specs.declared.faults.PortsFault.TheVariants as ports
 use Rattle.bridge_text.specs.declared.faults.BridgeFault.{BridgeFault}
 use Rattle.bridge_text.specs.declared.faults.BridgeFault.TheVariants as bridges
+use Rattle.section_map.specs.declared.sizes.Part.TheVariants.{Table, Common, Out}
+use Rattle.section_map.specs.declared.sizes.GeometryFault.{GeometryFault}
+use Rattle.section_map.specs.declared.sizes.GeometryFault.TheVariants.{BadPeers, BadPage, TableTooSmall, TooLarge as RegionTooLarge}
+use Rattle.section_dump.specs.declared.DumpFault.{DumpFault}
+use Rattle.section_dump.specs.declared.DumpFault.TheVariants as dumps
+use Rattle.frame_capture.specs.declared.faults.CaptureFault.{CaptureFault}
+use Rattle.frame_capture.specs.declared.faults.CaptureFault.TheVariants as captures
 use Rattle.ivshm_explain.specs.declared.refusals.Place.{Place}
-use Rattle.ivshm_explain.specs.declared.refusals.Place.TheVariants.{Whole, Line}
+use Rattle.ivshm_explain.specs.declared.refusals.Place.TheVariants.{Whole, Line, Bytes, Packet}
 use Rattle.ivshm_explain.specs.declared.refusals.Reason.{Reason}
-use Rattle.ivshm_explain.specs.declared.refusals.Reason.TheVariants.{TooLong, BadLine, BadOrder, BadNumber, BadPeer, BadFrame, BadMessage, BadGeometry, TooManyTurns, TooManyFrames, NotRunning, NoEnd, BadCount}
+use Rattle.ivshm_explain.specs.declared.refusals.Reason.TheVariants.{TooLong, BadLine, BadOrder, BadNumber, BadPeer, BadFrame, BadMessage, BadGeometry, TooManyTurns, TooManyFrames, NotRunning, NoEnd, BadCount, BadHeader, ShortImage, LongImage, Short, BadMagic, BadVersion, BadLinkType, BadPacket, CutPacket, TooLarge}
 use Rattle.ivshm_explain.specs.declared.refusals.Refusal.{Refusal}
 
 -- the number that the answer names
 abbrev pub number_of : Place → ℕ
 number_of Whole = 0
 number_of (Line number) = number
+number_of (Bytes first count) = 0
+number_of (Packet number) = number
 
 abbrev pub name_of : Reason → List ℕ
 name_of TooLong = codes "TooLong"
@@ -33,17 +42,30 @@ name_of TooManyFrames = codes "TooManyFrames"
 name_of NotRunning = codes "NotRunning"
 name_of NoEnd = codes "NoEnd"
 name_of (BadCount kept found) = codes "BadCount"
+name_of BadHeader = codes "BadHeader"
+name_of (ShortImage need found) = codes "ShortImage"
+name_of (LongImage need found) = codes "LongImage"
+name_of Short = codes "Short"
+name_of BadMagic = codes "BadMagic"
+name_of BadVersion = codes "BadVersion"
+name_of BadLinkType = codes "BadLinkType"
+name_of BadPacket = codes "BadPacket"
+name_of CutPacket = codes "CutPacket"
+name_of TooLarge = codes "TooLarge"
 
 -- the answer to a line that is wrong, or to a text as a whole
 abbrev pub place_line_of : (number : ℕ) → (name : List ℕ) → List ℕ
 place_line_of number name = codes "refused " ++ decimal number ++ codes " " ++ name ++ codes "\n"
 
--- the answer to a record that hasn't as many lines as it states
+-- the answer to a record that hasn't as many lines as it states, or to an image that hasn't as many
+-- bytes as its header asks for
 abbrev pub count_line_of : (number : ℕ) → (name : List ℕ) → (kept found : ℕ) → List ℕ
 count_line_of number name kept found = codes "refused " ++ decimal number ++ codes " " ++ name ++ codes " " ++ decimal kept ++ codes " " ++ decimal found ++ codes "\n"
 
 abbrev pub answer_of : (number : ℕ) → Reason → List ℕ
 answer_of number (BadCount kept found) = count_line_of number (name_of (BadCount kept found)) kept found
+answer_of number (ShortImage need found) = count_line_of number (name_of (ShortImage need found)) need found
+answer_of number (LongImage need found) = count_line_of number (name_of (LongImage need found)) need found
 answer_of number reason = place_line_of number (name_of reason)
 
 -- the line that `ivshm` answers
@@ -95,3 +117,36 @@ of_bridge (bridges.BadOrder line) = at line BadOrder
 of_bridge (bridges.TooManyFrames line) = at line TooManyFrames
 of_bridge bridges.NoEnd = whole NoEnd
 of_bridge bridges.NoMemory = None
+
+abbrev pub at_bytes : (first count : ℕ) → Reason → Option Refusal
+at_bytes first count reason = Some (record { place = Bytes first count; reason = reason })
+
+abbrev pub at_packet : ℕ → Reason → Option Refusal
+at_packet number reason = Some (record { place = Packet number; reason = reason })
+
+-- the sizes of an image's header that are faulty
+abbrev pub of_sizes : GeometryFault → Option Refusal
+of_sizes (BadPeers found) = at_bytes 8 4 BadGeometry
+of_sizes (BadPage Table size) = at_bytes 12 4 BadGeometry
+of_sizes (BadPage Common size) = at_bytes 16 8 BadGeometry
+of_sizes (BadPage Out size) = at_bytes 24 8 BadGeometry
+of_sizes (TableTooSmall need found) = at_bytes 12 4 BadGeometry
+of_sizes (RegionTooLarge size) = at_bytes 8 24 BadGeometry
+
+-- the header, its sizes, the end of an image that is too short, or the first bytes after the region
+abbrev pub of_image : DumpFault → Option Refusal
+of_image dumps.BadHeader = at_bytes 0 32 BadHeader
+of_image (dumps.Geometry fault) = of_sizes fault
+of_image (dumps.ShortImage need found) = at_bytes found 1 (ShortImage need found)
+of_image (dumps.LongImage need found) = at_bytes need 16 (LongImage need found)
+of_image dumps.NoMemory = None
+
+-- the fields of a capture file's header by their places, or the packet
+abbrev pub of_capture : CaptureFault → Option Refusal
+of_capture (captures.Short found) = at_bytes found 1 Short
+of_capture (captures.BadMagic value) = at_bytes 0 4 BadMagic
+of_capture (captures.BadVersion major minor) = at_bytes 4 4 BadVersion
+of_capture (captures.BadLinkType value) = at_bytes 20 4 BadLinkType
+of_capture (captures.BadPacket number) = at_packet number BadPacket
+of_capture (captures.CutPacket number) = at_packet number CutPacket
+of_capture captures.NoMemory = None

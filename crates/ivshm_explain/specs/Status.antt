@@ -1,7 +1,7 @@
--- The exit numbers of the program, which are those of `ivshm`, and 7 (profile).
+-- The exit numbers of the program, which are those of `ivshm` (profile).
 use Rattle.std.specs.Prelude.{ℕ}
 use Rattle.ivshm_explain.specs.declared.status.Status.{Status}
-use Rattle.ivshm_explain.specs.declared.status.Status.TheVariants.{Accepted, Differs, Usage, Refused, ReadFault, WriteFault, NoMemory, NotExplained}
+use Rattle.ivshm_explain.specs.declared.status.Status.TheVariants.{Accepted, Differs, Usage, Refused, ReadFault, WriteFault, NoMemory}
 
 abbrev pub exit_number_of : Status → ℕ
 exit_number_of Accepted = 0
@@ -11,4 +11,3 @@ exit_number_of Refused = 3
 exit_number_of ReadFault = 4
 exit_number_of WriteFault = 5
 exit_number_of NoMemory = 6
-exit_number_of NotExplained = 7

@@ -12,14 +12,22 @@ use Rattle.port_text.specs.Judge as port_judge
 use Rattle.bridge_text.specs.declared.faults.BridgeFault.{BridgeFault}
 use Rattle.bridge_text.specs.Spelling as bridge_text
 use Rattle.bridge_text.specs.Judge as bridge_judge
+use Rattle.section_dump.specs.declared.DumpFault.{DumpFault}
+use Rattle.section_dump.specs.Image.{IsImage}
+use Rattle.section_dump.specs.Faults.{IsDumpFault}
+use Rattle.frame_capture.specs.declared.faults.CaptureFault.{CaptureFault}
+use Rattle.frame_capture.specs.declared.packets.Capture.{Capture}
+use Rattle.frame_capture.specs.CaptureFile.{IsCaptureFile}
+use Rattle.frame_capture.specs.Faults.{IsCaptureFault}
+use Rattle.frame_capture.specs.Feed.{offered_frames, feed_world, IsTooLarge}
 use Rattle.ivshm_explain.specs.declared.forms.Form.{Form}
 use Rattle.ivshm_explain.specs.declared.forms.Form.TheVariants as forms
 use Rattle.ivshm_explain.specs.declared.refusals.Refusal.{Refusal}
 use Rattle.ivshm_explain.specs.declared.verdicts.Verdict.{Verdict}
-use Rattle.ivshm_explain.specs.declared.verdicts.Verdict.TheVariants.{Accepted, Refused, NotExplained}
-use Rattle.ivshm_explain.specs.declared.refusals.Reason.TheVariants.{NotRunning, BadPeer}
+use Rattle.ivshm_explain.specs.declared.verdicts.Verdict.TheVariants.{Accepted, Refused}
+use Rattle.ivshm_explain.specs.declared.refusals.Reason.TheVariants.{NotRunning, BadPeer, TooLarge}
 use Rattle.ivshm_explain.specs.Differences.{IsRecordVerdict}
-use Rattle.ivshm_explain.specs.Refusals.{at, whole, of_scenario, of_ports, of_bridge}
+use Rattle.ivshm_explain.specs.Refusals.{at, whole, of_scenario, of_ports, of_bridge, of_image, of_capture}
 
 -- the text is no scenario, and the refusal is that of its first fault
 pub record IsScenarioFault (bytes : List ℕ) (refusal : Refusal) : Type 0 where
@@ -36,6 +44,17 @@ pub record IsBridgeFault (bytes : List ℕ) (refusal : Refusal) : Type 0 where
   pub fault : BridgeFault
   pub first : bridge_judge.answer bytes ≡ Err fault
   pub refuses : of_bridge fault ≡ Some refusal
+
+-- the bytes are no image, and the refusal is that of their first fault
+pub record IsImageFault (bytes : List ℕ) (refusal : Refusal) : Type 0 where
+  pub fault : DumpFault
+  pub first : IsDumpFault bytes fault
+  pub refuses : of_image fault ≡ Some refusal
+
+pub record IsNoCapture (bytes : List ℕ) (refusal : Refusal) : Type 0 where
+  pub fault : CaptureFault
+  pub first : IsCaptureFault bytes fault
+  pub refuses : of_capture fault ≡ Some refusal
 
 -- what `run`, `config P` and `sim` answer to a scenario
 abbrev pub IsScenarioVerdict : Form → World → Verdict → Type 0
@@ -62,10 +81,30 @@ IsBridgeVerdict bytes Accepted = (world : bridge_text.World) × bridge_text.IsSp
 IsBridgeVerdict bytes (Refused refusal) = IsBridgeFault bytes refusal
 IsBridgeVerdict bytes _ = ⊥
 
--- the forms that aren't explained yet
-abbrev pub IsOpen : Verdict → Type 0
-IsOpen NotExplained = ⊤
-IsOpen _ = ⊥
+abbrev pub IsDumpVerdict : List ℕ → Verdict → Type 0
+IsDumpVerdict bytes Accepted = IsImage bytes
+IsDumpVerdict bytes (Refused refusal) = IsImageFault bytes refusal
+IsDumpVerdict bytes _ = ⊥
+
+-- whether the scenario in which the peer offers the frames of a capture is too large
+abbrev pub FeedsTooMuch : (peer : ℕ) → Capture → Type 0
+FeedsTooMuch peer capture = IsTooLarge (feed_world peer (offered_frames capture.packets))
+
+-- what `feed P` answers to a capture
+abbrev pub IsFed : (peer : ℕ) → Capture → Verdict → Type 0
+IsFed peer capture Accepted = ¬ FeedsTooMuch peer capture
+IsFed peer capture (Refused refusal) = FeedsTooMuch peer capture × (Some refusal ≡ whole TooLarge)
+IsFed peer capture _ = ⊥
+
+-- a capture file is answered so; other bytes are refused by their first fault
+abbrev pub IsFeedVerdict : (peer : ℕ) → List ℕ → Verdict → Type 0
+IsFeedVerdict peer bytes (Refused refusal) = IsNoCapture bytes refusal ⊎ ((capture : Capture) × IsCaptureFile capture bytes × IsFed peer capture (Refused refusal))
+IsFeedVerdict peer bytes verdict = (capture : Capture) × IsCaptureFile capture bytes × IsFed peer capture verdict
+
+-- `load` is never refused
+abbrev pub IsLoadVerdict : Verdict → Type 0
+IsLoadVerdict Accepted = ⊤
+IsLoadVerdict _ = ⊥
 
 -- what the form answers to the bytes
 abbrev pub IsVerdict : Form → List ℕ → Verdict → Type 0
@@ -75,4 +114,6 @@ IsVerdict (forms.Config peer) bytes verdict = IsTextVerdict (forms.Config peer) 
 IsVerdict forms.Record bytes verdict = IsRecordVerdict bytes verdict
 IsVerdict forms.Ports bytes verdict = IsPortsVerdict bytes verdict
 IsVerdict forms.Bridge bytes verdict = IsBridgeVerdict bytes verdict
-IsVerdict _ bytes verdict = IsOpen verdict
+IsVerdict forms.Dump bytes verdict = IsDumpVerdict bytes verdict
+IsVerdict (forms.Feed peer) bytes verdict = IsFeedVerdict peer bytes verdict
+IsVerdict forms.Load bytes verdict = IsLoadVerdict verdict

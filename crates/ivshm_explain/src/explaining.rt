@@ -1,5 +1,6 @@
 //! The explanation of what a form answers to bytes.
 ghost use Rattle.std.specs.Prelude.{◌≡◌, ◌++◌, [], IfOk};
+ghost use Rattle.ivshm_explain.specs.Forms.{IsFit};
 ghost use Rattle.ivshm_explain.specs.Places.{place_of};
 ghost use Rattle.ivshm_explain.specs.Refusals.{verdict_of};
 ghost use Rattle.ivshm_explain.specs.Explained.{IsExplained, IsReply};
@@ -21,7 +22,7 @@ pub struct Reply {
     pub text: Vec<u8>,
 }
 
-/// The line that `ivshm` answers, the faulty line with its number, and these words.
+/// The line that `ivshm` answers, the faulty place with what stands there, and these words.
 fn joined(
     alloc: Global,
     bytes: &[u8],
@@ -61,14 +62,25 @@ pub fn too_many(alloc: Global, form: Form) -> Result<Vec<u8>, AllocError>
     explained(alloc, form, b"", refusal)
 }
 
+/// What is said of bytes that the form accepts.
+fn accepted(form: Form) -> &'static [u8] {
+    match form {
+        Form::Load => b"`load` reads nothing, and is never refused\n",
+        Form::Dump => b"nothing is wrong with this image\n",
+        Form::Feed(_) => b"nothing is wrong with this capture file\n",
+        _ => b"nothing is wrong with this text\n",
+    }
+}
+
 /// The explanation of what the form answers to the bytes.
 pub fn reply_to(alloc: Global, form: Form, bytes: &[u8]) -> Result<Reply, NoMemory>
+    requires { IsFit form }
     ensures { IfOk result (λ reply. IsReply form bytes.now reply.status reply.text.items) }
 {
     match verdict_of(alloc, form, bytes)? {
         Verdict::Accepted => Ok(Reply {
             status: Status::Accepted,
-            text: b"nothing is wrong with this text\n".to_vec(alloc)?,
+            text: accepted(form).to_vec(alloc)?,
         }),
         Verdict::Refused(refusal) => Ok(Reply {
             status: Status::Refused,
@@ -77,10 +89,6 @@ pub fn reply_to(alloc: Global, form: Form, bytes: &[u8]) -> Result<Reply, NoMemo
         Verdict::Differs(difference) => Ok(Reply {
             status: Status::Differs,
             text: difference_text(alloc, &difference)?,
-        }),
-        Verdict::NotExplained => Ok(Reply {
-            status: Status::NotExplained,
-            text: b"this form isn't explained yet\n".to_vec(alloc)?,
         }),
     }
 }

@@ -1,6 +1,8 @@
 //! What is wrong with a refused text and what is due there, in words.
 
-use crate::forms::Form;
+use crate::capture_words::capture_words;
+use crate::forms::{Form, limit};
+use crate::image_words::image_words;
 use crate::line_words::bad_line_words;
 use crate::number_words::{bad_number_words, bytes_words};
 use crate::order_words::{bad_order_words, bad_peer_words, not_running_words};
@@ -66,7 +68,7 @@ fn whole_words(alloc: Global, text: &FaultyText, reason: Reason) -> Result<Strin
                 "the last line states {kept} history lines, and there are {found}: `end {found}` is due\n"
             )
         }
-        _ => format!(in alloc; "there are more bytes than this form reads\n"),
+        _ => format!(in alloc; "the text is refused\n"),
     }
 }
 
@@ -99,8 +101,8 @@ fn line_words(
     }
 }
 
-/// What is wrong with the text that a form refuses, and what is due there.
-pub fn fault_words(
+/// What is wrong with a text that a form refuses.
+fn text_words(
     alloc: Global,
     form: Form,
     bytes: &[u8],
@@ -108,7 +110,25 @@ pub fn fault_words(
 ) -> Result<String, AllocError> {
     let text = faulty_text(form, bytes, refusal.place.number());
     match refusal.place {
-        Place::Whole => whole_words(alloc, &text, refusal.reason),
         Place::Line(number) => line_words(alloc, &text, number, refusal.reason),
+        _ => whole_words(alloc, &text, refusal.reason),
+    }
+}
+
+/// What is wrong with the bytes that a form refuses, and what is due there.
+pub fn fault_words(
+    alloc: Global,
+    form: Form,
+    bytes: &[u8],
+    refusal: Refusal,
+) -> Result<String, AllocError> {
+    if refusal.reason == Reason::TooLong {
+        let most = limit(form);
+        return format!(in alloc; "there are more than {most} bytes, and this form reads no more\n");
+    }
+    match form {
+        Form::Dump => image_words(alloc, bytes, refusal),
+        Form::Feed(_) => capture_words(alloc, bytes, refusal),
+        _ => text_words(alloc, form, bytes, refusal),
     }
 }

@@ -1,7 +1,7 @@
 //! The words of the program, which are those of `ivshm`.
-ghost use Rattle.std.specs.Prelude.{◌≡◌, ◌^◌, ◌<◌, ◌∷◌, [], map};
+ghost use Rattle.std.specs.Prelude.{◌≡◌, ◌^◌, ◌<◌, ◌∷◌, [], map, IfSome};
 ghost use Rattle.std.specs.String.{string_bytes};
-ghost use Rattle.ivshm_explain.specs.Forms.{form_of, config_of, load_of, link_form_of, limit_of};
+ghost use Rattle.ivshm_explain.specs.Forms.{form_of, config_of, load_of, capture_of, feed_of, IsFit, limit_of};
 
 use line_format::number;
 
@@ -21,8 +21,8 @@ pub enum Form {
     Load,
     /// `replay`, `renew`, `capture P`: a record.
     Record,
-    /// `feed P`: a capture file.
-    Feed,
+    /// `feed P`: a capture file, whose frames the link peer offers.
+    Feed(u32),
     /// `dump`: the image of a region.
     Dump,
     /// `ports`: a schedule of sampling ports.
@@ -33,7 +33,8 @@ pub enum Form {
 
 /// The form that one word alone is.
 fn lone_form(word: &str) -> Option<Form>
-    ensures { result ≡ form_of (word.now ∷ []) }
+    ensures form { result ≡ form_of (word.now ∷ []) }
+    ensures fit { IfSome result IsFit }
 {
     match word {
         "sim" => Some(Form::Sim),
@@ -49,7 +50,8 @@ fn lone_form(word: &str) -> Option<Form>
 
 /// `config` with the peer that the word names: one digit, 0 to 7.
 fn config_form(word: &[u8]) -> Option<Form>
-    ensures { result ≡ config_of word.now }
+    ensures form { result ≡ config_of word.now }
+    ensures fit { IfSome result IsFit }
 {
     match word {
         [digit] if (b'0'..=b'7').contains(digit) => Some(Form::Config(u32::from(*digit - b'0'))),
@@ -59,7 +61,8 @@ fn config_form(word: &[u8]) -> Option<Form>
 
 /// `load` with a count: a number from 1 to 80,000.
 fn load_form(word: &[u8]) -> Option<Form>
-    ensures { result ≡ load_of word.now }
+    ensures form { result ≡ load_of word.now }
+    ensures fit { IfSome result IsFit }
 {
     match number(word) {
         Some(count) if (1..=MOST_FRAMES).contains(&count) => Some(Form::Load),
@@ -67,32 +70,46 @@ fn load_form(word: &[u8]) -> Option<Form>
     }
 }
 
-/// This form, where the word names a link peer: one digit, 0 or 1.
-fn link_form(form: Form, word: &[u8]) -> Option<Form>
-    ensures { result ≡ link_form_of form word.now }
+/// `capture` with the link peer that the word names: one digit, 0 or 1.
+fn capture_form(word: &[u8]) -> Option<Form>
+    ensures form { result ≡ capture_of word.now }
+    ensures fit { IfSome result IsFit }
 {
     match word {
-        [digit] if (b'0'..=b'1').contains(digit) => Some(form),
+        [digit] if (b'0'..=b'1').contains(digit) => Some(Form::Record),
+        _ => None,
+    }
+}
+
+/// `feed` with the link peer that the word names: one digit, 0 or 1.
+fn feed_form(word: &[u8]) -> Option<Form>
+    ensures form { result ≡ feed_of word.now }
+    ensures fit { IfSome result IsFit }
+{
+    match word {
+        [digit] if (b'0'..=b'1').contains(digit) => Some(Form::Feed(u32::from(*digit - b'0'))),
         _ => None,
     }
 }
 
 /// The form that a word is with a second one after it.
 fn paired_form(word: &str, second: &[u8]) -> Option<Form>
-    ensures { result ≡ form_of (word.now ∷ second.now ∷ []) }
+    ensures form { result ≡ form_of (word.now ∷ second.now ∷ []) }
+    ensures fit { IfSome result IsFit }
 {
     match word {
         "config" => config_form(second),
         "load" => load_form(second),
-        "capture" => link_form(Form::Record, second),
-        "feed" => link_form(Form::Feed, second),
+        "capture" => capture_form(second),
+        "feed" => feed_form(second),
         _ => None,
     }
 }
 
 /// The form that the words are, if they are one.
 pub fn read_form(words: &[String]) -> Option<Form>
-    ensures { result ≡ form_of (map string_bytes words.now) }
+    ensures form { result ≡ form_of (map string_bytes words.now) }
+    ensures fit { IfSome result IsFit }
 {
     match words {
         [first] => lone_form(first.as_str()),

@@ -5,22 +5,25 @@
 //!
 //! - A verdict is that of the text's own grammar (`parse` of `scenario_text`, `port_text` and
 //!   `bridge_text`): its number names the first bad line. So the explanation and `ivshm` name one
-//!   line, by one definition each (`specs/Verdicts`).
+//!   line, by one definition each (`specs/Verdicts`). An image and a capture file are judged by
+//!   `section_dump` and `frame_capture` likewise, and their first fault has its place in bytes.
 //! - A difference is that of `trace_replay`, and the line due is that of the lawful history, which
 //!   the simulator plays for the record's scenario. Both are kept whole beside the record, which a
 //!   record of many millions of lines pays with memory.
-//! - An explanation begins with the line that `ivshm` answers and with the faulty line itself
+//! - An explanation begins with the line that `ivshm` answers and with the faulty line or bytes
 //!   (`IsExplained`). What follows is for people: it reads the lines anew by a table of their
 //!   forms, and no contract covers it. `checks/faults` holds it to words written by hand.
 #![tactic(auto)]
 
 mod arguments;
+mod capture_words;
 mod difference_text;
 mod difference_words;
 mod differences;
 mod explaining;
 mod fault_words;
 mod forms;
+mod image_words;
 mod line_words;
 mod number_words;
 mod order_words;

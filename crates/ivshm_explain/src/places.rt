@@ -1,11 +1,15 @@
-//! The line of a text by its number, and how it is shown.
-ghost use Rattle.std.specs.Prelude.{◌≡◌, ◌++◌, [], OnOk, map, take, slice_index_or};
+//! The line of a text by its number, the bytes of a file by their place, and how they are shown.
+ghost use Rattle.std.specs.Prelude.{◌≡◌, ◌<◌, ◌^◌, ◌++◌, [], OnOk, map, take, drop, slice_index_or};
 ghost use Rattle.line_format.specs.Forms.{cuts};
-ghost use Rattle.ivshm_explain.specs.Places.{line_at, visible, number_text, place_of};
+ghost use Rattle.ivshm_explain.specs.Places.{line_at, visible, number_text, digits, bytes_text, captured_in, after_packets, packet_at, place_of};
 
 use crate::refusals::Place;
+use byteorder::{BigEndian, ByteOrder, LittleEndian};
 use line_format::cut;
 use std::alloc::{AllocError, Global};
+
+/// The first number of a capture file, in the byte order of its numbers.
+const MAGIC: u32 = 0xa1b2_c3d4;
 
 /// The most bytes of a line that are shown.
 const SHOWN: u64 = 160;
@@ -74,7 +78,106 @@ pub fn put_number(alloc: Global, out: &mut Vec<u8>, number: u64) -> Result<(), A
     Ok(())
 }
 
-/// Puts the number and the text of a faulty line last.
+/// Puts bytes last, as hexadecimal digits, or that the file has ended.
+fn put_digits(alloc: Global, out: &mut Vec<u8>, some: &[u8]) -> Result<(), AllocError>
+    ensures { OnOk result (out.new.items ≡ out.old.items ++ digits some.now) }
+{
+    if some.is_empty() {
+        out.extend_from_slice(b"the end of the file")?;
+        return Ok(());
+    }
+    let text = hex::encode(alloc, some)?;
+    out.extend_from_slice(text.as_bytes())?;
+    Ok(())
+}
+
+/// Puts bytes last, after their place.
+fn put_bytes(alloc: Global, out: &mut Vec<u8>, first: u64, some: &[u8]) -> Result<(), AllocError>
+    ensures { OnOk result (out.new.items ≡ out.old.items ++ bytes_text first some.now) }
+{
+    let front = format!(in alloc; "byte {first}: ")?;
+    out.extend_from_slice(front.as_bytes())?;
+    put_digits(alloc, out, some)?;
+    out.push(b'\n')?;
+    Ok(())
+}
+
+/// What is left of bytes from a place on.
+pub fn from_place(bytes: &[u8], place: u64) -> &[u8]
+    ensures { result.now ≡ drop place bytes.now }
+{
+    if place >= bytes.len() as u64 {
+        return &[];
+    }
+    &bytes[place as usize..]
+}
+
+/// The first bytes, as many at most.
+fn first_of(bytes: &[u8], count: u64) -> &[u8]
+    ensures { result.now ≡ take count bytes.now }
+{
+    if count >= bytes.len() as u64 {
+        return bytes;
+    }
+    &bytes[..count as usize]
+}
+
+/// How many bytes of a packet were captured, in the byte order of its file; 0 if the file doesn't
+/// have them.
+pub fn captured_in(file: &[u8], packet: &[u8]) -> u64
+    ensures value { result ≡ captured_in file.now packet.now }
+    ensures small { result < 2 ^ 32 }
+{
+    if file.len() < 24 || packet.len() < 12 {
+        0
+    } else if LittleEndian::read_u32(file) == MAGIC {
+        u64::from(LittleEndian::read_u32(&packet[8..]))
+    } else {
+        u64::from(BigEndian::read_u32(&packet[8..]))
+    }
+}
+
+/// What is left of a capture file after as many packets.
+#[tactic(auto, using(crate::proofs::Packets::one_packet))]
+fn after_packets<'a>(file: &[u8], count: u64, left: &'a [u8]) -> &'a [u8]
+    ensures { result.now ≡ after_packets file.now count left.now }
+{
+    let mut rest = left;
+    let mut more = count;
+    while more > 0 {
+        rest = from_place(rest, 16 + captured_in(file, rest));
+        more -= 1;
+    }
+    rest
+}
+
+/// A capture file from the packet with this number on, from 1.
+pub fn packet_at(file: &[u8], number: u64) -> &[u8]
+    ensures { result.now ≡ packet_at file.now number }
+{
+    after_packets(file, number.saturating_sub(1), from_place(file, 24))
+}
+
+/// Puts the place of a packet last, and the 16 bytes before its frame.
+fn put_packet(alloc: Global, out: &mut Vec<u8>, bytes: &[u8], number: u64) -> Result<(), AllocError>
+    ensures { OnOk result (out.new.items ≡ out.old.items ++ place_of bytes.now (Place.Packet number)) }
+{
+    let packet = packet_at(bytes, number);
+    let first = (bytes.len() as u64).saturating_sub(packet.len() as u64);
+    put_bytes(alloc, out, first, first_of(packet, 16))
+}
+
+/// Puts the number and the text of a line last.
+fn put_line(alloc: Global, out: &mut Vec<u8>, bytes: &[u8], number: u64) -> Result<(), AllocError>
+    ensures { OnOk result (out.new.items ≡ out.old.items ++ place_of bytes.now (Place.Line number)) }
+{
+    put_number(alloc, out, number)?;
+    put_shown(out, line_at(bytes, number), SHOWN)?;
+    out.push(b'\n')?;
+    Ok(())
+}
+
+/// Puts the faulty place last, and what stands there.
 pub fn put_place(
     alloc: Global,
     out: &mut Vec<u8>,
@@ -83,11 +186,12 @@ pub fn put_place(
 ) -> Result<(), AllocError>
     ensures { OnOk result (out.new.items ≡ out.old.items ++ place_of bytes.now place) }
 {
-    let Place::Line(number) = place else {
-        return Ok(());
-    };
-    put_number(alloc, out, number)?;
-    put_shown(out, line_at(bytes, number), SHOWN)?;
-    out.push(b'\n')?;
-    Ok(())
+    match place {
+        Place::Whole => Ok(()),
+        Place::Line(number) => put_line(alloc, out, bytes, number),
+        Place::Bytes { first, count } => {
+            put_bytes(alloc, out, first, first_of(from_place(bytes, first), count))
+        }
+        Place::Packet(number) => put_packet(alloc, out, bytes, number),
+    }
 }

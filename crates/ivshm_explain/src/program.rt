@@ -1,13 +1,13 @@
 //! The top call.
-ghost use Rattle.std.specs.Prelude.{◌≡◌, ◌≢◌, ◌⊎◌, None, IfOk, IsErrOf, map};
+ghost use Rattle.std.specs.Prelude.{◌≡◌, ◌≢◌, ◌⊎◌, ◌+◌, None, IfOk, IsErrOf, map};
 ghost use Rattle.std.specs.String.{string_bytes};
-ghost use Rattle.ivs_base.specs.SourceAndSink.{Took, SinkFailed};
-ghost use Rattle.ivshm_explain.specs.Forms.{form_of};
-ghost use Rattle.ivshm_explain.specs.Explained.{HasCause};
+ghost use Rattle.ivs_base.specs.SourceAndSink.{Gave, GaveMany, Took, SourceFailed, SinkFailed};
+ghost use Rattle.ivshm_explain.specs.Forms.{form_of, limit_of};
+ghost use Rattle.ivshm_explain.specs.Explained.{IsRead, HasCause};
 
 use crate::arguments::WordsFault;
 use crate::explaining::{Reply, reply_to, too_many};
-use crate::forms::{limit, read_form};
+use crate::forms::{Form, limit, read_form};
 use crate::status::Status;
 use ivs_base::{ReadEnd, Sink, Source, read_all, write_whole};
 use std::alloc::Global;
@@ -28,12 +28,25 @@ fn write_text<K: Sink>(sink: &mut K, text: &[u8], status: Status) -> Status
     }
 }
 
+/// The bytes that the form reads: none for `load`, else all up to the end.
+fn read_of<S: Source>(alloc: Global, form: Form, source: &mut S) -> Result<Vec<u8>, ReadEnd>
+    ensures bytes { IfOk result (λ v. Gave (S.input source.old) v.items (S.input source.new)) }
+    ensures end { IfOk result (λ v. IsRead form (S.input source.old) (S.input source.new)) }
+    ensures too_long { IsErrOf result ReadEnd.TooLong → GaveMany (S.input source.old) (limit_of form + 1) (S.input source.new) }
+    ensures fault { IsErrOf result ReadEnd.ReadFault → SourceFailed (S.input source.old) (S.input source.new) }
+{
+    match form {
+        Form::Load => Ok(Vec::new(alloc)),
+        _ => read_all(alloc, source, limit(form)),
+    }
+}
+
 /// Runs the words of the program, which are its arguments after its name and those of `ivshm`:
 /// reads what that form reads to its end, and explains what `ivshm` answers to it. Nothing is
-/// written before the explanation is whole. `load N` reads nothing, and has nothing to explain.
+/// written before the explanation is whole. `load N` reads nothing, and is never refused.
 // claim cause: Each status has its cause. An explanation begins with the line that `ivshm` answers
-//    and with the faulty line itself. A difference has the line found, and the line due in the
-//    lawful history.
+//    and with the faulty line or the faulty bytes. A difference has the line found, and the line
+//    due in the lawful history.
 // claim usage, unread: Words that are no form read nothing, and are answered by Usage.
 pub fn explain<S: Source, K: Sink>(
     alloc: Global,
@@ -50,7 +63,7 @@ pub fn explain<S: Source, K: Sink>(
     let Some(form) = read_form(words) else {
         return write_text(sink, USAGE, Status::Usage);
     };
-    let bytes = match read_all(alloc, source, limit(form)) {
+    let bytes = match read_of(alloc, form, source) {
         Ok(bytes) => bytes,
         Err(ReadEnd::ReadFault) => return Status::ReadFault,
         Err(ReadEnd::NoMemory) => return Status::NoMemory,

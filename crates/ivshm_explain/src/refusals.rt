@@ -1,20 +1,27 @@
 //! Why a text is refused, and where: what `ivshm` answers in one line.
 ghost use Rattle.std.specs.Prelude.{◌≡◌, IfOk};
-ghost use Rattle.ivshm_explain.specs.Refusals.{number_of, name_of, place_line_of, count_line_of, verdict_of, at, whole, of_scenario, of_record, of_ports, of_bridge};
+ghost use Rattle.ivshm_explain.specs.Refusals.{number_of, name_of, place_line_of, count_line_of, verdict_of, at, whole, at_bytes, at_packet, of_scenario, of_record, of_ports, of_bridge, of_sizes, of_image, of_capture};
 
 use bridge_text::BridgeFault;
+use frame_capture::CaptureFault;
 use port_text::PortsFault;
 use record_text::RecordFault;
 use scenario_text::ScenarioFault;
+use section_dump::DumpFault;
+use section_map::{GeometryFault, Part};
 use std::alloc::{AllocError, Global};
 
-/// Where a text is faulty.
+/// Where a text or a file is faulty.
 #[derive(Clone, Copy, Debug, PartialEq, Eq)]
 pub enum Place {
     /// The text as a whole.
     Whole,
     /// The line with this number, from 1.
     Line(u64),
+    /// As many bytes from a place on, which counts from 0.
+    Bytes { first: u64, count: u64 },
+    /// The packet of a capture file with this number, from 1.
+    Packet(u64),
 }
 
 /// What is wrong there, by the name that `ivshm` gives it.
@@ -34,6 +41,18 @@ pub enum Reason {
     NoEnd,
     /// The record states `kept` lines and has `found`.
     BadCount { kept: u64, found: u64 },
+    BadHeader,
+    /// The image's header asks for `need` bytes, and there are `found`, which are fewer.
+    ShortImage { need: u64, found: u64 },
+    /// The image's header asks for `need` bytes, and there are `found`, which are more.
+    LongImage { need: u64, found: u64 },
+    Short,
+    BadMagic,
+    BadVersion,
+    BadLinkType,
+    BadPacket,
+    CutPacket,
+    TooLarge,
 }
 
 /// Where a text is faulty, and what is wrong there.
@@ -44,13 +63,13 @@ pub struct Refusal {
 }
 
 impl Place {
-    /// The number that the answer names: the line's, or 0.
+    /// The number that the answer names: the line's, the packet's, or 0.
     pub fn number(self) -> u64
         ensures { result ≡ number_of self }
     {
         match self {
-            Place::Whole => 0,
-            Place::Line(number) => number,
+            Place::Whole | Place::Bytes { .. } => 0,
+            Place::Line(number) | Place::Packet(number) => number,
         }
     }
 }
@@ -74,6 +93,16 @@ impl Reason {
             Reason::NotRunning => "NotRunning",
             Reason::NoEnd => "NoEnd",
             Reason::BadCount { .. } => "BadCount",
+            Reason::BadHeader => "BadHeader",
+            Reason::ShortImage { .. } => "ShortImage",
+            Reason::LongImage { .. } => "LongImage",
+            Reason::Short => "Short",
+            Reason::BadMagic => "BadMagic",
+            Reason::BadVersion => "BadVersion",
+            Reason::BadLinkType => "BadLinkType",
+            Reason::BadPacket => "BadPacket",
+            Reason::CutPacket => "CutPacket",
+            Reason::TooLarge => "TooLarge",
         }
     }
 }
@@ -86,7 +115,8 @@ fn place_line(alloc: Global, number: u64, name: &'static str) -> Result<Vec<u8>,
     Ok(line.into_bytes())
 }
 
-/// The answer to a record that hasn't as many lines as it states.
+/// The answer to a record that hasn't as many lines as it states, or to an image that hasn't as
+/// many bytes as its header asks for.
 fn count_line(
     alloc: Global,
     number: u64,
@@ -121,6 +151,26 @@ impl Refusal {
         })
     }
 
+    /// The refusal of bytes.
+    fn at_bytes(first: u64, count: u64, reason: Reason) -> Option<Refusal>
+        ensures { result ≡ at_bytes first count reason }
+    {
+        Some(Refusal {
+            place: Place::Bytes { first, count },
+            reason,
+        })
+    }
+
+    /// The refusal of a packet.
+    fn at_packet(number: u64, reason: Reason) -> Option<Refusal>
+        ensures { result ≡ at_packet number reason }
+    {
+        Some(Refusal {
+            place: Place::Packet(number),
+            reason,
+        })
+    }
+
     /// The line that `ivshm` answers.
     pub fn verdict(self, alloc: Global) -> Result<Vec<u8>, AllocError>
         ensures { IfOk result (λ line. line.items ≡ verdict_of self) }
@@ -129,6 +179,8 @@ impl Refusal {
         let name = self.reason.name();
         match self.reason {
             Reason::BadCount { kept, found } => count_line(alloc, number, name, kept, found),
+            Reason::ShortImage { need, found } => count_line(alloc, number, name, need, found),
+            Reason::LongImage { need, found } => count_line(alloc, number, name, need, found),
             _ => place_line(alloc, number, name),
         }
     }
@@ -195,6 +247,54 @@ impl Refusal {
             BridgeFault::TooManyFrames(line) => Refusal::at(line, Reason::TooManyFrames),
             BridgeFault::NoEnd => Refusal::whole(Reason::NoEnd),
             BridgeFault::NoMemory => None,
+        }
+    }
+
+    /// The refusal of an image whose header has these faulty sizes.
+    fn of_sizes(fault: GeometryFault) -> Option<Refusal>
+        ensures { result ≡ of_sizes fault }
+    {
+        match fault {
+            GeometryFault::BadPeers(_) => Refusal::at_bytes(8, 4, Reason::BadGeometry),
+            GeometryFault::BadPage { part, .. } => match part {
+                Part::Table => Refusal::at_bytes(12, 4, Reason::BadGeometry),
+                Part::Common => Refusal::at_bytes(16, 8, Reason::BadGeometry),
+                Part::Out => Refusal::at_bytes(24, 8, Reason::BadGeometry),
+            },
+            GeometryFault::TableTooSmall { .. } => Refusal::at_bytes(12, 4, Reason::BadGeometry),
+            GeometryFault::TooLarge { .. } => Refusal::at_bytes(8, 24, Reason::BadGeometry),
+        }
+    }
+
+    /// The refusal of the image of a region.
+    pub fn of_image(fault: DumpFault) -> Option<Refusal>
+        ensures { result ≡ of_image fault }
+    {
+        match fault {
+            DumpFault::BadHeader => Refusal::at_bytes(0, 32, Reason::BadHeader),
+            DumpFault::Geometry(fault) => Refusal::of_sizes(fault),
+            DumpFault::ShortImage { need, found } => {
+                Refusal::at_bytes(found, 1, Reason::ShortImage { need, found })
+            }
+            DumpFault::LongImage { need, found } => {
+                Refusal::at_bytes(need, 16, Reason::LongImage { need, found })
+            }
+            DumpFault::NoMemory => None,
+        }
+    }
+
+    /// The refusal of a capture file.
+    pub fn of_capture(fault: CaptureFault) -> Option<Refusal>
+        ensures { result ≡ of_capture fault }
+    {
+        match fault {
+            CaptureFault::Short(found) => Refusal::at_bytes(found, 1, Reason::Short),
+            CaptureFault::BadMagic(_) => Refusal::at_bytes(0, 4, Reason::BadMagic),
+            CaptureFault::BadVersion { .. } => Refusal::at_bytes(4, 4, Reason::BadVersion),
+            CaptureFault::BadLinkType(_) => Refusal::at_bytes(20, 4, Reason::BadLinkType),
+            CaptureFault::BadPacket(number) => Refusal::at_packet(number, Reason::BadPacket),
+            CaptureFault::CutPacket(number) => Refusal::at_packet(number, Reason::CutPacket),
+            CaptureFault::NoMemory => None,
         }
     }
 }

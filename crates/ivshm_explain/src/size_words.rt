@@ -32,15 +32,23 @@ fn page_words(
     Ok(None)
 }
 
-/// Why the sizes up to the line `out` make no region.
-fn region_words(alloc: Global, text: &FaultyText) -> Result<String, AllocError> {
-    let peers = text.peers();
-    let table = match text.grammar {
-        Grammar::Ports => PAGE,
-        _ => text.head_number(b"table"),
-    };
-    let common = text.head_number(b"common");
-    let out = text.head_number(b"out");
+/// How many peers a region has, and the bytes of its parts.
+#[derive(Clone, Copy)]
+pub struct Sizes {
+    pub peers: u64,
+    pub table: u64,
+    pub common: u64,
+    pub out: u64,
+}
+
+/// Why these sizes make no region.
+pub fn sizes_words(alloc: Global, sizes: Sizes) -> Result<String, AllocError> {
+    let Sizes {
+        peers,
+        table,
+        common,
+        out,
+    } = sizes;
     for (name, size, least) in [
         ("table", table, PAGE),
         ("common", common, 0),
@@ -50,12 +58,33 @@ fn region_words(alloc: Global, text: &FaultyText) -> Result<String, AllocError> 
             return Ok(words);
         }
     }
+    let need = peers.saturating_mul(4);
+    if table < need {
+        return format!(in alloc;
+            "`table {table}` has no word for each of {peers} peers: {need} bytes or more are due\n"
+        );
+    }
     let total = table
         .saturating_add(common)
         .saturating_add(peers.saturating_mul(out));
     format!(in alloc;
         "the region would have {total} bytes (table {table}, common {common}, {peers} sections of {out}): {REGION} are the most\n"
     )
+}
+
+/// Why the sizes up to the line `out` make no region.
+fn region_words(alloc: Global, text: &FaultyText) -> Result<String, AllocError> {
+    let table = match text.grammar {
+        Grammar::Ports => PAGE,
+        _ => text.head_number(b"table"),
+    };
+    let sizes = Sizes {
+        peers: text.peers(),
+        table,
+        common: text.head_number(b"common"),
+        out: text.head_number(b"out"),
+    };
+    sizes_words(alloc, sizes)
 }
 
 /// Why no queue fits the output section at this MTU.

@@ -23,8 +23,6 @@ pub enum Status {
     WriteFault,
     /// There was no memory, and nothing was written.
     NoMemory,
-    /// The form isn't explained yet, and a line that says so was written.
-    NotExplained,
 }
 
 impl Status {
@@ -40,7 +38,6 @@ impl Status {
             Status::ReadFault => 4,
             Status::WriteFault => 5,
             Status::NoMemory => 6,
-            Status::NotExplained => 7,
         }
     }
 

@@ -1,11 +1,13 @@
 //! What a form answers to bytes.
-ghost use Rattle.std.specs.Prelude.{◌≡◌, IfOk, MatchResult};
+ghost use Rattle.std.specs.Prelude.{◌≡◌, ◌<◌, IfOk, MatchResult};
 ghost use Rattle.scenario_text.specs.Spelling.{world_of, IsSpelling};
-ghost use Rattle.ivshm_explain.specs.Verdicts.{IsScenarioFault, IsScenarioVerdict, IsPortsVerdict, IsBridgeVerdict, IsVerdict};
+ghost use Rattle.ivshm_explain.specs.Forms.{IsFit};
+ghost use Rattle.ivshm_explain.specs.Verdicts.{IsScenarioFault, IsScenarioVerdict, IsPortsVerdict, IsBridgeVerdict, IsDumpVerdict, IsFed, IsFeedVerdict, IsVerdict};
 
 use crate::differences::{Difference, record_verdict};
 use crate::forms::Form;
 use crate::refusals::{Place, Reason, Refusal};
+use frame_capture::{Capture, FeedFault};
 use ivs_base::NoMemory;
 use scenario_text::{Scenario, not_running};
 use std::alloc::Global;
@@ -19,8 +21,6 @@ pub enum Verdict {
     Refused(Refusal),
     /// The form reads a record, whose history isn't the lawful one.
     Differs(Difference),
-    /// The form isn't explained yet.
-    NotExplained,
 }
 
 /// The scenario that the bytes spell, or their refusal.
@@ -82,8 +82,51 @@ fn bridge_verdict(alloc: Global, bytes: &[u8]) -> Result<Verdict, NoMemory>
     }
 }
 
-/// What the form answers to the bytes.
+/// What `dump` answers to the bytes.
+fn dump_verdict(alloc: Global, bytes: &[u8]) -> Result<Verdict, NoMemory>
+    ensures { IfOk result (IsDumpVerdict bytes.now) }
+{
+    match section_dump::dump(alloc, bytes) {
+        Ok(_) => Ok(Verdict::Accepted),
+        Err(fault) => match Refusal::of_image(fault) {
+            Some(refusal) => Ok(Verdict::Refused(refusal)),
+            None => Err(NoMemory),
+        },
+    }
+}
+
+/// What `feed` answers to a capture.
+fn fed(alloc: Global, peer: u32, capture: &Capture) -> Result<Verdict, NoMemory>
+    requires { peer < 2 }
+    ensures { IfOk result (IsFed peer capture.now) }
+{
+    match frame_capture::scenario_of(alloc, capture, peer) {
+        Ok(_) => Ok(Verdict::Accepted),
+        Err(FeedFault::TooLarge) => Ok(Verdict::Refused(Refusal {
+            place: Place::Whole,
+            reason: Reason::TooLarge,
+        })),
+        Err(FeedFault::NoMemory) => Err(NoMemory),
+    }
+}
+
+/// What `feed` answers to the bytes.
+fn feed_verdict(alloc: Global, peer: u32, bytes: &[u8]) -> Result<Verdict, NoMemory>
+    requires { peer < 2 }
+    ensures { IfOk result (IsFeedVerdict peer bytes.now) }
+{
+    match frame_capture::parse(alloc, bytes) {
+        Ok(capture) => fed(alloc, peer, &capture),
+        Err(fault) => match Refusal::of_capture(fault) {
+            Some(refusal) => Ok(Verdict::Refused(refusal)),
+            None => Err(NoMemory),
+        },
+    }
+}
+
+/// What the form answers to the bytes. `load` reads none.
 pub fn verdict_of(alloc: Global, form: Form, bytes: &[u8]) -> Result<Verdict, NoMemory>
+    requires { IsFit form }
     ensures { IfOk result (IsVerdict form bytes.now) }
 {
     match form {
@@ -94,6 +137,8 @@ pub fn verdict_of(alloc: Global, form: Form, bytes: &[u8]) -> Result<Verdict, No
         Form::Record => record_verdict(alloc, bytes),
         Form::Ports => ports_verdict(alloc, bytes),
         Form::Bridge => bridge_verdict(alloc, bytes),
-        _ => Ok(Verdict::NotExplained),
+        Form::Dump => dump_verdict(alloc, bytes),
+        Form::Feed(peer) => feed_verdict(alloc, peer, bytes),
+        Form::Load => Ok(Verdict::Accepted),
     }
 }

@@ -1,5 +1,6 @@
 -- The values that cross to C and back: numbers instead of enums.
 use Rattle.std.specs.Prelude.{ℕ, ◌≡◌, ◌+◌, List, [], ◌∷◌, length, Option, Some, None, ◌==◌, if◌then◌else◌}
+use Rattle.split_ring.specs.declared.sizes.TheConstants.{FRAME_OVERHEAD}
 use Rattle.link_handshake.specs.declared.Phase.{Phase}
 use Rattle.link_handshake.specs.declared.Phase.TheVariants.{Reset, Init, Ready, Run}
 use Rattle.split_ring.specs.declared.steps.Access.{Access}
@@ -134,7 +135,7 @@ view_of port = let end = port.endpoint in record {
   state = state_of end.phase;
   busy = flag (is_busy end);
   outcome = outcome_number port.outcome;
-  longest = end.config.sizes.mtu + 18;
+  longest = end.config.sizes.mtu + FRAME_OVERHEAD;
 }
 
 -- The crossed numbers determine the values: accesses and their orders, and notes.

@@ -1,6 +1,8 @@
 -- The description of a device and of a section that the C interface returns, and the sizes that it
 -- refuses.
 use Rattle.std.specs.Prelude.{ℕ, ◌≡◌, ◌+◌, ◌-◌, ◌%◌, min, Bool, true, false, unwrap_or, is_some, Result, Ok, Err}
+use Rattle.section_map.specs.declared.limits.TheConstants.{LARGEST_REGION}
+use Rattle.split_ring.specs.declared.sizes.TheConstants.{FRAME_OVERHEAD, LEAST_MTU, LONGEST_FRAME, MOST_MTU, SHORTEST_FRAME}
 use Rattle.section_map.specs.Geometry.{Shape, IsShape, section_start}
 use Rattle.section_map.specs.Faults.{shape_of, IsFirstFault}
 use Rattle.section_map.specs.declared.sizes.GeometryFault.{GeometryFault}
@@ -68,7 +70,7 @@ pub data IsSizeFault (found : Found) (version peers mtu : ℕ) (status : Status)
 
 -- The greatest length in bytes of a delivered frame: at most the longest frame and the data area.
 abbrev pub longest_delivery : Sizes → ℕ
-longest_delivery q = min 65553 (data_area_len q)
+longest_delivery q = min LONGEST_FRAME (data_area_len q)
 
 -- The words of a region by name.
 abbrev pub layout_of : Shape → Sizes → Layout
@@ -85,7 +87,7 @@ layout_of shape q = record {
   used_index = word_offset q UsedIndex;
   used_elements = word_offset q (UsedId 0);
   available_event = word_offset q AvailEvent;
-  longest_offer = q.mtu + 18;
+  longest_offer = q.mtu + FRAME_OVERHEAD;
   longest_delivery = longest_delivery q;
 }
 
@@ -99,4 +101,4 @@ pub data LaysOut (found : Found) (peers mtu : ℕ) (before : Layout) : Status �
 -- The link's highest version and the bounds of its numbers (profile). The shortest frame is an
 -- Ethernet header; the longest one has the greatest MTU and 18 bytes more.
 abbrev pub limits : Limits
-limits = record { version = 3; least_mtu = 256; most_mtu = 65535; shortest_frame = 14; longest_frame = 65553; largest_region = 16777216 }
+limits = record { version = 3; least_mtu = LEAST_MTU; most_mtu = MOST_MTU; shortest_frame = SHORTEST_FRAME; longest_frame = LONGEST_FRAME; largest_region = LARGEST_REGION }

@@ -7,7 +7,7 @@ ghost use Rattle.ivshm_c.specs.Sizes.{flag, no_msix, found_crossed, shape_found,
 use crate::status::{Status, geometry_status, queue_status};
 use pci_space::MsixFound;
 use section_map::Geometry;
-use split_ring::Queue;
+use split_ring::{LONGEST_FRAME, Queue};
 
 /// The result of a walk over a device's configuration space. Sizes are in bytes.
 ///
@@ -166,5 +166,5 @@ fn longest_delivery(queue: &Queue) -> u32
     ensures { result ≡ longest_delivery queue.now }
 {
     let room = queue.out() - queue.payload();
-    room.min(65_553)
+    room.min(LONGEST_FRAME)
 }

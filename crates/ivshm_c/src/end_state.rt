@@ -1,5 +1,6 @@
 //! An end of the link, with the outcome of its last offer and its counts.
 ghost use Rattle.std.specs.Prelude.{◌≡◌, ℕ, ◌+◌, ◌*◌, ◌%◌, ◌<◌, ◌≤◌, [], true, false, length};
+ghost use Rattle.split_ring.specs.declared.sizes.TheConstants.{FRAME_OVERHEAD, SHORTEST_FRAME};
 ghost use Rattle.tx_engine.specs.Ahead.{words_of};
 ghost use Rattle.link_endpoint.specs.Engine.{is_busy, reads_ahead, writes_ahead, bursts_of, offered};
 ghost use Rattle.link_endpoint.specs.declared.place.Call.TheVariants.{Stop};
@@ -66,7 +67,7 @@ impl EndState {
 
     pub(crate) fn offer(&mut self, frame: &[u8])
         requires closed { is_busy self.old.endpoint ≡ false }
-        requires frame { (14 ≤ length frame.now) × (length frame.now ≤ self.old.endpoint.config.sizes.mtu + 18) }
+        requires frame { (SHORTEST_FRAME ≤ length frame.now) × (length frame.now ≤ self.old.endpoint.config.sizes.mtu + FRAME_OVERHEAD) }
         ensures offers { Offers frame.now self.old.endpoint self.new.endpoint }
         ensures outcome { self.new.outcome ≡ Outcome.Open }
         ensures counts { self.new.counts ≡ self.old.counts }
@@ -77,7 +78,7 @@ impl EndState {
 
     pub(crate) fn offer_again(&mut self)
         requires closed { is_busy self.old.endpoint ≡ false }
-        requires some { 14 ≤ length (offered self.old.endpoint) }
+        requires some { SHORTEST_FRAME ≤ length (offered self.old.endpoint) }
         ensures offers { Offers (offered self.old.endpoint) self.old.endpoint self.new.endpoint }
         ensures outcome { self.new.outcome ≡ Outcome.Open }
         ensures counts { self.new.counts ≡ self.old.counts }

@@ -12,6 +12,8 @@ ghost use Rattle.ivshm_c.specs.Versions.{abi_version, library_version};
 use crate::device::{Found, Layout, Limits, found_crossed, layout_of, sized};
 use crate::status::{Status, capability_status};
 use pci_space::walk;
+use section_map::LARGEST_REGION;
+use split_ring::{LEAST_MTU, LONGEST_FRAME, MOST_MTU, SHORTEST_FRAME};
 
 /// The version of the binary interface.
 const INTERFACE: u32 = 1;
@@ -58,11 +60,11 @@ pub extern "C" fn ivshm_limits(told: &mut Limits)
 {
     *told = Limits {
         version: 3,
-        least_mtu: 256,
-        most_mtu: 65_535,
-        shortest_frame: 14,
-        longest_frame: 65_553,
-        largest_region: 16_777_216,
+        least_mtu: LEAST_MTU,
+        most_mtu: MOST_MTU,
+        shortest_frame: SHORTEST_FRAME,
+        longest_frame: LONGEST_FRAME,
+        largest_region: LARGEST_REGION,
     };
 }
 

@@ -1,20 +1,21 @@
 -- Each step of a call pays for its lines: with the credit of the current frame for its digits it
 -- costs at most 200 bytes.
 use Rattle.std.proofs.Common.{◌≡◌, ℕ, zero, suc, ◌+◌, ◌-◌, ◌*◌, ◌≤◌, Bool, true, false, List, [], ◌∷◌, ◌++◌, length, refl, ap, arith, length-take, length-append, decimal, ne_eqb}
-use Rattle.std.specs.Prelude.{◌==◌, nat_le, if◌then◌else◌, map}
+use Rattle.std.specs.Prelude.{◌==◌, if◌then◌else◌, map, ◌%◌}
 use Rattle.std.specs.List.{flat_map}
 use Rattle.link_handshake.specs.declared.Move.{Move}
 use Rattle.link_handshake.specs.declared.Move.TheVariants as move
 use Rattle.link_handshake.specs.HandshakeState.{move_of}
 use Rattle.split_ring.specs.declared.steps.Access.{Access}
 use Rattle.split_ring.specs.declared.steps.Access.TheVariants as access
-use Rattle.split_ring.specs.Layout.{has_events, size_of, limit_of}
-use Rattle.split_ring.specs.Spelling.{low_half}
+use Rattle.split_ring.specs.Layout.{has_events, limit_of}
+use Rattle.split_ring.specs.Spelling.{low_half, high_half, desc_flags}
+use Rattle.split_ring.specs.Ranges.{is_avail_entry, is_desc_address, is_desc_length, is_avail_index, is_desc_flags, is_used_index, is_used_id}
 use Rattle.call_grammar.specs.Steps.{Mark, Full, Look, Deliver, Done}
 use Rattle.call_grammar.specs.Words.{address_of, words_for, word_bytes, frame_in}
 use Rattle.call_grammar.specs.Ticks.{EndConfig, tick_marks}
 use Rattle.call_grammar.specs.Offers.{PendingOffer, frame_fits, descriptor_of, full_marks, used_id_marks, returned_by, reclaim_marks, used_index_marks, wants_doorbell, avail_event_marks}
-use Rattle.call_grammar.specs.Polls.{is_entry, is_address, is_length, entry_in, entry_marks, address_marks, length_marks, flags_marks, published_by, look_marks, avail_index_marks}
+use Rattle.call_grammar.specs.Polls.{entry_in, entry_marks, address_marks, length_marks, flags_marks, published_by, look_marks, avail_index_marks}
 use Rattle.call_grammar.specs.Places.{Place, Closed, ReadingOtherState, Clearing, WritingState, Refusing, NotInRun, ReadingUsedIndex, ReadingUsedId, WritingFrameWord, WritingDescAddressLow, WritingDescAddressHigh, WritingDescLength, WritingDescFlags, WritingAvailEntry, WritingAvailIndex, ReadingAvailEvent, RingingOffer, ReadingAvailIndex, WritingAvailEvent, ReadingAvailEntry, ReadingDescAddressLow, ReadingDescAddressHigh, ReadingDescLength, ReadingDescFlags, ReadingFrameWord, WritingUsedId, WritingUsedLength, WritingUsedIndex, RingingPoll, clear_place, tick_place, fill_place, ids_place, notify_place, none_place, items_place, words_place, access_at, marks_at, next_place}
 use Rattle.call_grammar.proofs.OfferLists.{no}
 use Rattle.lawful_history.specs.declared.line.Line.{Line}
@@ -73,13 +74,13 @@ reclaim_price peer config pending freed count = let full = full_price peer confi
 used_price : (peer : ℕ) (config : EndConfig) (pending : PendingOffer) (freed value : ℕ) → marks_price peer (used_index_marks config pending freed value) ≤ 51
 used_price peer config pending freed value =
     let reclaim = reclaim_price peer config pending freed (returned_by freed value) in
-    either (marks_price peer) (nat_le (returned_by freed value) (pending.number - freed)) _ _ 51 (omega arith) (omega arith)
+    either (marks_price peer) (is_used_index (freed % 65536) (high_half value) (pending.number - freed)) _ _ 51 (omega arith) (omega arith)
 
 id_price : (peer : ℕ) (config : EndConfig) (pending : PendingOffer) (freed more value : ℕ) → marks_price peer (used_id_marks config pending freed more value) ≤ 51
 id_price peer config pending freed more value =
     let full = full_price peer config pending (freed + 1) in
     let last = either (marks_price peer) (more == 0) (full_marks config pending (freed + 1)) [] 51 (omega arith) (omega arith) in
-    either (marks_price peer) (value == descriptor_of config freed) _ _ 51 last (omega arith)
+    either (marks_price peer) (is_used_id (descriptor_of config freed) value) _ _ 51 last (omega arith)
 
 event_price : (peer number value : ℕ) → marks_price peer (avail_event_marks number value) ≤ 51
 event_price peer number value = either (marks_price peer) (wants_doorbell (low_half value) number) [] _ 51 (omega arith) (omega arith)
@@ -91,19 +92,19 @@ look_price peer last count =
 
 available_price : (peer : ℕ) (config : EndConfig) (taken : ℕ) (last : Bool) (value : ℕ) → marks_price peer (avail_index_marks config taken last value) ≤ 51
 available_price peer config taken last value =
-    either (marks_price peer) (nat_le (published_by taken value) (size_of config.sizes)) _ _ 51 (look_price peer last (published_by taken value)) (omega arith)
+    either (marks_price peer) (is_avail_index config.sizes (taken % 65536) (high_half value)) _ _ 51 (look_price peer last (published_by taken value)) (omega arith)
 
 entry_price : (peer : ℕ) (config : EndConfig) (number value : ℕ) → marks_price peer (entry_marks config number value) ≤ 51
-entry_price peer config number value = either (marks_price peer) (is_entry config.sizes (entry_in config number value)) [] _ 51 (omega arith) (omega arith)
+entry_price peer config number value = either (marks_price peer) (is_avail_entry config.sizes (entry_in config number value)) [] _ 51 (omega arith) (omega arith)
 
 address_price : (peer : ℕ) (config : EndConfig) (low value : ℕ) → marks_price peer (address_marks config low value) ≤ 51
-address_price peer config low value = either (marks_price peer) (is_address config.sizes (address_of low value)) [] _ 51 (omega arith) (omega arith)
+address_price peer config low value = either (marks_price peer) (is_desc_address config.sizes (address_of low value)) [] _ 51 (omega arith) (omega arith)
 
 length_price : (peer : ℕ) (config : EndConfig) (address value : ℕ) → marks_price peer (length_marks config address value) ≤ 51
-length_price peer config address value = either (marks_price peer) (is_length config.sizes address value) [] _ 51 (omega arith) (omega arith)
+length_price peer config address value = either (marks_price peer) (is_desc_length config.sizes address value) [] _ 51 (omega arith) (omega arith)
 
 flags_price : (peer value : ℕ) → marks_price peer (flags_marks value) ≤ 51
-flags_price peer value = either (marks_price peer) (low_half value == 0) [] _ 51 (omega arith) (omega arith)
+flags_price peer value = either (marks_price peer) (is_desc_flags (desc_flags value)) [] _ 51 (omega arith) (omega arith)
 
 -- The credit at the next place
 
@@ -165,11 +166,11 @@ pays peer one config Refusing met value = omega arith
 pays peer one config NotInRun met value = omega arith
 pays peer one config (ReadingUsedIndex pending freed) met value =
     let marks = used_price peer config pending freed value in
-    let next = either credit (nat_le (returned_by freed value) (pending.number - freed)) (ids_place config pending freed (returned_by freed value)) Refusing 0 (ids_credit config pending freed (returned_by freed value)) (omega arith) in
+    let next = either credit (is_used_index (freed % 65536) (high_half value) (pending.number - freed)) (ids_place config pending freed (returned_by freed value)) Refusing 0 (ids_credit config pending freed (returned_by freed value)) (omega arith) in
     omega arith
 pays peer one config (ReadingUsedId pending freed more) met value =
     let marks = id_price peer config pending freed more value in
-    let next = either credit (value == descriptor_of config freed) (ids_place config pending (freed + 1) more) Refusing 0 (ids_credit config pending (freed + 1) more) (omega arith) in
+    let next = either credit (is_used_id (descriptor_of config freed) value) (ids_place config pending (freed + 1) more) Refusing 0 (ids_credit config pending (freed + 1) more) (omega arith) in
     omega arith
 pays peer one config (WritingFrameWord pending at more) met value = let next = fill_credit pending (at + 1) more in omega arith
 pays peer one config (WritingDescAddressLow pending) met value = omega arith
@@ -186,24 +187,24 @@ pays peer one config (ReadingAvailIndex taken last) met value =
     let marks = available_price peer config taken last value in
     let found = published_by taken value in
     let items = either credit (found == 0) (none_place taken last) (items_place taken found) 0 (none_credit taken last) (items_credit taken found) in
-    let next = either credit (nat_le found (size_of config.sizes)) (if found == 0 then none_place taken last else items_place taken found) Refusing 0 items (omega arith) in
+    let next = either credit (is_avail_index config.sizes (taken % 65536) (high_half value)) (if found == 0 then none_place taken last else items_place taken found) Refusing 0 items (omega arith) in
     omega arith
 pays peer one config (WritingAvailEvent taken) met value = omega arith
 pays peer one config (ReadingAvailEntry number more) met value =
-    let good = is_entry config.sizes (entry_in config number value) in
+    let good = is_avail_entry config.sizes (entry_in config number value) in
     let marks = entry_price peer config number value in
     let next = either credit good (ReadingDescAddressLow number more (entry_in config number value)) Refusing 0 (omega arith) (omega arith) in omega arith
 pays peer one config (ReadingDescAddressLow number more entry) met value = omega arith
 pays peer one config (ReadingDescAddressHigh number more entry low) met value =
-    let good = is_address config.sizes (address_of low value) in
+    let good = is_desc_address config.sizes (address_of low value) in
     let marks = address_price peer config low value in
     let next = either credit good (ReadingDescLength number more entry (address_of low value)) Refusing 0 (omega arith) (omega arith) in omega arith
 pays peer one config (ReadingDescLength number more entry address) met value =
-    let good = is_length config.sizes address value in
+    let good = is_desc_length config.sizes address value in
     let marks = length_price peer config address value in
     let next = either credit good (ReadingDescFlags number more entry address value) Refusing 0 (omega arith) (omega arith) in omega arith
 pays peer one config (ReadingDescFlags number more entry address bytes) met value =
-    let good = low_half value == 0 in
+    let good = is_desc_flags (desc_flags value) in
     let marks = flags_price peer value in
     let next = either credit good (words_place number more entry address bytes [] (words_for bytes)) Refusing 0 (words_credit number more entry address bytes [] (words_for bytes)) (omega arith) in omega arith
 pays peer one config (ReadingFrameWord number more entry address bytes read zero) met value =

@@ -65,10 +65,7 @@ CanPerform world_state me access.Nothing = Unit {0}
 -- A read returned the value written last.
 abbrev pub GaveLast : List Line → Access → ℕ → Type 0
 GaveLast past (access.Read word) value = value ≡ last_write past word
-GaveLast past (access.Write word written) value = Unit {0}
-GaveLast past (access.State state) value = Unit {0}
-GaveLast past (access.Ring target vector) value = Unit {0}
-GaveLast past access.Nothing value = Unit {0}
+GaveLast past _ value = Unit {0}
 
 -- The lines after an access of a peer: its line, and the interrupts that it causes.
 abbrev pub accessed : World → List Line → (ℕ → ℕ) → ℕ → Access → ℕ → List Line

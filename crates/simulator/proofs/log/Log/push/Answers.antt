@@ -19,4 +19,4 @@ returns c =
     pushed world output past c.args.line c.args.self.now marked _ frame (λ few. c.in_ok-mark_before.ensures.marks world output past log few) c.in_ok-mark_before.ensures.frames
     (c.count.ensures.version ∙ ap (λ (l : Log). l.version) kept) (c.count.ensures.honest ∙ ap (λ (l : Log). l.honest) kept)
     (record { opened = counts.opened; entering = counts.entering }) (put ∙ ap (λ ls. ls ++ c.args.line ∷ []) c.count.ensures.lines) log)
-    c.push.ensures.put
+    c.push.ensures.ok

@@ -225,8 +225,10 @@ fn end_of(alloc: Global, lengths: &[u64], freed: u32) -> Result<End, Fail> {
     Ok(end)
 }
 
-/// The lines of an offer's frame, up to the descriptor's last word.
-const WRITES: [Line; 8] = [
+/// The lines of the first offer, up to its published index.
+const OFFERED: [Line; 13] = [
+    ('r', 5424, 0),
+    ('c', 0, 0),
     ('w', 1472, 4_294_967_295),
     ('w', 1473, 196_607),
     ('w', 1474, 16_777_216),
@@ -235,6 +237,48 @@ const WRITES: [Line; 8] = [
     ('w', 1025, 0),
     ('w', 1026, 14),
     ('w', 1027, 0),
+    ('w', 1281, 0),
+    ('w', 1280, 65_536),
+    ('a', 0, 0),
+];
+
+/// Returns a call by its letter: a Tick, a Stop or a Poll.
+fn call_of(letter: char) -> Call {
+    match letter {
+        't' => Call::Tick,
+        's' => Call::Stop,
+        _ => Call::Poll,
+    }
+}
+
+/// The phase of an end, its call, and the lines of the call.
+const OF_THE_STATE: [(Phase, char, &[Line]); 6] = [
+    (
+        Phase::Reset,
+        't',
+        &[('r', 1, 0), ('v', 0, 0), ('s', 1, 0), ('o', 0, 0)],
+    ),
+    (
+        Phase::Init,
+        't',
+        &[
+            ('r', 1, 1),
+            ('v', 1, 0),
+            ('w', 1024, 0),
+            ('w', 1025, 0),
+            ('w', 1026, 0),
+            ('s', 2, 0),
+            ('o', 0, 0),
+        ],
+    ),
+    (
+        Phase::Ready,
+        't',
+        &[('r', 1, 2), ('v', 2, 0), ('s', 3, 0), ('o', 0, 0)],
+    ),
+    (Phase::Reset, 't', &[('r', 1, 3), ('v', 3, 0), ('o', 0, 0)]),
+    (Phase::Run, 's', &[('s', 0, 0), ('o', 0, 0)]),
+    (Phase::Reset, 'p', &[('-', 0, 0), ('n', 0, 0)]),
 ];
 
 // claim reference_calls.is_call
@@ -242,43 +286,39 @@ const WRITES: [Line; 8] = [
 fn shortest_handshake_and_stop(rt: HostRuntime) -> Result<(), Fail> {
     let alloc = rt.alloc();
     let config = config(0, 3)?;
-    let rows: [(Phase, Call, &[Line]); 6] = [
-        (
-            Phase::Reset,
-            Call::Tick,
-            &[('r', 1, 0), ('v', 0, 0), ('s', 1, 0), ('o', 0, 0)],
-        ),
-        (
-            Phase::Init,
-            Call::Tick,
-            &[
-                ('r', 1, 1),
-                ('v', 1, 0),
-                ('w', 1024, 0),
-                ('w', 1025, 0),
-                ('w', 1026, 0),
-                ('s', 2, 0),
-                ('o', 0, 0),
-            ],
-        ),
-        (
-            Phase::Ready,
-            Call::Tick,
-            &[('r', 1, 2), ('v', 2, 0), ('s', 3, 0), ('o', 0, 0)],
-        ),
-        (
-            Phase::Reset,
-            Call::Tick,
-            &[('r', 1, 3), ('v', 3, 0), ('o', 0, 0)],
-        ),
-        (Phase::Run, Call::Stop, &[('s', 0, 0), ('o', 0, 0)]),
-        (Phase::Reset, Call::Poll, &[('-', 0, 0), ('n', 0, 0)]),
-    ];
-    for (phase, call, lines) in &rows {
-        check(&rt, alloc, &config, &end(alloc, *phase, 0), call, lines)?;
+    for (phase, call, lines) in OF_THE_STATE {
+        check(
+            &rt,
+            alloc,
+            &config,
+            &end(alloc, phase, 0),
+            &call_of(call),
+            lines,
+        )?;
     }
     Ok(())
 }
+
+/// The number of frames that an end accepted, and the lines of its offer: a full ring, a foreign
+/// descriptor, and too many frames returned.
+const NOT_ACCEPTED: [(u32, &[Line]); 3] = [
+    (45, &[('r', 5424, 0), ('c', 0, 0), ('f', 0, 0)]),
+    (
+        1,
+        &[
+            ('r', 5424, 65_536),
+            ('c', 1, 0),
+            ('r', 5425, 7),
+            ('x', 6, 7),
+            ('s', 0, 0),
+            ('o', 0, 0),
+        ],
+    ),
+    (
+        1,
+        &[('r', 5424, 131_072), ('x', 5, 2), ('s', 0, 0), ('o', 0, 0)],
+    ),
+];
 
 // claim reference_calls.is_call
 #[test]
@@ -286,43 +326,13 @@ fn offers(rt: HostRuntime) -> Result<(), Fail> {
     let alloc = rt.alloc();
     let config = config(0, 4096)?;
     let call = Call::Offer(frame(alloc, 0)?);
-    let mut one_frame = Vec::from_slice(alloc, &[('r', 5424, 0), ('c', 0, 0)])?;
-    one_frame.extend_from_slice(&WRITES)?;
-    one_frame.extend_from_slice(&[
-        ('w', 1281, 0),
-        ('w', 1280, 65_536),
-        ('a', 0, 0),
-        ('d', 1, 1),
-        ('o', 0, 0),
-    ])?;
-    let rows: [(u32, &[Line]); 4] = [
-        (0, one_frame.as_slice()),
-        (45, &[('r', 5424, 0), ('c', 0, 0), ('f', 0, 0)]),
-        (
-            1,
-            &[
-                ('r', 5424, 65_536),
-                ('c', 1, 0),
-                ('r', 5425, 7),
-                ('x', 6, 7),
-                ('s', 0, 0),
-                ('o', 0, 0),
-            ],
-        ),
-        (
-            1,
-            &[('r', 5424, 131_072), ('x', 5, 2), ('s', 0, 0), ('o', 0, 0)],
-        ),
-    ];
-    for (accepted, lines) in &rows {
-        check(
-            &rt,
-            alloc,
-            &config,
-            &end(alloc, Phase::Run, *accepted),
-            &call,
-            lines,
-        )?;
+    let mut one_frame = OFFERED.to_vec(alloc)?;
+    one_frame.extend_from_slice(&[('d', 1, 1), ('o', 0, 0)])?;
+    let at_run = end(alloc, Phase::Run, 0);
+    check(&rt, alloc, &config, &at_run, &call, one_frame.as_slice())?;
+    for (accepted, lines) in NOT_ACCEPTED {
+        let end = end(alloc, Phase::Run, accepted);
+        check(&rt, alloc, &config, &end, &call, lines)?;
     }
     Ok(())
 }
@@ -345,6 +355,19 @@ const LAST_WRITES: [Line; 13] = [
     ('a', 0, 0),
 ];
 
+/// The number of the frame, the lines of its offer up to its published index, the event index, and
+/// whether it wants a doorbell.
+const EVENTS: [(u32, &[Line], u64, bool); 8] = [
+    (0, &OFFERED, 0, true),
+    (0, &OFFERED, 4_294_901_760, true),
+    (0, &OFFERED, 1, false),
+    (0, &OFFERED, 65_535, false),
+    (65_535, &LAST_WRITES, 65_535, true),
+    (65_535, &LAST_WRITES, 131_071, true),
+    (65_535, &LAST_WRITES, 65_534, false),
+    (65_535, &LAST_WRITES, 0, false),
+];
+
 /// An offer of the first frame and of frame 65,535 reads the event index in the low half of its
 /// word, and rings if that is the frame's index.
 // claim reference_calls.is_call
@@ -354,31 +377,14 @@ fn event_asked(rt: HostRuntime) -> Result<(), Fail> {
     let alloc = rt.alloc();
     let config = event_who(0)?;
     let call = Call::Offer(frame(alloc, 0)?);
-    let mut first = Vec::from_slice(alloc, &[('r', 5424, 0), ('c', 0, 0)])?;
-    first.extend_from_slice(&WRITES)?;
-    first.extend_from_slice(&[('w', 1281, 0), ('w', 1280, 65_536), ('a', 0, 0)])?;
-    let rows: [(u32, &[Line], u64, bool); 8] = [
-        (0, first.as_slice(), 0, true),
-        (0, first.as_slice(), 4_294_901_760, true),
-        (0, first.as_slice(), 1, false),
-        (0, first.as_slice(), 65_535, false),
-        (65_535, &LAST_WRITES, 65_535, true),
-        (65_535, &LAST_WRITES, 131_071, true),
-        (65_535, &LAST_WRITES, 65_534, false),
-        (65_535, &LAST_WRITES, 0, false),
-    ];
-    for (number, writes, event, asks) in &rows {
-        let mut end = end(alloc, Phase::Run, *number);
-        end.freed = *number;
+    for (number, writes, event, asks) in EVENTS {
+        let mut end = end(alloc, Phase::Run, number);
+        end.freed = number;
         let mut rings = writes.to_vec(alloc)?;
-        rings.extend_from_slice(&[('r', 5553, *event), ('d', 1, 1), ('o', 0, 0)])?;
+        rings.extend_from_slice(&[('r', 5553, event), ('d', 1, 1), ('o', 0, 0)])?;
         let mut stays = writes.to_vec(alloc)?;
-        stays.extend_from_slice(&[('r', 5553, *event), ('o', 0, 0)])?;
-        let (lines, others) = if *asks {
-            (rings, stays)
-        } else {
-            (stays, rings)
-        };
+        stays.extend_from_slice(&[('r', 5553, event), ('o', 0, 0)])?;
+        let (lines, others) = if asks { (rings, stays) } else { (stays, rings) };
         check(&rt, alloc, &config, &end, &call, lines.as_slice())?;
         let steps = steps_of(alloc, others.as_slice())?;
         assert!(rt; !is_call(alloc, &config, &end, &call, steps.as_slice())?);
@@ -422,6 +428,25 @@ fn offered_at(alloc: Global, start: u32, number: u32) -> Result<Vec<Line>, Fail>
     Ok(lines)
 }
 
+/// The lengths of the frames in flight, and the start of the offered frame. The start is 0 if the
+/// ring is full.
+const FLYING: [(&[u64], u32); 10] = [
+    // after the 225 blocks of the freed frames
+    (&[], 16_192),
+    (&[14], 16_256),
+    (&[64, 64], 16_320),
+    (&[65], 16_320),
+    // at the first byte, after a frame that ends with the ring, and after one that would have
+    // ended beyond it
+    (&[64, 64, 64], 1792),
+    (&[192], 1792),
+    (&[193], 2048),
+    (&[14, 274, 1], 2176),
+    // in the last block before the oldest frame in flight, and without a free block
+    (&[14, 64, 64, 14_336], 16_128),
+    (&[14, 64, 64, 14_400], 0),
+];
+
 /// An offer of 14 bytes in a byte ring after 45 frames were freed: its start after the last frame,
 /// and whether it fits. The ring has 14,592 bytes, which are 228 blocks.
 // claim reference_calls.is_call
@@ -431,33 +456,34 @@ fn bytes_in_flight(rt: HostRuntime) -> Result<(), Fail> {
     let config = byte_who(0)?;
     let call = Call::Offer(frame(alloc, 0)?);
     let freed: [u64; 45] = [274; 45];
-    // The lengths of the frames in flight, and the start of the offered frame, or 0 if the ring is
-    // full.
-    let rows: [(&[u64], u32); 10] = [
-        // after the 225 blocks of the freed frames
-        (&[], 16_192),
-        (&[14], 16_256),
-        (&[64, 64], 16_320),
-        (&[65], 16_320),
-        // at the first byte, after a frame that ends with the ring, and after one that would have
-        // ended beyond it
-        (&[64, 64, 64], 1792),
-        (&[192], 1792),
-        (&[193], 2048),
-        (&[14, 274, 1], 2176),
-        // in the last block before the oldest frame in flight, and without a free block
-        (&[14, 64, 64, 14_336], 16_128),
-        (&[14, 64, 64, 14_400], 0),
-    ];
-    for (flying, start) in &rows {
+    for (flying, start) in FLYING {
         let mut lengths = freed.to_vec(alloc)?;
         lengths.extend_from_slice(flying)?;
         let end = end_of(alloc, lengths.as_slice(), 45)?;
-        let lines = offered_at(alloc, *start, end.accepted)?;
+        let lines = offered_at(alloc, start, end.accepted)?;
         check(&rt, alloc, &config, &end, &call, lines.as_slice())?;
     }
     Ok(())
 }
+
+/// The lines of the offer that takes the last descriptor.
+const LAST_DESCRIPTOR: [Line; 15] = [
+    ('r', 5424, 0),
+    ('c', 0, 0),
+    ('w', 2480, 4_294_967_295),
+    ('w', 2481, 196_607),
+    ('w', 2482, 16_777_216),
+    ('w', 2483, 8),
+    ('w', 1276, 5824),
+    ('w', 1277, 0),
+    ('w', 1278, 14),
+    ('w', 1279, 0),
+    ('w', 1312, 4_128_768),
+    ('w', 1280, 4_194_304),
+    ('a', 0, 0),
+    ('r', 5553, 7),
+    ('o', 0, 0),
+];
 
 /// In flight are as many frames of 14 bytes as there are descriptors, and one fewer.
 // claim reference_calls.is_call
@@ -477,51 +503,60 @@ fn descriptors_in_flight(rt: HostRuntime) -> Result<(), Fail> {
         &[('r', 5424, 0), ('c', 0, 0), ('f', 0, 0)],
     )?;
     let last = end_of(alloc, &lengths[..63], 0)?;
-    let lines: [Line; 15] = [
-        ('r', 5424, 0),
-        ('c', 0, 0),
-        ('w', 2480, 4_294_967_295),
-        ('w', 2481, 196_607),
-        ('w', 2482, 16_777_216),
-        ('w', 2483, 8),
-        ('w', 1276, 5824),
-        ('w', 1277, 0),
-        ('w', 1278, 14),
-        ('w', 1279, 0),
-        ('w', 1312, 4_128_768),
-        ('w', 1280, 4_194_304),
-        ('a', 0, 0),
-        ('r', 5553, 7),
-        ('o', 0, 0),
-    ];
-    check(&rt, alloc, &config, &last, &call, &lines)?;
+    check(&rt, alloc, &config, &last, &call, &LAST_DESCRIPTOR)?;
     Ok(())
 }
+
+/// The lines of the poll that delivers the first frame.
+const DELIVERED: [Line; 18] = [
+    ('r', 1280, 65_536),
+    ('l', 1, 0),
+    ('r', 1281, 0),
+    ('r', 1024, 1792),
+    ('r', 1025, 0),
+    ('r', 1026, 14),
+    ('r', 1027, 0),
+    ('r', 1472, 4_294_967_295),
+    ('r', 1473, 196_607),
+    ('r', 1474, 16_777_216),
+    ('r', 1475, 8),
+    ('g', 0, 0),
+    ('w', 5425, 0),
+    ('w', 5426, 1),
+    ('w', 5424, 65_536),
+    ('t', 0, 0),
+    ('d', 0, 1),
+    ('k', 0, 0),
+];
+
+/// The lines of a poll of peer 0 up to the flags of the first descriptor.
+const READ: [Line; 7] = [
+    ('r', 5376, 65_536),
+    ('l', 1, 0),
+    ('r', 5377, 0),
+    ('r', 5120, 1792),
+    ('r', 5121, 0),
+    ('r', 5122, 14),
+    ('r', 5123, 0),
+];
+
+/// The number of those lines that don't change, the read that is refused, and its mark.
+const REFUSED: [(usize, Line, Line); 9] = [
+    (0, ('r', 5376, 4_259_840), ('x', 0, 65)),
+    (2, ('r', 5377, 64), ('x', 1, 64)),
+    (3, ('r', 5120, 1788), ('x', 2, 1788)),
+    (3, ('r', 5120, 1794), ('x', 2, 1794)),
+    (3, ('r', 5120, 16_384), ('x', 2, 16_384)),
+    (4, ('r', 5121, 1), ('x', 2, 4_294_969_088)),
+    (5, ('r', 5122, 13), ('x', 3, 13)),
+    (5, ('r', 5122, 14_593), ('x', 3, 14_593)),
+    (6, ('r', 5123, 1), ('x', 4, 1)),
+];
 
 // claim reference_calls.is_call
 #[test]
 fn polls(rt: HostRuntime) -> Result<(), Fail> {
     let alloc = rt.alloc();
-    let one_frame: [Line; 18] = [
-        ('r', 1280, 65_536),
-        ('l', 1, 0),
-        ('r', 1281, 0),
-        ('r', 1024, 1792),
-        ('r', 1025, 0),
-        ('r', 1026, 14),
-        ('r', 1027, 0),
-        ('r', 1472, 4_294_967_295),
-        ('r', 1473, 196_607),
-        ('r', 1474, 16_777_216),
-        ('r', 1475, 8),
-        ('g', 0, 0),
-        ('w', 5425, 0),
-        ('w', 5426, 1),
-        ('w', 5424, 65_536),
-        ('t', 0, 0),
-        ('d', 0, 1),
-        ('k', 0, 0),
-    ];
     let at_run = end(alloc, Phase::Run, 0);
     check(
         &rt,
@@ -529,36 +564,15 @@ fn polls(rt: HostRuntime) -> Result<(), Fail> {
         &config(1, 4096)?,
         &at_run,
         &Call::Poll,
-        &one_frame,
+        &DELIVERED,
     )?;
-    let read: [Line; 7] = [
-        ('r', 5376, 65_536),
-        ('l', 1, 0),
-        ('r', 5377, 0),
-        ('r', 5120, 1792),
-        ('r', 5121, 0),
-        ('r', 5122, 14),
-        ('r', 5123, 0),
-    ];
-    // The number of those lines that don't change, the read that is refused, and its mark.
-    let rows: [(usize, Line, Line); 9] = [
-        (0, ('r', 5376, 4_259_840), ('x', 0, 65)),
-        (2, ('r', 5377, 64), ('x', 1, 64)),
-        (3, ('r', 5120, 1788), ('x', 2, 1788)),
-        (3, ('r', 5120, 1794), ('x', 2, 1794)),
-        (3, ('r', 5120, 16_384), ('x', 2, 16_384)),
-        (4, ('r', 5121, 1), ('x', 2, 4_294_969_088)),
-        (5, ('r', 5122, 13), ('x', 3, 13)),
-        (5, ('r', 5122, 14_593), ('x', 3, 14_593)),
-        (6, ('r', 5123, 1), ('x', 4, 1)),
-    ];
-    for (kept, refused, mark) in &rows {
-        let mut lines = Vec::from_slice(alloc, read.get(..*kept).unwrap_or(&[]))?;
-        lines.push(*refused)?;
+    for (kept, refused, mark) in REFUSED {
+        let mut lines = Vec::from_slice(alloc, READ.get(..kept).unwrap_or(&[]))?;
+        lines.push(refused)?;
         if refused.1 == 5120 {
             lines.push(('r', 5121, 0))?;
         }
-        lines.extend_from_slice(&[*mark, ('s', 0, 0), ('o', 0, 0)])?;
+        lines.extend_from_slice(&[mark, ('s', 0, 0), ('o', 0, 0)])?;
         check(
             &rt,
             alloc,
@@ -571,6 +585,69 @@ fn polls(rt: HostRuntime) -> Result<(), Fail> {
     Ok(())
 }
 
+/// The number of frames that the end delivered, and the lines of its poll.
+const TWO_LOOKS: [(u32, &[Line]); 5] = [
+    (
+        0,
+        &[
+            ('r', 1280, 0),
+            ('l', 0, 0),
+            ('w', 5553, 0),
+            ('r', 1280, 0),
+            ('l', 0, 0),
+            ('k', 0, 0),
+        ],
+    ),
+    (
+        65_535,
+        &[
+            ('r', 1280, 4_294_901_760),
+            ('l', 0, 0),
+            ('w', 5553, 65_535),
+            ('r', 1280, 4_294_901_760),
+            ('l', 0, 0),
+            ('k', 0, 0),
+        ],
+    ),
+    (
+        65_536,
+        &[
+            ('r', 1280, 0),
+            ('l', 0, 0),
+            ('w', 5553, 0),
+            ('r', 1280, 0),
+            ('l', 0, 0),
+            ('k', 0, 0),
+        ],
+    ),
+    (
+        0,
+        &[
+            ('r', 1280, 0),
+            ('l', 0, 0),
+            ('w', 5553, 0),
+            ('r', 1280, 65_536),
+            ('l', 1, 0),
+            ('r', 1281, 64),
+            ('x', 1, 64),
+            ('s', 0, 0),
+            ('o', 0, 0),
+        ],
+    ),
+    (
+        0,
+        &[
+            ('r', 1280, 0),
+            ('l', 0, 0),
+            ('w', 5553, 0),
+            ('r', 1280, 4_259_840),
+            ('x', 0, 65),
+            ('s', 0, 0),
+            ('o', 0, 0),
+        ],
+    ),
+];
+
 /// A poll that finds nothing writes its event index and looks again. The second look finds nothing,
 /// a frame, or an index out of range.
 // claim reference_calls.is_call
@@ -578,74 +655,15 @@ fn polls(rt: HostRuntime) -> Result<(), Fail> {
 #[test]
 fn offer_between_the_looks(rt: HostRuntime) -> Result<(), Fail> {
     let alloc = rt.alloc();
-    let rows: [(u32, &[Line]); 5] = [
-        (
-            0,
-            &[
-                ('r', 1280, 0),
-                ('l', 0, 0),
-                ('w', 5553, 0),
-                ('r', 1280, 0),
-                ('l', 0, 0),
-                ('k', 0, 0),
-            ],
-        ),
-        (
-            65_535,
-            &[
-                ('r', 1280, 4_294_901_760),
-                ('l', 0, 0),
-                ('w', 5553, 65_535),
-                ('r', 1280, 4_294_901_760),
-                ('l', 0, 0),
-                ('k', 0, 0),
-            ],
-        ),
-        (
-            65_536,
-            &[
-                ('r', 1280, 0),
-                ('l', 0, 0),
-                ('w', 5553, 0),
-                ('r', 1280, 0),
-                ('l', 0, 0),
-                ('k', 0, 0),
-            ],
-        ),
-        (
-            0,
-            &[
-                ('r', 1280, 0),
-                ('l', 0, 0),
-                ('w', 5553, 0),
-                ('r', 1280, 65_536),
-                ('l', 1, 0),
-                ('r', 1281, 64),
-                ('x', 1, 64),
-                ('s', 0, 0),
-                ('o', 0, 0),
-            ],
-        ),
-        (
-            0,
-            &[
-                ('r', 1280, 0),
-                ('l', 0, 0),
-                ('w', 5553, 0),
-                ('r', 1280, 4_259_840),
-                ('x', 0, 65),
-                ('s', 0, 0),
-                ('o', 0, 0),
-            ],
-        ),
-    ];
-    for (delivered, lines) in &rows {
+    for (delivered, lines) in TWO_LOOKS {
         let mut end = end(alloc, Phase::Run, 0);
-        end.delivered = *delivered;
+        end.delivered = delivered;
         check(&rt, alloc, &event_who(1)?, &end, &Call::Poll, lines)?;
     }
     Ok(())
 }
+
+const QUIET: [Line; 3] = [('r', 1280, 0), ('l', 0, 0), ('k', 0, 0)];
 
 /// After a look that found nothing, the next poll ends at its first look.
 // claim reference_calls.is_call
@@ -656,9 +674,8 @@ fn armed_poll_stays_quiet(rt: HostRuntime) -> Result<(), Fail> {
     let config = event_who(1)?;
     let mut end = end(alloc, Phase::Run, 0);
     end.found_none = true;
-    let quiet: [Line; 3] = [('r', 1280, 0), ('l', 0, 0), ('k', 0, 0)];
-    check(&rt, alloc, &config, &end, &Call::Poll, &quiet)?;
-    let steps = steps_of(alloc, &quiet)?;
+    check(&rt, alloc, &config, &end, &Call::Poll, &QUIET)?;
+    let steps = steps_of(alloc, &QUIET)?;
     end.found_none = false;
     assert!(rt; !is_call(alloc, &config, &end, &Call::Poll, steps.as_slice())?);
     Ok(())

@@ -16,7 +16,7 @@ use crate::judging::{
 };
 use crate::positions::Position;
 use ivs_base::NoMemory;
-use line_format::{Grammar, LineFault, FieldKind, TakeLines, Test, number_at, take_line};
+use line_format::{FieldKind, Grammar, LineFault, TakeLines, Test, number_at, take_line};
 use std::alloc::Global;
 
 /// The most acts of a schedule.
@@ -77,6 +77,7 @@ impl Draft {
 
 impl Grammar for Draft {
     type Form = Form;
+
     type Cause = Cause;
 
     ghost SoFar = { SoFar };

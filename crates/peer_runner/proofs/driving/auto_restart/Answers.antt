@@ -40,6 +40,6 @@ returns g c = record {
       (λ w e p refines. c.reset-2.ensures.refines w e p (subst (λ (x : Engine). RefinesAt x w e p) (sym chose.end) refines)) on.there in (
         restarted_on r,
         course_on _ _ c.args.context.now.me routes plan spans r (restarted_on r) c.args.pass.now c.reset.new.pass c.args.peer.now _ on (by_reset (last goes) goes) there is (ap (λ (h : PassView). h.table_id) c.reset.ensures),
-        (told_further c.args.context.now.me r.turns (restarted_on r).turns Restarts c.args.lines.now c.push.new.self refl told c.in_ok-push.ensures.put, refl, goes),
+        (told_further c.args.context.now.me r.turns (restarted_on r).turns Restarts c.args.lines.now c.push.new.self refl told c.in_ok-push.ensures.ok, refl, goes),
       );
 }

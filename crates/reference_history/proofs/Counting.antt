@@ -1,6 +1,6 @@
 -- The counts of a step, and the places at which a call reads its end's counts.
 use Rattle.std.proofs.Common.{◌≡◌, ℕ, zero, suc, ◌+◌, ◌-◌, ◌<◌, ◌≤◌, Bool, true, false, List, [], ◌∷◌, ◌++◌, length, take, get_or, refl, sym, ap, ◌∙◌, arith}
-use Rattle.std.specs.Prelude.{◌==◌, nat_le, if◌then◌else◌}
+use Rattle.std.specs.Prelude.{◌==◌, nat_le, if◌then◌else◌, ◌%◌}
 use Rattle.std.proofs.lemmas.Bool.Decides.{nat_tests}
 use Rattle.std.proofs.lemmas.List.{take_more, map-append}
 use Rattle.link_handshake.specs.declared.Phase.{Phase}
@@ -10,14 +10,15 @@ use Rattle.link_handshake.specs.declared.Move.TheVariants.{Stay, Set, ClearThenS
 use Rattle.link_handshake.specs.HandshakeState.{move_of}
 use Rattle.split_ring.specs.declared.ranges.FieldName.{FieldName}
 use Rattle.split_ring.specs.declared.ranges.FieldName.TheVariants as field_name
-use Rattle.split_ring.specs.Layout.{has_events, size_of}
+use Rattle.split_ring.specs.Layout.{has_events}
 use Rattle.split_ring.specs.Spelling.{high_half, low_half, entry_half}
+use Rattle.split_ring.specs.Ranges.{is_avail_entry, is_desc_address, is_desc_length, is_used_index, is_avail_index}
 use Rattle.call_grammar.specs.Words.{words_for, address_of}
 use Rattle.call_grammar.specs.Steps.{Mark, Reclaim, Full, Accept, Look, Deliver, Return, Done, Down, Over}
 use Rattle.call_grammar.specs.Ends as ends
 use Rattle.call_grammar.specs.Ticks.{tick_marks}
 use Rattle.call_grammar.specs.Offers.{PendingOffer, avail_entry_of, frame_fits, full_marks, reclaim_marks, refusal, returned_by, wants_doorbell}
-use Rattle.call_grammar.specs.Polls.{is_entry, is_address, is_length, published_by, is_last, look_marks}
+use Rattle.call_grammar.specs.Polls.{published_by, is_last, look_marks}
 use Rattle.call_grammar.specs.Calls.{EndConfig, Call, Tick, Stop, Offer, Poll, in_run, pending_of}
 use Rattle.call_grammar.specs.Places.{Place, Closed, ReadingOtherState, Clearing, WritingState, Refusing, NotInRun, ReadingUsedIndex, ReadingUsedId, WritingFrameWord, WritingDescAddressLow, WritingDescAddressHigh, WritingDescLength, WritingDescFlags, WritingAvailEntry, WritingAvailIndex, ReadingAvailEvent, RingingOffer, ReadingAvailIndex, WritingAvailEvent, ReadingAvailEntry, ReadingDescAddressLow, ReadingDescAddressHigh, ReadingDescLength, ReadingDescFlags, ReadingFrameWord, WritingUsedId, WritingUsedLength, WritingUsedIndex, RingingPoll, clear_place, tick_place, fill_place, ids_place, none_place, items_place, words_place, first_place, marks_at, next_place}
 use Rattle.reference_calls.specs.declared.ends.End.{End}
@@ -162,7 +163,7 @@ freed_few most end config (Clearing at more state) value fresh few = omega arith
 freed_few most end config (WritingState state) value fresh few = omega arith
 freed_few most end config Refusing value fresh few = omega arith
 freed_few most end config NotInRun value fresh few = omega arith
-freed_few most end config (ReadingUsedIndex pending freed) value fresh few = freed_offer most end config pending freed (returned_by freed value) (refusal field_name.UsedIndex (high_half value)) (nat_le (returned_by freed value) (pending.number - freed)) refl fresh.0 fresh.1 few (refused_none field_name.UsedIndex (high_half value))
+freed_few most end config (ReadingUsedIndex pending freed) value fresh few = freed_offer most end config pending freed (returned_by freed value) (refusal field_name.UsedIndex (high_half value)) (is_used_index (freed % 65536) (high_half value) (pending.number - freed)) refl fresh.0 fresh.1 few (refused_none field_name.UsedIndex (high_half value))
 freed_few most end config (ReadingUsedId pending freed more) value fresh few = frees_none most end (marks_at config (ReadingUsedId pending freed more) value) (none_if _ _ _ (none_if _ _ _ (full_none config pending (freed + 1)) none_freed) (refused_none _ _)) few
 freed_few most end config (WritingFrameWord pending at more) value fresh few = omega arith
 freed_few most end config (WritingDescAddressLow pending) value fresh few = omega arith
@@ -238,13 +239,13 @@ fresh_next most end config (ReadingAvailEvent number) value = fresh_if most end 
 fresh_next most end config RingingOffer value = tt
 fresh_next most end config (ReadingAvailIndex taken last) value =
     let count = published_by taken value in
-    fresh_if most end (nat_le count (size_of config.sizes)) (if count == 0 then none_place taken last else items_place taken count) Refusing
+    fresh_if most end (is_avail_index config.sizes (taken % 65536) (high_half value)) (if count == 0 then none_place taken last else items_place taken count) Refusing
     (fresh_if most end (count == 0) (none_place taken last) (items_place taken count) (fresh_if most end last Closed (WritingAvailEvent taken) tt tt) (fresh_items most end taken count)) tt
 fresh_next most end config (WritingAvailEvent taken) value = tt
-fresh_next most end config (ReadingAvailEntry number more) value = fresh_if most end (is_entry config.sizes (entry_half (avail_entry_of config number) value)) (ReadingDescAddressLow number more (entry_half (avail_entry_of config number) value)) Refusing tt tt
+fresh_next most end config (ReadingAvailEntry number more) value = fresh_if most end (is_avail_entry config.sizes (entry_half (avail_entry_of config number) value)) (ReadingDescAddressLow number more (entry_half (avail_entry_of config number) value)) Refusing tt tt
 fresh_next most end config (ReadingDescAddressLow number more entry) value = tt
-fresh_next most end config (ReadingDescAddressHigh number more entry low) value = fresh_if most end (is_address config.sizes (address_of low value)) (ReadingDescLength number more entry (address_of low value)) Refusing tt tt
-fresh_next most end config (ReadingDescLength number more entry address) value = fresh_if most end (is_length config.sizes address value) (ReadingDescFlags number more entry address value) Refusing tt tt
+fresh_next most end config (ReadingDescAddressHigh number more entry low) value = fresh_if most end (is_desc_address config.sizes (address_of low value)) (ReadingDescLength number more entry (address_of low value)) Refusing tt tt
+fresh_next most end config (ReadingDescLength number more entry address) value = fresh_if most end (is_desc_length config.sizes address value) (ReadingDescFlags number more entry address value) Refusing tt tt
 fresh_next most end config (ReadingDescFlags number more entry address bytes) value = fresh_if most end _ _ Refusing (fresh_words most end number more entry address bytes [] (words_for bytes)) tt
 fresh_next most end config (ReadingFrameWord number more entry address bytes read words) value = fresh_words most end number more entry address bytes (read ++ value ∷ []) words
 fresh_next most end config (WritingUsedId number more entry) value = tt

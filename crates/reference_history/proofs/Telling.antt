@@ -6,6 +6,7 @@ use Rattle.doorbell_irq.specs.Events as device
 use Rattle.doorbell_irq.specs.DeviceRules.{effect_of}
 use Rattle.split_ring.specs.declared.steps.Access.{Access}
 use Rattle.split_ring.specs.declared.steps.Access.TheVariants as access
+use Rattle.section_map.specs.MayWrite.{may_write}
 use Rattle.scenario_text.specs.Scenario.{World}
 use Rattle.call_grammar.specs.Steps.{Mark, Saw, Reclaim, Full, Accept, Look, Deliver, Return, Done, Down, Refuse, Over, Step}
 use Rattle.lawful_history.specs.declared.line.Line.{Line}
@@ -19,7 +20,7 @@ use Rattle.lawful_history.specs.Memory.{last_write}
 use Rattle.lawful_history.specs.EventRecords.{region_access_lines}
 use Rattle.lawful_history.specs.Schedule.{DeviceAccess, ReadsConfig, WritesConfig, ReadsRegister, WritesRegister, ReadsMsix, WritesMsix}
 use Rattle.lawful_history.specs.Device.{device_access_line}
-use Rattle.lawful_history.specs.History.{may_write, acted_step}
+use Rattle.lawful_history.specs.History.{acted_step}
 use Rattle.reference_history.specs.Events.{IsPlaced}
 use Rattle.reference_history.specs.DeviceEvents.{FitsDevices, AllFitDevices, FitsDoorbell}
 use Rattle.std.proofs.lemmas.List.{reverse-append, take-append-drop}

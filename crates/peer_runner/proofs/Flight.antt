@@ -1,9 +1,10 @@
 -- The frames in flight of an honest peer, and the stores of its open offer.
 use Rattle.std.proofs.Common.{◌≡◌, ℕ, zero, suc, ◌+◌, ◌-◌, ◌<◌, ◌≤◌, ◌⊎◌, inl, inr, ⊎_elim, Bool, true, false, List, [], ◌∷◌, ◌++◌, length, refl, sym, ap, ◌∙◌, subst, arith}
-use Rattle.std.specs.Prelude.{◌==◌, nat_le, if◌then◌else◌, Option, Some, None}
+use Rattle.std.specs.Prelude.{◌==◌, if◌then◌else◌, Option, Some, None, ◌%◌}
 use Rattle.split_ring.specs.declared.ranges.FieldName.TheVariants as field_name
-use Rattle.split_ring.specs.Layout.{has_events, size_of}
-use Rattle.split_ring.specs.Spelling.{low_half, high_half}
+use Rattle.split_ring.specs.Layout.{has_events}
+use Rattle.split_ring.specs.Spelling.{low_half, high_half, desc_flags}
+use Rattle.split_ring.specs.Ranges.{is_avail_entry, is_desc_address, is_desc_length, is_avail_index, is_desc_flags, is_used_index, is_used_id}
 use Rattle.link_handshake.specs.declared.Phase.TheVariants.{Reset}
 use Rattle.link_handshake.specs.declared.Move.{Move}
 use Rattle.link_handshake.specs.declared.Move.TheVariants.{Stay, Set, ClearThenSet}
@@ -13,7 +14,7 @@ use Rattle.call_grammar.specs.Words.{words_for, address_of}
 use Rattle.call_grammar.specs.Ends.{End, with_mark, with_marks, end_after}
 use Rattle.call_grammar.specs.Calls.{EndConfig, Call, Tick, Stop, Offer, Poll, in_run, pending_of}
 use Rattle.call_grammar.specs.Offers.{PendingOffer, frame_fits, descriptor_of, wants_doorbell, returned_by, refusal, full_marks, reclaim_marks}
-use Rattle.call_grammar.specs.Polls.{is_entry, is_address, is_length, entry_in, published_by, is_last}
+use Rattle.call_grammar.specs.Polls.{entry_in, published_by, is_last}
 use Rattle.call_grammar.specs.Places.{Place, step_at, Closed, ReadingOtherState, Clearing, Refusing, NotInRun, ReadingUsedIndex, ReadingUsedId, WritingFrameWord, WritingDescAddressLow, WritingDescAddressHigh, WritingDescLength, WritingDescFlags, WritingAvailEntry, WritingAvailIndex, ReadingAvailEvent, RingingOffer, ReadingAvailIndex, WritingAvailEvent, ReadingAvailEntry, ReadingDescAddressLow, ReadingDescAddressHigh, ReadingDescLength, ReadingDescFlags, ReadingFrameWord, WritingUsedIndex, clear_place, tick_place, fill_place, ids_place, notify_place, none_place, items_place, words_place, first_place, marks_at, next_place}
 use Rattle.link_invariant.specs.Fields.{Field}
 use Rattle.link_invariant.specs.LinkConfig.{LinkConfig, IsLinkConfig, section_of, config_of, fields}
@@ -93,9 +94,9 @@ pub goes_on : (config : EndConfig) (place : Place) (value : ℕ) → GoesOn plac
 unfolding settled_place
 goes_on config (ReadingOtherState handshake) value = on_none (ReadingOtherState handshake) (tick_place config (move_of handshake value)) (tick_none config (move_of handshake value))
 goes_on config (Clearing at more state) value = on_none (Clearing at more state) (clear_place (at + 1) more state) (clear_none (at + 1) more state)
-goes_on config (ReadingUsedIndex pending freed) value = test_on (ReadingUsedIndex pending freed) (nat_le (returned_by freed value) (pending.number - freed)) (ids_place config pending freed (returned_by freed value)) Refusing
+goes_on config (ReadingUsedIndex pending freed) value = test_on (ReadingUsedIndex pending freed) (is_used_index (freed % 65536) (high_half value) (pending.number - freed)) (ids_place config pending freed (returned_by freed value)) Refusing
     (ids_on (ReadingUsedIndex pending freed) config pending freed (returned_by freed value) refl) (on_none (ReadingUsedIndex pending freed) Refusing refl)
-goes_on config (ReadingUsedId pending freed more) value = test_on (ReadingUsedId pending freed more) (value == descriptor_of config freed) (ids_place config pending (freed + 1) more) Refusing
+goes_on config (ReadingUsedId pending freed more) value = test_on (ReadingUsedId pending freed more) (is_used_id (descriptor_of config freed) value) (ids_place config pending (freed + 1) more) Refusing
     (ids_on (ReadingUsedId pending freed more) config pending (freed + 1) more refl) (on_none (ReadingUsedId pending freed more) Refusing refl)
 goes_on config (WritingFrameWord pending at more) value = fill_on (WritingFrameWord pending at more) pending (at + 1) more refl
 goes_on config (WritingDescAddressLow pending) value = λ j e. e
@@ -105,12 +106,12 @@ goes_on config (WritingDescFlags pending) value = λ j e. e
 goes_on config (WritingAvailEntry pending) value = λ j e. e
 goes_on config (WritingAvailIndex pending) value = on_none (WritingAvailIndex pending) (notify_place config pending.number) (tell_none config pending.number)
 goes_on config (ReadingAvailEvent number) value = on_none (ReadingAvailEvent number) (next_place config (ReadingAvailEvent number) value) (test_none (wants_doorbell (low_half value) number) RingingOffer Closed refl refl)
-goes_on config (ReadingAvailIndex taken last) value = on_none (ReadingAvailIndex taken last) (next_place config (ReadingAvailIndex taken last) value) (test_none (nat_le (published_by taken value) (size_of config.sizes)) (if published_by taken value == 0 then none_place taken last else items_place taken (published_by taken value)) Refusing
+goes_on config (ReadingAvailIndex taken last) value = on_none (ReadingAvailIndex taken last) (next_place config (ReadingAvailIndex taken last) value) (test_none (is_avail_index config.sizes (taken % 65536) (high_half value)) (if published_by taken value == 0 then none_place taken last else items_place taken (published_by taken value)) Refusing
     (test_none (published_by taken value == 0) (none_place taken last) (items_place taken (published_by taken value)) (test_none last Closed (WritingAvailEvent taken) refl refl) (items_none taken (published_by taken value))) refl)
-goes_on config (ReadingAvailEntry number more) value = on_none (ReadingAvailEntry number more) (next_place config (ReadingAvailEntry number more) value) (test_none (is_entry config.sizes (entry_in config number value)) (ReadingDescAddressLow number more (entry_in config number value)) Refusing refl refl)
-goes_on config (ReadingDescAddressHigh number more entry low) value = on_none (ReadingDescAddressHigh number more entry low) (next_place config (ReadingDescAddressHigh number more entry low) value) (test_none (is_address config.sizes (address_of low value)) (ReadingDescLength number more entry (address_of low value)) Refusing refl refl)
-goes_on config (ReadingDescLength number more entry address) value = on_none (ReadingDescLength number more entry address) (next_place config (ReadingDescLength number more entry address) value) (test_none (is_length config.sizes address value) (ReadingDescFlags number more entry address value) Refusing refl refl)
-goes_on config (ReadingDescFlags number more entry address bytes) value = on_none (ReadingDescFlags number more entry address bytes) (next_place config (ReadingDescFlags number more entry address bytes) value) (test_none (low_half value == 0) (words_place number more entry address bytes [] (words_for bytes)) Refusing (words_none number more entry address bytes [] (words_for bytes)) refl)
+goes_on config (ReadingAvailEntry number more) value = on_none (ReadingAvailEntry number more) (next_place config (ReadingAvailEntry number more) value) (test_none (is_avail_entry config.sizes (entry_in config number value)) (ReadingDescAddressLow number more (entry_in config number value)) Refusing refl refl)
+goes_on config (ReadingDescAddressHigh number more entry low) value = on_none (ReadingDescAddressHigh number more entry low) (next_place config (ReadingDescAddressHigh number more entry low) value) (test_none (is_desc_address config.sizes (address_of low value)) (ReadingDescLength number more entry (address_of low value)) Refusing refl refl)
+goes_on config (ReadingDescLength number more entry address) value = on_none (ReadingDescLength number more entry address) (next_place config (ReadingDescLength number more entry address) value) (test_none (is_desc_length config.sizes address value) (ReadingDescFlags number more entry address value) Refusing refl refl)
+goes_on config (ReadingDescFlags number more entry address bytes) value = on_none (ReadingDescFlags number more entry address bytes) (next_place config (ReadingDescFlags number more entry address bytes) value) (test_none (is_desc_flags (desc_flags value)) (words_place number more entry address bytes [] (words_for bytes)) Refusing (words_none number more entry address bytes [] (words_for bytes)) refl)
 goes_on config (ReadingFrameWord number more entry address bytes read words) value = on_none (ReadingFrameWord number more entry address bytes read words) (words_place number more entry address bytes (read ++ value ∷ []) words) (words_none number more entry address bytes (read ++ value ∷ []) words)
 goes_on config (WritingUsedIndex number more) value = on_none (WritingUsedIndex number more) (items_place (number + 1) more) (items_none (number + 1) more)
 goes_on config place value = on_none place (next_place config place value) refl
@@ -150,8 +151,8 @@ ids_freed x config pending freed (suc more) = inr refl
 
 freed_on : (config : EndConfig) (place : Place) (value x : ℕ) → (freed_at x (settled_place (next_place config place value)) ≡ x) ⊎ Counts place (freed_at x (settled_place (next_place config place value)))
 unfolding settled_place
-freed_on config (ReadingUsedIndex pending freed) value x = test_freed x freed (nat_le (returned_by freed value) (pending.number - freed)) (ids_place config pending freed (returned_by freed value)) Refusing (ids_freed x config pending freed (returned_by freed value)) (inl refl)
-freed_on config (ReadingUsedId pending freed more) value x = test_freed x (freed + 1) (value == descriptor_of config freed) (ids_place config pending (freed + 1) more) Refusing (ids_freed x config pending (freed + 1) more) (inl refl)
+freed_on config (ReadingUsedIndex pending freed) value x = test_freed x freed (is_used_index (freed % 65536) (high_half value) (pending.number - freed)) (ids_place config pending freed (returned_by freed value)) Refusing (ids_freed x config pending freed (returned_by freed value)) (inl refl)
+freed_on config (ReadingUsedId pending freed more) value x = test_freed x (freed + 1) (is_used_id (descriptor_of config freed) value) (ids_place config pending (freed + 1) more) Refusing (ids_freed x config pending (freed + 1) more) (inl refl)
 freed_on config (WritingFrameWord pending at more) value x = inl (fill_freed x pending (at + 1) more)
 freed_on config (WritingDescAddressLow pending) value x = inl refl
 freed_on config (WritingDescAddressHigh pending) value x = inl refl
@@ -186,9 +187,9 @@ reclaim_accepts : (config : EndConfig) (pending : PendingOffer) (freed count : �
 reclaim_accepts config pending freed count = test_accepts (count == 0) (Reclaim 0 ∷ full_marks config pending freed) (Reclaim count ∷ []) (λ end. full_accepts config pending freed (with_mark end (Reclaim 0))) (λ end. refl)
 
 reads_accept : (config : EndConfig) (place : Place) (value n : ℕ) → Counts place n → AcceptsNone (marks_at config place value)
-reads_accept config (ReadingUsedIndex pending freed) value n c = test_accepts (nat_le (returned_by freed value) (pending.number - freed)) (reclaim_marks config pending freed (returned_by freed value)) (refusal field_name.UsedIndex (high_half value))
+reads_accept config (ReadingUsedIndex pending freed) value n c = test_accepts (is_used_index (freed % 65536) (high_half value) (pending.number - freed)) (reclaim_marks config pending freed (returned_by freed value)) (refusal field_name.UsedIndex (high_half value))
     (reclaim_accepts config pending freed (returned_by freed value)) (λ end. refl)
-reads_accept config (ReadingUsedId pending freed more) value n c = test_accepts (value == descriptor_of config freed) (if more == 0 then full_marks config pending (freed + 1) else []) (refusal field_name.UsedId value)
+reads_accept config (ReadingUsedId pending freed more) value n c = test_accepts (is_used_id (descriptor_of config freed) value) (if more == 0 then full_marks config pending (freed + 1) else []) (refusal field_name.UsedId value)
     (test_accepts (more == 0) (full_marks config pending (freed + 1)) [] (full_accepts config pending (freed + 1)) (λ end. refl)) (λ end. refl)
 reads_accept config place value n c = absurd c
 

@@ -2,6 +2,7 @@
 use Rattle.std.proofs.Common.{◌≡◌, ℕ, zero, suc, ◌+◌, ◌*◌, ◌/◌, ◌%◌, ◌<◌, ◌≤◌, ◌⊎◌, inl, inr, ⊎_elim, true, List, [], ◌∷◌, ◌++◌, length, refl, sym, ap, ◌∙◌, subst, arith, append-nil}
 use Rattle.std.specs.Prelude.{Option, Some, None, Contains}
 use Rattle.std.proofs.lemmas.List.Elements.{Contains-append_cases}
+use Rattle.split_ring.specs.declared.sizes.TheConstants.{FRAME_OVERHEAD}
 use Rattle.split_ring.specs.declared.steps.Access.{Access}
 use Rattle.split_ring.specs.Layout.{Sizes, IsQueue, limit_of}
 use Rattle.split_ring.specs.Frames.{start_of, footprint_of, AreApart}
@@ -113,8 +114,8 @@ long_is : (accepted : List (List ℕ)) (pending : PendingOffer) → pending.numb
 long_is accepted pending number lengths = ap (λ (l : ℕ → ℕ). l pending.number) lengths ∙ (ap (lengths_of (accepted ++ pending.frame ∷ [])) number ∙ last_length accepted pending.frame)
 
 -- its words are among the bytes that it takes
-word_fits : (sizes : Sizes) (pending : PendingOffer) (at : ℕ) → IsQueue sizes → pending.lengths pending.number ≡ length pending.frame → length pending.frame ≤ sizes.mtu + 18 → at < (length pending.frame + 3) / 4 → at < footprint_of sizes (length pending.frame) / 4
-word_fits sizes pending at queue long most lt = let placed = frames_lem.placed sizes pending.lengths pending.number queue in let holds = subst (λ n. n ≤ sizes.mtu + 18 → 4 * ((n + 3) / 4) ≤ footprint_of sizes n) long placed.holds in let h = holds most in omega arith
+word_fits : (sizes : Sizes) (pending : PendingOffer) (at : ℕ) → IsQueue sizes → pending.lengths pending.number ≡ length pending.frame → length pending.frame ≤ sizes.mtu + FRAME_OVERHEAD → at < (length pending.frame + 3) / 4 → at < footprint_of sizes (length pending.frame) / 4
+word_fits sizes pending at queue long most lt = let placed = frames_lem.placed sizes pending.lengths pending.number queue in let holds = subst (λ n. n ≤ sizes.mtu + FRAME_OVERHEAD → 4 * ((n + 3) / 4) ≤ footprint_of sizes n) long placed.holds in let h = holds most in omega arith
 
 -- an access to a session word begins no call and stores nothing in the region
 quiet_writes : (was : List ℕ) (d : MemoryOp CallAccess) → IsQuiet d → unless_begun was d ++ words_of (access_of d) ≡ was

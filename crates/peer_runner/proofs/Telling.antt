@@ -1,12 +1,13 @@
 -- What the lines of a running peer record of its end, its sessions and its doorbells is what its
 -- turns leave.
 use Rattle.std.proofs.Common.{◌≡◌, ◌≢◌, ℕ, zero, suc, ⊎_elim, Bool, true, false, List, [], ◌∷◌, ◌++◌, refl, sym, ap, ◌∙◌, subst}
-use Rattle.std.specs.Prelude.{Some, None, ◌==◌, not, nat_le, if◌then◌else◌, map}
+use Rattle.std.specs.Prelude.{Some, None, ◌==◌, not, nat_le, if◌then◌else◌, map, ◌%◌}
 use Rattle.std.specs.Int.{bit_at}
 use Rattle.split_ring.specs.declared.steps.Access.{Access}
 use Rattle.split_ring.specs.declared.steps.Access.TheVariants as access
 use Rattle.split_ring.specs.declared.ranges.FieldName.TheVariants as field_name
 use Rattle.split_ring.specs.Layout.{size_of}
+use Rattle.split_ring.specs.Ranges.{is_avail_index}
 use Rattle.split_ring.specs.Spelling.{low_half, high_half}
 use Rattle.call_grammar.specs.Steps.{Mark, value_given, Saw, Reclaim, Full, Accept, Look, Deliver, Over}
 use Rattle.call_grammar.specs.Steps as mark
@@ -303,7 +304,7 @@ still_step p event first n t config v value place still free = absurd (clash (sy
 -- a step of a turn that is no State step with 3
 told_step : (p event : ℕ) (config : EndConfig) (first : Bool) (n : Numbers) (t : RecordReader) (v value : ℕ) (place : Place) → TurnAsks first t.asked place → ((state : ℕ) → access_at config place ≡ access.State state → (state == 3) ≡ false) →
     Steps event n t (reader_after_lines event t (lines_of p first (access_at config place) v (marks_at config place value))) (access_at config place) (marks_at config place value)
-told_step p event config first n t v value (ReadingAvailIndex taken last) asks never = look_step p event first n t _ v (published_by taken value) (high_half value) last (nat_le (published_by taken value) (size_of config.sizes)) asks.0
+told_step p event config first n t v value (ReadingAvailIndex taken last) asks never = look_step p event first n t _ v (published_by taken value) (high_half value) last (is_avail_index config.sizes (taken % 65536) (high_half value)) asks.0
 told_step p event config first n t v value (ReadingAvailEvent number) asks never = event_step p event first (wants_doorbell (low_half value) number) n t _ v
 told_step p event config first n t v value (WritingState state) asks never = state_step p event first n t state v (never state refl)
 told_step p event config first n t v value Refusing asks never = state_step p event first n t 0 v refl

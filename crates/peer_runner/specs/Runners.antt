@@ -1,6 +1,7 @@
 -- An automatic peer between two turns, as the code steps it: its place in the open call, where the
 -- own record has what is left of it.
 use Rattle.std.specs.Prelude.{ℕ, ◌≡◌, ◌+◌, ◌<◌, ◌≤◌, ◌==◌, ◌&&◌, not, Bool, true, false, if◌then◌else◌, Option, Some, None, All, List, [], ◌∷◌, ◌++◌, length, map}
+use Rattle.split_ring.specs.declared.sizes.TheConstants.{FRAME_OVERHEAD, SHORTEST_FRAME}
 use Rattle.split_ring.specs.declared.steps.Access.{Access}
 use Rattle.split_ring.specs.declared.steps.Access.TheVariants as access
 use Rattle.section_map.specs.Geometry.{word_count}
@@ -43,7 +44,7 @@ use Rattle.doorbell_irq.specs.declared.route.Route.{Route}
 
 -- a frame that may be offered: 14 to MTU + 18 bytes
 abbrev pub IsFrame : ℕ → List ℕ → Type 0
-IsFrame mtu frame = (14 ≤ length frame) × (length frame ≤ mtu + 18) × All (λ byte. byte < 256) frame
+IsFrame mtu frame = (SHORTEST_FRAME ≤ length frame) × (length frame ≤ mtu + FRAME_OVERHEAD) × All (λ byte. byte < 256) frame
 
 -- A runner:
 -- * `end`: its end;

@@ -1,12 +1,13 @@
 -- A doorbell that a running peer asked for is rung: what two honest ends keep between them of what
 -- one asks for and what the other missed.
 use Rattle.std.proofs.Common.{◌≡◌, ◌≢◌, ℕ, zero, suc, ◌+◌, ◌-◌, ◌≤◌, ◌⊎◌, inl, inr, ⊎_elim, Bool, true, false, List, [], ◌∷◌, ◌++◌, length, length-append, refl, sym, ap, ◌∙◌, subst, arith, eq-eqb, ne_eqb}
-use Rattle.std.specs.Prelude.{◌==◌, nat_le, if◌then◌else◌, Contains}
+use Rattle.std.specs.Prelude.{◌==◌, nat_le, if◌then◌else◌, Contains, ◌%◌}
 use Rattle.std.proofs.lemmas.List.Elements.{Contains-append_cases}
 use Rattle.split_ring.specs.declared.steps.Access.{Access}
 use Rattle.split_ring.specs.declared.steps.Access.TheVariants as access
 use Rattle.split_ring.specs.Layout.{has_events, size_of}
-use Rattle.split_ring.specs.Spelling.{low_half, high_half}
+use Rattle.split_ring.specs.Ranges.{is_avail_entry, is_desc_address, is_desc_length, is_avail_index, is_desc_flags, is_used_id, is_used_index}
+use Rattle.split_ring.specs.Spelling.{low_half, high_half, desc_flags}
 use Rattle.split_ring.specs.declared.ranges.FieldName.TheVariants as field_name
 use Rattle.link_handshake.specs.declared.Move.{Move}
 use Rattle.link_handshake.specs.declared.Move.TheVariants.{Stay, Set, ClearThenSet}
@@ -17,7 +18,7 @@ use Rattle.call_grammar.specs.Calls.{EndConfig, Call, Tick, Stop, Offer, Poll, i
 use Rattle.call_grammar.specs.Ticks.{tick_marks}
 use Rattle.call_grammar.specs.Words.{words_for, address_of, frame_in}
 use Rattle.call_grammar.specs.Offers.{PendingOffer, frame_fits, wants_doorbell, refusal, full_marks, returned_by, reclaim_marks, used_index_marks, used_id_marks, descriptor_of}
-use Rattle.call_grammar.specs.Polls.{is_entry, is_address, is_length, entry_in, published_by, is_last, look_marks}
+use Rattle.call_grammar.specs.Polls.{entry_in, published_by, is_last, look_marks}
 use Rattle.shared_words.specs.DerivedStates.{FrameNumber, DoorbellRequest, Nowhere, Written, At, request_after_access, lapsed, request_after_look, request_after_mark, request_after_marks, missed_by, Wake, wake_after}
 use Rattle.call_grammar.specs.Places.{Place, Closed, ReadingOtherState, Clearing, WritingState, Refusing, NotInRun, ReadingUsedIndex, ReadingUsedId, WritingFrameWord, WritingAvailIndex, ReadingAvailEvent, RingingOffer, ReadingAvailIndex, WritingAvailEvent, ReadingAvailEntry, ReadingDescAddressLow, ReadingDescAddressHigh, ReadingDescLength, ReadingDescFlags, ReadingFrameWord, WritingUsedIndex, RingingPoll, first_place, access_at, next_place, marks_at, step_at, is_open, clear_place, tick_place, fill_place, ids_place, none_place, items_place, words_place}
 
@@ -52,11 +53,11 @@ plain_full : (config : EndConfig) (pending : PendingOffer) (freed : ℕ) → IsP
 plain_full config pending freed = plain_if (frame_fits config pending freed) [] (Full ∷ []) tt tt
 
 plain_used : (config : EndConfig) (pending : PendingOffer) (freed value : ℕ) → IsPlain (used_index_marks config pending freed value)
-plain_used config pending freed value = let d = returned_by freed value in plain_if (nat_le d (pending.number - freed)) (reclaim_marks config pending freed d) (refusal field_name.UsedIndex (high_half value))
+plain_used config pending freed value = let d = returned_by freed value in plain_if (is_used_index (freed % 65536) (high_half value) (pending.number - freed)) (reclaim_marks config pending freed d) (refusal field_name.UsedIndex (high_half value))
     (plain_if (d == 0) (Reclaim 0 ∷ full_marks config pending freed) (Reclaim d ∷ []) (no_look_if (frame_fits config pending freed) [] (Full ∷ []) tt tt) tt) tt
 
 plain_id : (config : EndConfig) (pending : PendingOffer) (freed more value : ℕ) → IsPlain (used_id_marks config pending freed more value)
-plain_id config pending freed more value = plain_if (value == descriptor_of config freed) (if more == 0 then full_marks config pending (freed + 1) else []) (refusal field_name.UsedId value)
+plain_id config pending freed more value = plain_if (is_used_id (descriptor_of config freed) value) (if more == 0 then full_marks config pending (freed + 1) else []) (refusal field_name.UsedId value)
     (plain_if (more == 0) (full_marks config pending (freed + 1)) [] (plain_full config pending (freed + 1)) tt) tt
 
 -- marks without a look, one after another
@@ -119,10 +120,10 @@ plain_marks config RingingOffer value is ne = absurd (ne refl)
 plain_marks config (ReadingOtherState handshake) value is ne = plain_tick value (move_of handshake value)
 plain_marks config (ReadingUsedIndex pending freed) value is ne = plain_used config pending freed value
 plain_marks config (ReadingUsedId pending freed more) value is ne = plain_id config pending freed more value
-plain_marks config (ReadingAvailEntry number more) value is ne = plain_if (is_entry config.sizes (entry_in config number value)) [] (refusal field_name.AvailEntry (entry_in config number value)) tt tt
-plain_marks config (ReadingDescAddressHigh number more entry low) value is ne = plain_if (is_address config.sizes (address_of low value)) [] (refusal field_name.DescAddress (address_of low value)) tt tt
-plain_marks config (ReadingDescLength number more entry address) value is ne = plain_if (is_length config.sizes address value) [] (refusal field_name.DescLength value) tt tt
-plain_marks config (ReadingDescFlags number more entry address bytes) value is ne = plain_if (low_half value == 0) [] (refusal field_name.DescFlags (low_half value)) tt tt
+plain_marks config (ReadingAvailEntry number more) value is ne = plain_if (is_avail_entry config.sizes (entry_in config number value)) [] (refusal field_name.AvailEntry (entry_in config number value)) tt tt
+plain_marks config (ReadingDescAddressHigh number more entry low) value is ne = plain_if (is_desc_address config.sizes (address_of low value)) [] (refusal field_name.DescAddress (address_of low value)) tt tt
+plain_marks config (ReadingDescLength number more entry address) value is ne = plain_if (is_desc_length config.sizes address value) [] (refusal field_name.DescLength value) tt tt
+plain_marks config (ReadingDescFlags number more entry address bytes) value is ne = plain_if (is_desc_flags (desc_flags value)) [] (refusal field_name.DescFlags (desc_flags value)) tt tt
 plain_marks config (ReadingFrameWord number more entry address bytes read words) value is ne = plain_if (words == 0) (Deliver (frame_in bytes (read ++ value ∷ [])) ∷ []) [] tt tt
 plain_marks config place value is ne = tt
 
@@ -191,14 +192,14 @@ next_still config (ReadingAvailIndex taken last) value is = absurd (cc)
 next_still config (WritingAvailEvent taken) value is = absurd (cc)
 next_still config (ReadingOtherState handshake) value is = tick_still config (move_of handshake value)
 next_still config (Clearing at more state) value is = clear_still (at + 1) more state
-next_still config (ReadingUsedIndex pending freed) value is = let d = returned_by freed value in still_if (nat_le d (pending.number - freed)) (ids_place config pending freed d) Refusing (ids_still config pending freed d) refl
-next_still config (ReadingUsedId pending freed more) value is = still_if (value == descriptor_of config freed) (ids_place config pending (freed + 1) more) Refusing (ids_still config pending (freed + 1) more) refl
+next_still config (ReadingUsedIndex pending freed) value is = let d = returned_by freed value in still_if (is_used_index (freed % 65536) (high_half value) (pending.number - freed)) (ids_place config pending freed d) Refusing (ids_still config pending freed d) refl
+next_still config (ReadingUsedId pending freed more) value is = still_if (is_used_id (descriptor_of config freed) value) (ids_place config pending (freed + 1) more) Refusing (ids_still config pending (freed + 1) more) refl
 next_still config (WritingFrameWord pending at more) value is = fill_still pending (at + 1) more
 next_still config (ReadingAvailEvent number) value is = still_if (wants_doorbell (low_half value) number) RingingOffer Closed refl refl
-next_still config (ReadingAvailEntry number more) value is = let e = entry_in config number value in still_if (is_entry config.sizes e) (ReadingDescAddressLow number more e) Refusing refl refl
-next_still config (ReadingDescAddressHigh number more entry low) value is = let x = address_of low value in still_if (is_address config.sizes x) (ReadingDescLength number more entry x) Refusing refl refl
-next_still config (ReadingDescLength number more entry address) value is = still_if (is_length config.sizes address value) (ReadingDescFlags number more entry address value) Refusing refl refl
-next_still config (ReadingDescFlags number more entry address bytes) value is = still_if (low_half value == 0) (words_place number more entry address bytes [] (words_for bytes)) Refusing (words_still number more entry address bytes [] (words_for bytes)) refl
+next_still config (ReadingAvailEntry number more) value is = let e = entry_in config number value in still_if (is_avail_entry config.sizes e) (ReadingDescAddressLow number more e) Refusing refl refl
+next_still config (ReadingDescAddressHigh number more entry low) value is = let x = address_of low value in still_if (is_desc_address config.sizes x) (ReadingDescLength number more entry x) Refusing refl refl
+next_still config (ReadingDescLength number more entry address) value is = still_if (is_desc_length config.sizes address value) (ReadingDescFlags number more entry address value) Refusing refl refl
+next_still config (ReadingDescFlags number more entry address bytes) value is = still_if (is_desc_flags (desc_flags value)) (words_place number more entry address bytes [] (words_for bytes)) Refusing (words_still number more entry address bytes [] (words_for bytes)) refl
 next_still config (ReadingFrameWord number more entry address bytes read words) value is = words_still number more entry address bytes (read ++ value ∷ []) words
 next_still config (WritingUsedIndex number more) value is = items_still (number + 1) more
 next_still config place value is = refl
@@ -303,7 +304,7 @@ has_tick value (Set state) = tt
 has_tick value (ClearThenSet state) = tt
 
 has_used : (config : EndConfig) (pending : PendingOffer) (freed value : ℕ) → HasMark (used_index_marks config pending freed value)
-has_used config pending freed value = let d = returned_by freed value in has_if (nat_le d (pending.number - freed)) (reclaim_marks config pending freed d) (refusal field_name.UsedIndex (high_half value))
+has_used config pending freed value = let d = returned_by freed value in has_if (is_used_index (freed % 65536) (high_half value) (pending.number - freed)) (reclaim_marks config pending freed d) (refusal field_name.UsedIndex (high_half value))
     (has_if (d == 0) (Reclaim 0 ∷ full_marks config pending freed) (Reclaim d ∷ []) tt tt) tt
 
 look_has : (last : Bool) (d : ℕ) → HasMark (look_marks last d)
@@ -338,18 +339,18 @@ module _ (config : EndConfig) (Stands : ℕ → Type 0) (event : ℕ) (n m : Fra
   asks_on Stood Refusing armed asks = free_after m w.asked Over []
   asks_on Stood NotInRun armed asks = asks
   asks_on Stood (ReadingUsedIndex pending freed) armed asks = by_mark (ReadingUsedIndex pending freed) (has_free m w.asked _ (has_used config pending freed value))
-  asks_on Stood (ReadingUsedId pending freed zero) armed asks = id_asks Stands m w.asked pending value (frame_fits config pending (freed + 1)) (value == descriptor_of config freed)
-  asks_on Stood (ReadingUsedId pending freed (suc more)) armed asks = asks_if Stands _ (value == descriptor_of config freed) (ReadingUsedId pending (freed + 1) more) Refusing tt tt
+  asks_on Stood (ReadingUsedId pending freed zero) armed asks = id_asks Stands m w.asked pending value (frame_fits config pending (freed + 1)) (is_used_id (descriptor_of config freed) value)
+  asks_on Stood (ReadingUsedId pending freed (suc more)) armed asks = asks_if Stands _ (is_used_id (descriptor_of config freed) value) (ReadingUsedId pending (freed + 1) more) Refusing tt tt
   asks_on Stood (WritingFrameWord pending at more) armed asks = fill_asks Stands _ pending (at + 1) more
   asks_on Stood (WritingAvailIndex pending) armed asks = by_mark (WritingAvailIndex pending) (free_after m (request_after_access event w.asked (access_at config (WritingAvailIndex pending))) (Accept pending.frame) [])
   asks_on Stood (ReadingAvailEvent number) armed asks = by_mark (ReadingAvailEvent number) (event_asked m w.asked (wants_doorbell (low_half value) number) asks)
   asks_on Stood RingingOffer armed asks = asks
-  asks_on Stood (ReadingAvailIndex taken last) armed asks = by_mark (ReadingAvailIndex taken last) (has_free m w.asked _ (has_if (nat_le (published_by taken value) (size_of config.sizes)) (look_marks last (published_by taken value)) (refusal field_name.AvailIndex (high_half value)) (look_has last (published_by taken value)) tt))
+  asks_on Stood (ReadingAvailIndex taken last) armed asks = by_mark (ReadingAvailIndex taken last) (has_free m w.asked _ (has_if (is_avail_index config.sizes (taken % 65536) (high_half value)) (look_marks last (published_by taken value)) (refusal field_name.AvailIndex (high_half value)) (look_has last (published_by taken value)) tt))
   asks_on Stood (WritingAvailEvent taken) armed asks = λ e. armed taken refl
-  asks_on Stood (ReadingAvailEntry number more) armed asks = let e = entry_in config number value in asks_if Stands _ (is_entry config.sizes e) (ReadingDescAddressLow number more e) Refusing tt tt
-  asks_on Stood (ReadingDescAddressHigh number more entry low) armed asks = let x = address_of low value in asks_if Stands _ (is_address config.sizes x) (ReadingDescLength number more entry x) Refusing tt tt
-  asks_on Stood (ReadingDescLength number more entry address) armed asks = asks_if Stands _ (is_length config.sizes address value) (ReadingDescFlags number more entry address value) Refusing tt tt
-  asks_on Stood (ReadingDescFlags number more entry address bytes) armed asks = asks_if Stands _ (low_half value == 0) (words_place number more entry address bytes [] (words_for bytes)) Refusing (words_asks Stands _ number more entry address bytes [] (words_for bytes)) tt
+  asks_on Stood (ReadingAvailEntry number more) armed asks = let e = entry_in config number value in asks_if Stands _ (is_avail_entry config.sizes e) (ReadingDescAddressLow number more e) Refusing tt tt
+  asks_on Stood (ReadingDescAddressHigh number more entry low) armed asks = let x = address_of low value in asks_if Stands _ (is_desc_address config.sizes x) (ReadingDescLength number more entry x) Refusing tt tt
+  asks_on Stood (ReadingDescLength number more entry address) armed asks = asks_if Stands _ (is_desc_length config.sizes address value) (ReadingDescFlags number more entry address value) Refusing tt tt
+  asks_on Stood (ReadingDescFlags number more entry address bytes) armed asks = asks_if Stands _ (is_desc_flags (desc_flags value)) (words_place number more entry address bytes [] (words_for bytes)) Refusing (words_asks Stands _ number more entry address bytes [] (words_for bytes)) tt
   asks_on Stood (ReadingFrameWord number more entry address bytes read words) armed asks = words_asks Stands _ number more entry address bytes (read ++ value ∷ []) words
   asks_on Stood (WritingUsedIndex number more) armed asks = by_mark (WritingUsedIndex number more) (free_after m (request_after_access event w.asked (access_at config (WritingUsedIndex number more))) Return [])
   asks_on Stood RingingPoll armed asks = asks
@@ -425,7 +426,7 @@ event_empty false = λ x. x
 
 pub asked_from : (config : EndConfig) (event : ℕ) (n m f : FrameNumber) (value : ℕ) (w : Wake) (place : Place) → (wake_after event n m w (access_at config place) (marks_at config place value)).asked ≡ At f →
     ((w.asked ≡ At f) × LeavesEvent event (access_at config place)) ⊎ IsNew m value f w.asked place
-asked_from config event n m f value w (ReadingAvailIndex taken last) e = ⊎_elim (λ h. inl (h, tt)) (λ h. inr (taken, last, refl, look_empty last (nat_le (published_by taken value) (size_of config.sizes)) (published_by taken value) (high_half value) h.1, h.0, h.2))
+asked_from config event n m f value w (ReadingAvailIndex taken last) e = ⊎_elim (λ h. inl (h, tt)) (λ h. inr (taken, last, refl, look_empty last (is_avail_index config.sizes (taken % 65536) (high_half value)) (published_by taken value) (high_half value) h.1, h.0, h.2))
     (marks_from m f w.asked (marks_at config (ReadingAvailIndex taken last) value) e)
 asked_from config event n m f value w (WritingState state) e = inl (access_from event n m f w (access.State state) (Over ∷ []) (λ x. x) e)
 asked_from config event n m f value w Refusing e = inl (access_from event n m f w (access.State 0) (Over ∷ []) (λ x. x) e)
@@ -460,7 +461,7 @@ pub missed_from : (config : EndConfig) (event : ℕ) (n m f : FrameNumber) (valu
 missed_from config event n m f value w (WritingState state) c = inl c
 missed_from config event n m f value w Refusing c = inl c
 missed_from config event n m f value w (ReadingAvailEvent number) c = ⊎_elim (λ h. inl h) (λ h. inr (number, refl, h.0, h.1)) (event_missed n w.missed (wants_doorbell (low_half value) number) f c)
-missed_from config event n m f value w (ReadingAvailIndex taken last) c = inl (subst (λ l. Contains l f) (looked_missed n w.missed (published_by taken value) (high_half value) last (nat_le (published_by taken value) (size_of config.sizes))) c)
+missed_from config event n m f value w (ReadingAvailIndex taken last) c = inl (subst (λ l. Contains l f) (looked_missed n w.missed (published_by taken value) (high_half value) last (is_avail_index config.sizes (taken % 65536) (high_half value))) c)
 missed_from config event n m f value w place c = inl (subst (λ l. Contains l f) (kept_missed config event n m w place value refl) c)
 
 -- Where it rings
@@ -510,15 +511,15 @@ pub rings_from : (config : EndConfig) (place : Place) (value : ℕ) → has_even
 rings_from config (ReadingAvailEvent number) value ev goes e = (number, refl, if_rings (wants_doorbell (low_half value) number) e)
 rings_from config (ReadingOtherState handshake) value ev goes e = absurd (tick_rings config (move_of handshake value) e)
 rings_from config (Clearing at more state) value ev goes e = absurd (clear_rings (at + 1) more state e)
-rings_from config (ReadingUsedIndex pending freed) value ev goes e = let d = returned_by freed value in absurd (rings_if (nat_le d (pending.number - freed)) (ids_place config pending freed d) Refusing (ids_rings config pending freed d) (λ x. cc) e)
-rings_from config (ReadingUsedId pending freed more) value ev goes e = absurd (rings_if (value == descriptor_of config freed) (ids_place config pending (freed + 1) more) Refusing (ids_rings config pending (freed + 1) more) (λ x. cc) e)
+rings_from config (ReadingUsedIndex pending freed) value ev goes e = let d = returned_by freed value in absurd (rings_if (is_used_index (freed % 65536) (high_half value) (pending.number - freed)) (ids_place config pending freed d) Refusing (ids_rings config pending freed d) (λ x. cc) e)
+rings_from config (ReadingUsedId pending freed more) value ev goes e = absurd (rings_if (is_used_id (descriptor_of config freed) value) (ids_place config pending (freed + 1) more) Refusing (ids_rings config pending (freed + 1) more) (λ x. cc) e)
 rings_from config (WritingFrameWord pending at more) value ev goes e = absurd (fill_rings pending (at + 1) more e)
 rings_from config (WritingAvailIndex pending) value ev goes e = let at : ReadingAvailEvent pending.number ≡ RingingOffer = sym (ap (λ (b : Bool). if b then ReadingAvailEvent pending.number else RingingOffer) ev) ∙ e in absurd (cc)
-rings_from config (ReadingAvailIndex taken last) value ev goes e = absurd (look_rings taken (published_by taken value) last (nat_le (published_by taken value) (size_of config.sizes)) e)
-rings_from config (ReadingAvailEntry number more) value ev goes e = let x = entry_in config number value in absurd (rings_if (is_entry config.sizes x) (ReadingDescAddressLow number more x) Refusing (λ y. cc) (λ y. cc) e)
-rings_from config (ReadingDescAddressHigh number more entry low) value ev goes e = let x = address_of low value in absurd (rings_if (is_address config.sizes x) (ReadingDescLength number more entry x) Refusing (λ y. cc) (λ y. cc) e)
-rings_from config (ReadingDescLength number more entry address) value ev goes e = absurd (rings_if (is_length config.sizes address value) (ReadingDescFlags number more entry address value) Refusing (λ y. cc) (λ y. cc) e)
-rings_from config (ReadingDescFlags number more entry address bytes) value ev goes e = absurd (rings_if (low_half value == 0) (words_place number more entry address bytes [] (words_for bytes)) Refusing (words_rings number more entry address bytes [] (words_for bytes)) (λ y. cc) e)
+rings_from config (ReadingAvailIndex taken last) value ev goes e = absurd (look_rings taken (published_by taken value) last (is_avail_index config.sizes (taken % 65536) (high_half value)) e)
+rings_from config (ReadingAvailEntry number more) value ev goes e = let x = entry_in config number value in absurd (rings_if (is_avail_entry config.sizes x) (ReadingDescAddressLow number more x) Refusing (λ y. cc) (λ y. cc) e)
+rings_from config (ReadingDescAddressHigh number more entry low) value ev goes e = let x = address_of low value in absurd (rings_if (is_desc_address config.sizes x) (ReadingDescLength number more entry x) Refusing (λ y. cc) (λ y. cc) e)
+rings_from config (ReadingDescLength number more entry address) value ev goes e = absurd (rings_if (is_desc_length config.sizes address value) (ReadingDescFlags number more entry address value) Refusing (λ y. cc) (λ y. cc) e)
+rings_from config (ReadingDescFlags number more entry address bytes) value ev goes e = absurd (rings_if (is_desc_flags (desc_flags value)) (words_place number more entry address bytes [] (words_for bytes)) Refusing (words_rings number more entry address bytes [] (words_for bytes)) (λ y. cc) e)
 rings_from config (ReadingFrameWord number more entry address bytes read words) value ev goes e = absurd (words_rings number more entry address bytes (read ++ value ∷ []) words e)
 rings_from config (WritingUsedIndex number more) value ev goes e = absurd (items_rings (number + 1) more e)
 rings_from config place value ev goes e = absurd (cc)
@@ -554,7 +555,7 @@ grows config end place value ne = let same = ap length (stated_accepted end (acc
 pub bound_on : (config : EndConfig) (end : End) (place : Place) (value k : ℕ) → access_at config place ≢ access.State 2 → k + 1 + unpublished place ≤ length end.accepted →
     k + 1 + unpublished (next_place config place value) ≤ length (end_after end (step_at config place value)).accepted
 bound_on config end (WritingAvailIndex pending) value k ne h = let n = length-append end.accepted (pending.frame ∷ []) in let most = pending_most (next_place config (WritingAvailIndex pending) value) in omega arith
-bound_on config end (ReadingAvailIndex taken last) value k ne h = let none = look_pending taken (published_by taken value) last (nat_le (published_by taken value) (size_of config.sizes)) in let more = grows config end (ReadingAvailIndex taken last) value ne in omega arith
+bound_on config end (ReadingAvailIndex taken last) value k ne h = let none = look_pending taken (published_by taken value) last (is_avail_index config.sizes (taken % 65536) (high_half value)) in let more = grows config end (ReadingAvailIndex taken last) value ne in omega arith
 bound_on config end (WritingAvailEvent taken) value k ne h = omega arith
 bound_on config end place value k ne h = let none = still_pending (next_place config place value) (next_still config place value refl) in let more = grows config end place value ne in omega arith
 

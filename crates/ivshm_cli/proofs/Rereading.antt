@@ -4,9 +4,10 @@ use Rattle.std.proofs.lemmas.Bool.{le-ltb, ltb-false}
 use Rattle.std.specs.Prelude.{Some, MatchBool, false}
 use Rattle.scenario_text.specs.Spelling as scenario
 use Rattle.line_format.specs.Machine.{Wrong}
+use Rattle.line_format.specs.Texts.{said}
 use Rattle.record_text.specs.declared.faults.RecordCause.{RecordCause}
 use Rattle.record_text.specs.declared.faults.RecordFault.{RecordFault}
-use Rattle.record_text.specs.Judge.{Part, reading, faulted, record_in, answer_in}
+use Rattle.record_text.specs.Judge.{Part, reading, record_in, sense}
 use Rattle.record_text.specs.Spelling.{Record, IsSpelling}
 use Rattle.record_text.proofs.BackLaws.{Reads, is_read}
 use Rattle.record_sizes.specs.Sizes.{RecordsAreWithinLimit}
@@ -22,7 +23,7 @@ use Rattle.ivshm_cli.specs.Whole.{WrittenRecordsReplayAsSame}
 use Rattle.ivshm_cli.proofs.Replaying.{not_both, unlawful_of, record_unrefused, unrefused}
 
 -- Bytes that are read as a record spell it.
-spelled_by : (bytes : List ℕ) (r : Record) (said : Result Part (Wrong RecordCause)) → reading bytes ≡ said → answer_in (faulted said) ≡ Ok r → IsSpelling r bytes
+spelled_by : (bytes : List ℕ) (r : Record) (result : Result Part (Wrong RecordCause)) → reading bytes ≡ result → said sense result ≡ Ok r → IsSpelling r bytes
 spelled_by bytes r (Err wrong) is answered = absurd (cc)
 spelled_by bytes r (Ok part) is answered = elim (is_read bytes part is) [
   | Reads version world lines whole spelled ↦

@@ -56,6 +56,12 @@
  *     memset do what C says.
  *  9. The archive fits the code that calls it: a kernel or a hypervisor in ring 0 links the form of
  *     tools/c_library --device --kernel, which uses neither the red zone nor vector registers.
+ * 10. With one process for each guest, each process has a handle of its own, made with the same
+ *     arguments, and makes all calls of its guest. Of each other guest it makes at least
+ *     ivshm_device_reset, _disconnect and _connect, and the writes of a word to State, or to the
+ *     Doorbell with its own guest as the target. It makes these calls in that guest's order. Of an
+ *     effect it carries out the deliveries to its own guest, and the State word of its own guest.
+ *     The handle answers for its own guest only. docs/DEVICE_C.md says how a process begins later.
  *
  * STACK. A call uses at most IVSHM_DEVICE_STACK bytes of stack, without what memcpy, memmove,
  * memset, rattle_alloc and rattle_dealloc use. checks/c_device measures each call.

@@ -2,3 +2,4 @@ pub mod Words
 pub mod Answering
 pub mod Pushed
 pub mod Accesses
+pub mod AppliedEvents

@@ -3,3 +3,4 @@ pub mod Statuses
 pub mod Crossing
 pub mod Windows
 pub mod Answers
+pub mod Apart

@@ -9,6 +9,8 @@
 //! - Each export makes one call of `doorbell_irq`, and its contract cites that crate's definitions:
 //!   for every list of events of which the device is the state.
 //! - All arguments are tested, except the pointers that a program in C passes.
+//! - Processes with one guest each have a handle each. `processes_apart_are_the_device` says which
+//!   calls of other guests a process needs.
 // tested: The header's match with the library, the stack of each call, and test vectors made by
 //    `ivshm sim` (`checks/c_device`). The program above the library is in C, and no proof covers
 //    it: `c/ivshm_device.h` says what it owes.
@@ -20,9 +22,11 @@ mod device_state;
 mod entry_list;
 mod exports;
 mod handle;
+mod laws;
 mod peer_devices;
 mod status;
 mod window;
 
 pub use crossing::{Access, Effect, Message, Route, World};
 pub use handle::DeviceHandle;
+pub use laws::processes_apart_are_the_device;

@@ -1,7 +1,9 @@
-/* device_random PEERS VECTORS EVENTS SEED RECORD: guests that access their devices at random, over
- * the device library, with a record of all that the library answered (device_record.h). Some
- * deliveries are lost in flight. `ivshm replay` says `same` of each such record: what answered
- * and what judges are two proved programs.
+/* device_random PEERS VECTORS CALLS SEED RECORD: guests that access their devices at random, over
+ * the device library, with a record of all that the library answered (device_record.h). Windows,
+ * offsets, widths and peers may be any. What the device ignores or refuses is no line of a record,
+ * so this program checks that it reads 0, or changes nothing and has no effect. Some deliveries are
+ * lost in flight. `ivshm replay` says `same` of each such record: what answered and what judges are
+ * two proved programs.
  *
  *     cc -O2 -o device_random device_random.c heap.c LIB    with tools/c_library --device */
 #include <stdlib.h>
@@ -12,7 +14,7 @@
 
 enum { TABLE = 4096, OUT = 16384 };
 
-static uint64_t generator;
+static uint64_t generator, calls;
 static ivshm_device device = IVSHM_DEVICE_NONE;
 static struct device_record record;
 
@@ -23,10 +25,14 @@ static uint32_t draw(void) {
     return (uint32_t)(generator >> 16);
 }
 
-static void must(uint32_t status, const char *what) {
-    if (status == IVSHM_DEVICE_DONE) return;
-    fprintf(stderr, "device_random: %s: status %u\n", what, status);
+static void fail(const char *what, uint32_t status) {
+    fprintf(stderr, "device_random: call %llu: %s: status %u\n", (unsigned long long)calls, what, status);
     exit(1);
+}
+
+static void must(uint32_t status, const char *what) {
+    calls++;
+    if (status != IVSHM_DEVICE_DONE) fail(what, status);
 }
 
 static void record_effect(const ivshm_effect *effect) {
@@ -40,7 +46,7 @@ static void record_effect(const ivshm_effect *effect) {
 /* An offset that has something, most of the time. */
 static uint32_t draw_offset(uint32_t window, uint32_t vectors) {
     static const uint8_t fields[] = {0, 4, 6, 0x10, 0x14, 0x34, 0x3c, 0x3d, 0x40, 0x43, 0x44, 0x58, 0x5c, 0x60, 0x62, 0x64};
-    if (draw() % 8 == 0) return draw() % 4200;
+    if (draw() % 8 == 0) return draw() % 2 ? draw() : draw() % 4200;
     switch (window) {
     case IVSHM_WINDOW_CONFIG: return fields[draw() % sizeof fields];
     case IVSHM_WINDOW_REGISTERS: return draw() % 6 * 4;
@@ -66,9 +72,15 @@ static ivshm_window_access draw_access(uint32_t peers, uint32_t vectors) {
     return access;
 }
 
+/* Whether the device ignores an access. */
+static bool is_ignored(const ivshm_window_access *access) {
+    return device_record_unit(access->window, access->offset, access->width) == 0;
+}
+
 static void make_write(uint32_t peer, ivshm_window_access access) {
     ivshm_effect effect;
     must(ivshm_device_mmio_write(&device, peer, &access, &effect), "write");
+    if (is_ignored(&access) && (effect.writes_state || effect.count)) fail("an ignored write has an effect", 0);
     device_record_write(&record, peer, access.window, access.offset, access.width, access.value);
     record_effect(&effect);
 }
@@ -79,7 +91,23 @@ static void make_access(uint32_t peer, ivshm_window_access access) {
         return;
     }
     must(ivshm_device_mmio_read(&device, peer, &access), "read");
+    if (is_ignored(&access) && access.value) fail("an ignored read is not 0", 0);
     device_record_read(&record, peer, access.window, access.offset, access.width, access.value);
+}
+
+/* An access with a peer, a window or a width that isn't there. */
+static void make_refused(uint32_t peer, uint32_t peers, ivshm_window_access access) {
+    const uint64_t value = access.value;
+    ivshm_effect effect = {.count = 99};
+    uint32_t status, due = IVSHM_DEVICE_BAD_ACCESS;
+    switch (draw() % 3) {
+    case 0: peer = peers + draw() % (UINT32_MAX - peers), due = IVSHM_DEVICE_BAD_PEER; break;
+    case 1: access.window = 3 + draw() % (UINT32_MAX - 3), due = IVSHM_DEVICE_BAD_WINDOW; break;
+    default: access.width = draw() % 2 ? 8 + draw() % 1000 * 8 + 1 : draw() % 3 * 3;
+    }
+    calls++;
+    status = draw() % 2 ? ivshm_device_mmio_read(&device, peer, &access) : ivshm_device_mmio_write(&device, peer, &access, &effect);
+    if (status != due || access.value != value || effect.count != 99) fail("a wrong access isn't refused", status);
 }
 
 /* What a driver does, so that interrupts come: each is as likely left out. */
@@ -113,12 +141,14 @@ int main(int argc, char **argv) {
     generator = strtoull(argv[4], NULL, 10) * 0x9e3779b97f4a7c15u + 1;
     must(ivshm_device_new(&device, peers, world.table, world.common, world.out, vectors), "new");
     if (!device_record_begin(&record)) return 1;
-    for (uint64_t n = strtoull(argv[3], NULL, 10); n > 0; n--) {
+    for (const uint64_t most = strtoull(argv[3], NULL, 10); calls < most;) {
         uint32_t peer = draw() % peers;
         if (draw() % 500 == 0) begin_anew(peer);
         else if (draw() % 50 == 0) enable(peer, vectors);
+        else if (draw() % 16 == 0) make_refused(peer, peers, draw_access(peers, vectors));
         else make_access(peer, draw_access(peers, vectors));
     }
     must(ivshm_device_free(&device), "free");
+    if (record.full) fail("the record is full", 0);
     return device_record_end(&record, argv[5], &world) ? 0 : 1;
 }

@@ -77,6 +77,8 @@
  *  - A status other than IVSHM_DEVICE_DONE changes neither the devices nor what a pointer leads to.
  *  - Every value that is read, every effect and every state of the devices is that of the device's
  *    rules after all calls since that one.
+ *  - With one process for each guest, all this holds of a handle and its own guest as if the handle
+ *    had every event of every guest, in the order of its calls (duty 10).
  *  - Every call ends.
  *
  * WHAT IS TRUSTED: this header's match with the library, what the hypervisor does with an effect,

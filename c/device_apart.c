@@ -83,6 +83,25 @@ static bool needs(uint32_t peer, const struct event *event) {
     return access->offset == DOORBELL && (uint32_t)access->value >> 16 == peer && WRONG != 2;
 }
 
+/* Whether the call of its window has an access as ivshm_device_mmio_write has it. */
+static bool is_direct(const ivshm_window_access *access) {
+    uint32_t width = access->width;
+    if (access->window == IVSHM_WINDOW_CONFIG)
+        return (width == 1 || width == 2 || width == 4) && access->offset % width == 0 && access->offset < IVSHM_DEVICE_CONFIG_BYTES;
+    return access->window <= IVSHM_WINDOW_MSIX && width == 4;
+}
+
+static uint32_t write_directly(ivshm_device *device, uint32_t peer, const ivshm_window_access *access, ivshm_effect *effect) {
+    uint32_t value = (uint32_t)access->value;
+    switch (access->window) {
+    case IVSHM_WINDOW_CONFIG:
+        return ivshm_device_config_write(device, peer, (uint16_t)access->offset, (uint16_t)access->width, value);
+    case IVSHM_WINDOW_REGISTERS: return ivshm_device_register_write(device, peer, access->offset, value, effect);
+    default: return ivshm_device_msix_write(device, peer, access->offset, value);
+    }
+}
+
+/* Makes the call of an event; a write may have two calls, and either is made. */
 static uint32_t apply(ivshm_device *device, const struct event *event, ivshm_effect *effect) {
     memset(effect, 0, sizeof *effect);
     switch (event->kind) {
@@ -91,6 +110,7 @@ static uint32_t apply(ivshm_device *device, const struct event *event, ivshm_eff
     case CONNECTS: return ivshm_device_connect(device, event->peer);
     case WRITES: break;
     }
+    if (is_direct(&event->access) && drawn() % 2) return write_directly(device, event->peer, &event->access, effect);
     return ivshm_device_mmio_write(device, event->peer, &event->access, effect);
 }
 

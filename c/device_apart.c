@@ -58,6 +58,12 @@ static uint32_t drawn(void) {
     return (uint32_t)(generator >> 16);
 }
 
+/* Two numbers, in one order for every compiler. */
+static uint64_t drawn_pair(uint32_t high_below, uint32_t low_below, unsigned shift) {
+    uint64_t high = drawn() % high_below;
+    return high << shift | drawn() % low_below;
+}
+
 /* Ends the program if the process of a peer and the device of all peers differ. */
 static void must(bool agrees, const struct apart *apart, uint32_t peer, const char *what) {
     if (agrees) return;
@@ -187,10 +193,10 @@ static uint32_t drawn_offset(uint32_t window, uint32_t vectors) {
 }
 
 static uint64_t drawn_value(const ivshm_device_world *world, uint32_t window, uint32_t offset) {
-    uint64_t any = (uint64_t)drawn() << 32 | drawn();
+    uint64_t any = drawn_pair(UINT32_MAX, UINT32_MAX, 32);
     if (drawn() % 8 == 0) return any;
     if (window != IVSHM_WINDOW_REGISTERS) return any & 0x8007;
-    if (offset == DOORBELL) return (uint64_t)(drawn() % (world->peers + 1)) << 16 | drawn() % (world->vectors + 1);
+    if (offset == DOORBELL) return drawn_pair(world->peers + 1, world->vectors + 1, 16);
     return any % 4;
 }
 
@@ -279,7 +285,8 @@ static void play_world(uint32_t peers, uint32_t vectors) {
     }
     for (uint32_t n = 0; n < EVENTS; n++) {
         static const enum kind lives[] = {RESETS, DISCONNECTS, CONNECTS, CONNECTS};
-        struct event event = {WRITES, drawn() % 32 ? drawn() % peers : drawn(), drawn_access(&apart.world)};
+        struct event event = {.kind = WRITES, .access = drawn_access(&apart.world)};
+        event.peer = drawn() % 32 ? drawn() % peers : drawn();
         if (drawn() % 64 == 0) event.kind = lives[drawn() % 4];
         play(&apart, &event);
         if (drawn() % 16 == 0) set_up(&apart, drawn() % peers);

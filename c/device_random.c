@@ -54,11 +54,17 @@ static uint32_t draw_offset(uint32_t window, uint32_t vectors) {
     }
 }
 
+/* Two numbers, in one order for every compiler. */
+static uint64_t draw_pair(uint32_t high_below, uint32_t low_below, unsigned shift) {
+    uint64_t high = draw() % high_below;
+    return high << shift | draw() % low_below;
+}
+
 /* Numbers of peers and vectors, States, bits that are enabled, and others. */
 static uint64_t draw_value(uint32_t window, uint32_t offset, uint32_t peers, uint32_t vectors) {
-    if (draw() % 6 == 0) return (uint64_t)draw() << 32 | draw();
+    if (draw() % 6 == 0) return draw_pair(UINT32_MAX, UINT32_MAX, 32);
     if (window == IVSHM_WINDOW_MSIX) return draw() % 2;
-    if (window == IVSHM_WINDOW_REGISTERS && offset == 12) return (uint64_t)(draw() % (peers + 1)) << 16 | draw() % (vectors + 1);
+    if (window == IVSHM_WINDOW_REGISTERS && offset == 12) return draw_pair(peers + 1, vectors + 1, 16);
     if (window == IVSHM_WINDOW_REGISTERS) return draw() % 4;
     return offset == 4 ? draw() % 8 : offset == 0x62 ? 0x8000 : draw() & 0xffff;
 }

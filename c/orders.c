@@ -48,26 +48,26 @@ struct word {
 };
 
 /* What a doorbell announces: the frames that its peer accepted in its session, and those that it
- * returned of the session that it attends. */
-struct news { uint32_t session, accepted, attended, returned; };
+ * returned of the session to which it is attached. */
+struct announcement { uint32_t session, accepted, attached, returned; };
 
 struct peer {
     ivshm_end end;
     struct view view;
     struct view carried;        /* by the doorbells whose interrupt isn't delivered yet */
-    struct news rung, heard;    /* the news of the last doorbell rung, and of the last delivered */
+    struct announcement sent, received; /* by the last doorbell rung, and by the last delivered */
     bool due;                   /* an interrupt is due */
     uint32_t freed, returned;   /* its frames found returned; the other's frames returned */
     uint32_t me, own, theirs, ready, accepted[SESSIONS]; /* sessions of its own so far; frames in
                                                           * each */
-    uint32_t attended, taken, last;                      /* the other's session, its frames
+    uint32_t attached, taken, last;                      /* the other's session, its frames
                                                           * delivered, the one before */
     uint8_t offered[300];                                /* the frame of its open offer, and its length */
     size_t length;
     bool reading;                                        /* its last step read words of a frame */
     bool fencing, fenced;                                /* a full fence is due after its last
                                                           * access, or was made before the next */
-    bool rests, silent[FLIGHT];                          /* its last poll found nothing; the frames
+    bool idle, no_doorbell[FLIGHT];                      /* its last poll found nothing; the frames
                                                           * that didn't ring */
 };
 
@@ -77,10 +77,11 @@ static struct peer peers[2];
 static ivshm_words layout;
 static enum row without;
 static uint32_t version = 1;
-static uint64_t generator, delivered, sessions, rests, silences, rings;
-static uint32_t resets, ticks; /* one step of this number is a reset, or one call a Tick: drawn for
-                                * each run */
-static uint32_t hears;         /* one step of this number delivers a due interrupt; 0 means none */
+static uint64_t generator, delivered, sessions, idle_polls, skipped, rings;
+static uint32_t reset_every, tick_every; /* one step of this number is a reset, or one call a Tick:
+                                          * drawn for each run */
+static uint32_t interrupt_every;         /* one step of this number delivers a due interrupt; 0
+                                          * means none */
 static const char *wrong;
 
 static uint32_t draw(uint32_t below) {
@@ -144,7 +145,7 @@ static size_t make(uint8_t *frame, uint32_t from, uint32_t session, uint32_t num
 }
 
 /* Checks a delivered frame. `room` has all its words, if these were read at once. */
-static void take(struct peer *p, const uint32_t *room) {
+static void check_delivered(struct peer *p, const uint32_t *room) {
     uint8_t frame[300], expected[300];
     size_t length = 0;
     uint32_t session, number;
@@ -154,9 +155,9 @@ static void take(struct peer *p, const uint32_t *room) {
     memcpy(&session, frame + 6, 4);
     memcpy(&number, frame + 10, 4);
     delivered++;
-    if (p->taken == 0) p->attended = session;
+    if (p->taken == 0) p->attached = session;
     if (length != make(expected, 1 - p->me, session, number) || memcmp(frame, expected, length)) wrong = "a frame was delivered that was never offered";
-    else if (session != p->attended || session <= p->last) wrong = "a frame of another session was delivered";
+    else if (session != p->attached || session <= p->last) wrong = "a frame of another session was delivered";
     else if (number != p->taken) wrong = "a frame was lost, or delivered again";
     else if (session > peers[1 - p->me].ready || number >= peers[1 - p->me].accepted[session]) wrong = "a frame was delivered before it was accepted";
     p->taken++;
@@ -166,58 +167,58 @@ static void take(struct peer *p, const uint32_t *room) {
 static void ring(const struct peer *p, bool release) {
     struct peer *other = &peers[1 - p->me];
     if (release) join(&other->carried, &p->view);
-    other->rung = (struct news){p->ready, p->ready ? p->accepted[p->ready] : 0, p->taken ? p->attended : 0, p->returned};
+    other->sent = (struct announcement){p->ready, p->ready ? p->accepted[p->ready] : 0, p->taken ? p->attached : 0, p->returned};
     other->due = true;
 }
 
 /* Delivers the interrupt, in a step of its own. */
-static void hear(struct peer *p) {
+static void interrupt(struct peer *p) {
     join(&p->view, &p->carried);
-    p->heard = p->rung;
+    p->received = p->sent;
     p->due = false;
     rings++;
 }
 
 /* Checks a look that found `found` frames: it must find those that a doorbell announced, if the
- * doorbell's session is the one attended. */
+ * doorbell's session is the attached one. */
 static void look(struct peer *p, uint64_t found) {
-    p->rests = false;
-    if (p->taken && p->heard.session == p->attended && p->taken + found < p->heard.accepted) wrong = "a doorbell came before the frame that it announces";
+    p->idle = false;
+    if (p->taken && p->received.session == p->attached && p->taken + found < p->received.accepted) wrong = "a doorbell came before the frame that it announces";
 }
 
 /* Counts `found` more returned frames of an offer. */
 static void reclaim(struct peer *p, uint64_t found) {
     p->freed += (uint32_t)found;
-    if (p->ready && p->heard.attended == p->ready && p->freed < p->heard.returned) wrong = "a doorbell came before the slot that it announces";
+    if (p->ready && p->received.attached == p->ready && p->freed < p->received.returned) wrong = "a doorbell came before the slot that it announces";
 }
 
-/* Checks a peer that rests at this frame of the other's session: the frame must ring. The session
- * that the peer attends is known after its first frame. */
-static void wake(const struct peer *resting, const struct peer *other, uint32_t number) {
-    bool same = resting->rests && resting->taken == number && number > 0 && resting->attended == other->ready;
-    if (same && number < other->accepted[other->ready] && other->silent[number % FLIGHT]) wrong = "a doorbell was lost";
+/* Checks a peer that is idle at this frame of the other's session: the frame must ring. The session
+ * to which the peer is attached is known after its first frame. */
+static void wake(const struct peer *waiting, const struct peer *other, uint32_t number) {
+    bool same = waiting->idle && waiting->taken == number && number > 0 && waiting->attached == other->ready;
+    if (same && number < other->accepted[other->ready] && other->no_doorbell[number % FLIGHT]) wrong = "a doorbell was lost";
 }
 
 /* Ends a poll that found nothing. */
-static void rest(struct peer *p) {
-    p->rests = true;
-    rests++;
+static void end_idle_poll(struct peer *p) {
+    p->idle = true;
+    idle_polls++;
     wake(p, &peers[1 - p->me], p->taken);
 }
 
 /* Ends an offer that didn't ring. */
-static void keep_silent(struct peer *p) {
+static void skip_doorbell(struct peer *p) {
     uint32_t number = p->accepted[p->ready] - 1;
-    p->silent[number % FLIGHT] = true;
-    silences++;
+    p->no_doorbell[number % FLIGHT] = true;
+    skipped++;
     wake(&peers[1 - p->me], p, number);
 }
 
 /* Stores the end's State: at READY a session begins. */
-static void enter(struct peer *p, uint32_t state) {
-    p->rests = false;
+static void store_state(struct peer *p, uint32_t state) {
+    p->idle = false;
     if (state != IVSHM_READY) return;
-    if (p->taken) p->last = p->attended;
+    if (p->taken) p->last = p->attached;
     p->taken = p->freed = p->returned = 0;
     p->accepted[++p->ready] = 0;
     sessions++;
@@ -240,19 +241,19 @@ static bool fences_at(const ivshm_access *access) {
 }
 
 /* Handles the notes of a step. */
-static void heed(struct peer *p, const ivshm_access *access, const ivshm_notes *notes, const uint32_t *room) {
+static void follow_notes(struct peer *p, const ivshm_access *access, const ivshm_notes *notes, const uint32_t *room) {
     bool at_event = access->kind == IVSHM_READ && access->word == p->theirs + layout.available_event;
     for (uint32_t i = 0; i < notes->count; i++) {
         uint32_t kind = notes->note[i].kind;
         if (kind == IVSHM_REFUSE) wrong = "an honest peer was refused";
-        if (kind == IVSHM_DELIVER) take(p, room);
+        if (kind == IVSHM_DELIVER) check_delivered(p, room);
         if (kind == IVSHM_LOOK) look(p, notes->note[i].value);
         if (kind == IVSHM_RECLAIM) reclaim(p, notes->note[i].value);
         if (kind == IVSHM_RETURN) p->returned++;
-        if (kind == IVSHM_FINISH && access->kind == IVSHM_READ) rest(p);
-        if (kind == IVSHM_OVER && at_event) keep_silent(p);
+        if (kind == IVSHM_FINISH && access->kind == IVSHM_READ) end_idle_poll(p);
+        if (kind == IVSHM_OVER && at_event) skip_doorbell(p);
         if (kind == IVSHM_ACCEPT) {
-            p->silent[p->accepted[p->ready] % FLIGHT] = false;
+            p->no_doorbell[p->accepted[p->ready] % FLIGHT] = false;
             p->accepted[p->ready]++;
         }
     }
@@ -260,7 +261,7 @@ static void heed(struct peer *p, const ivshm_access *access, const ivshm_notes *
 
 /* Writes all words of an offer before its index to the room. For a part of the frames the words of
  * the frame are taken from the frame itself. */
-static bool tell_before_index(struct peer *p, ivshm_burst bursts[3], uint32_t *room, size_t bytes) {
+static bool words_before_index(struct peer *p, ivshm_burst bursts[3], uint32_t *room, size_t bytes) {
     uint8_t tail[20];
     if (p->length / 4 % 2) return ivshm_end_bursts(&p->end, bursts, (uint8_t *)room, bytes) == IVSHM_DONE;
     if (ivshm_end_tail(&p->end, bursts, tail, sizeof tail) != IVSHM_DONE) return false;
@@ -275,7 +276,7 @@ static bool tell_before_index(struct peer *p, ivshm_burst bursts[3], uint32_t *r
  * or the frame first. */
 static bool step_before_index(struct peer *p, uint32_t *room, size_t bytes) {
     ivshm_burst bursts[3];
-    if (!tell_before_index(p, bursts, room, bytes)) return false;
+    if (!words_before_index(p, bursts, room, bytes)) return false;
     uint32_t first[3] = {0, bursts[0].count, bursts[0].count + bursts[1].count};
     bool backwards = draw(2);
     for (int k = 0; k < 3; k++) {
@@ -320,13 +321,13 @@ static void step(struct peer *p) {
         if (access.kind == IVSHM_WRITE) store(p, access.word, access.value, ordered);
         if (access.kind == IVSHM_STATE) {
             store(p, p->me, access.value, ordered);
-            enter(p, access.value);
+            store_state(p, access.value);
         }
         if (access.kind == IVSHM_RING) ring(p, ordered);
         ivshm_end_took(&p->end, value, &notes);
     }
     p->fencing = access.fence_after && fences_at(&access);
-    heed(p, &access, &notes, whole ? room : NULL);
+    follow_notes(p, &access, &notes, whole ? room : NULL);
 }
 
 static void offer(struct peer *p) {
@@ -336,7 +337,7 @@ static void offer(struct peer *p) {
 
 static void begin(struct peer *p) {
     uint32_t which = draw(100);
-    if (draw(ticks) == 0) ivshm_end_begin(&p->end, IVSHM_TICK);
+    if (draw(tick_every) == 0) ivshm_end_begin(&p->end, IVSHM_TICK);
     else if (which < 50) ivshm_end_begin(&p->end, IVSHM_POLL);
     else if (which < 99) offer(p);
     else ivshm_end_begin(&p->end, IVSHM_STOP);
@@ -355,20 +356,20 @@ static void run(uint32_t steps) {
         *p = (struct peer){.me = me, .own = layout.first + me * layout.words, .theirs = layout.first + (1 - me) * layout.words};
         if (ivshm_end_new_version(&p->end, &found, 2, me, MTU, 1, version) != IVSHM_DONE) abort();
     }
-    resets = 20u << draw(6);
-    ticks = 1 + draw(4);
-    hears = draw(4) ? 0 : 2u << draw(6);
+    reset_every = 20u << draw(6);
+    tick_every = 1 + draw(4);
+    interrupt_every = draw(4) ? 0 : 2u << draw(6);
     for (uint32_t i = 0; i < steps && !wrong; i++) {
         struct peer *p = &peers[draw(2)];
         ivshm_access access;
         if (p->fencing) {
             fence(p);
             p->fencing = false;
-        } else if (hears && p->due && draw(hears) == 0) {
-            hear(p);
-        } else if (draw(resets) == 0) {
+        } else if (interrupt_every && p->due && draw(interrupt_every) == 0) {
+            interrupt(p);
+        } else if (draw(reset_every) == 0) {
             ivshm_end_reset(&p->end);
-            p->fenced = p->rests = false;
+            p->fenced = p->idle = false;
         } else if (ivshm_end_next(&p->end, &access) == IVSHM_DONE) step(p);
         else begin(p);
     }
@@ -402,6 +403,6 @@ int main(int argc, char **argv) {
         return 1;
     }
     printf("without %s: %" PRIu64 " runs, %" PRIu64 " sessions, %" PRIu64 " frames delivered, %" PRIu64 " polls that found nothing, %" PRIu64
-           " frames that didn't ring, %" PRIu64 " interrupts, nothing wrong\n", rows[without], runs, sessions, delivered, rests, silences, rings);
+           " frames that didn't ring, %" PRIu64 " interrupts, nothing wrong\n", rows[without], runs, sessions, delivered, idle_polls, skipped, rings);
     return 0;
 }

@@ -54,8 +54,8 @@ static void store(struct end *end, uint32_t word, uint32_t value) {
   note(end, 'w', end->me * WORDS + word, value);
 }
 
-/* one frame: what the other returned is freed; then the data words, the descriptor, the entry and
- * the index are written */
+/* Offers one frame: frees what the other returned, then writes the data words, the descriptor, the
+ * entry and the index. Returns 0 if no descriptor is free. */
 static int offer(struct end *end) {
   uint32_t returned = look(1 - end->me, USED);
   if (end->offered - end->freed == IN_FLIGHT && returned == end->freed) return 0;
@@ -72,7 +72,7 @@ static int offer(struct end *end) {
   return 1;
 }
 
-/* the new frames: entry, descriptor and data of each, and its return */
+/* Takes the new frames: reads entry, descriptor and data of each, and returns it. */
 static int poll(struct end *end) {
   uint32_t other = 1 - end->me;
   uint32_t index = look(other, AVAILABLE);
@@ -106,11 +106,11 @@ static void print(struct end *end) {
     printf("%c %u %u %u\n", (int)end->list[k].kind, end->me, end->list[k].word, end->list[k].value);
 }
 
-int main(int count, char **words_given) {
-  if (count != 4) return 2;
-  frames = (uint32_t)strtoul(words_given[1], NULL, 10);
-  bytes = (uint32_t)strtoul(words_given[2], NULL, 10);
-  both = (uint32_t)strtoul(words_given[3], NULL, 10);
+int main(int argc, char **argv) {
+  if (argc != 4) return 2;
+  frames = (uint32_t)strtoul(argv[1], NULL, 10);
+  bytes = (uint32_t)strtoul(argv[2], NULL, 10);
+  both = (uint32_t)strtoul(argv[3], NULL, 10);
   if (!frames || bytes < 14 || bytes > 4 * SLOT) return 2;
   struct end first = {.me = 0, .offers = frames, .expects = both ? frames : 0};
   struct end second = {.me = 1, .offers = both ? frames : 0, .expects = frames};

@@ -82,8 +82,8 @@ static void ivshm_net_follow(struct ivshm_net *n)
 
 /*
  * In one-shot mode each interrupt takes Interrupt Control away, and what comes
- * until it is set again is dropped: so it is set before the look that finds
- * what came meanwhile.
+ * until it is set again is dropped: so a poll has to follow that finds what
+ * came meanwhile.
  */
 static void ivshm_net_arm(struct ivshm_net *n)
 {
@@ -164,6 +164,10 @@ static int ivshm_net_receive(struct ivshm_net *n, int budget)
 	return done;
 }
 
+/*
+ * Interrupts stay off until NAPI is done with polling, by its timer too
+ * (napi_defer_hard_irqs, gro_flush_timeout).
+ */
 static int ivshm_net_poll(struct napi_struct *napi, int budget)
 {
 	struct ivshm_net *n = container_of(napi, struct ivshm_net, napi);
@@ -172,8 +176,6 @@ static int ivshm_net_poll(struct napi_struct *napi, int budget)
 	int done;
 
 	__skb_queue_head_init(&came);
-	if (xchg(&n->unarmed, false))
-		ivshm_net_arm(n);
 	spin_lock(&n->lock);
 	done = ivshm_net_receive(n, budget);
 	ivshm_net_send_waiting(n);
@@ -183,8 +185,10 @@ static int ivshm_net_poll(struct napi_struct *napi, int budget)
 		skb->protocol = eth_type_trans(skb, n->net);
 		napi_gro_receive(napi, skb);
 	}
-	if (done < budget)
-		napi_complete_done(napi, done);
+	if (done < budget && napi_complete_done(napi, done) && xchg(&n->unarmed, false)) {
+		ivshm_net_arm(n);
+		napi_schedule(napi);
+	}
 	return done;
 }
 

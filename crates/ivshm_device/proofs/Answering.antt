@@ -1,14 +1,10 @@
 -- Answers with their causes.
-use Rattle.std.proofs.Common.{◌≡◌, ℕ, sym, ◌∙◌, subst, Option, Some, None}
+use Rattle.std.proofs.Common.{◌≡◌, sym, ◌∙◌, subst, Option, Some, None}
 use Rattle.ivshm_device.specs.declared.crossing.World.{World}
 use Rattle.ivshm_device.specs.declared.device_state.DeviceState.{DeviceState}
 use Rattle.ivshm_device.specs.declared.status.Status.{Status}
 use Rattle.ivshm_device.specs.declared.status.Status.TheVariants.{Done, HasDevice}
-use Rattle.ivshm_device.specs.Answers.{Leads, IfDone, IsNew, RefusesNew, MakesAnswered, made, has_device, refused}
-
--- the devices of a handle take their step
-pub leads : (step : DeviceState → DeviceState → Type 0) (old new : Option DeviceState) (a b : DeviceState) → old ≡ Some a → new ≡ Some b → step a b → Leads old step new
-leads step old new a b is was s = subst (λ p. Leads p step new) (sym is) (subst (λ p. Leads (Some a) step p) (sym was) s)
+use Rattle.ivshm_device.specs.Answers.{IfDone, IsNew, RefusesNew, MakesAnswered, made, has_device, refused}
 
 -- a call is done
 pub done : (status : Status) (step rest : Type 0) → status ≡ Done → step → IfDone status step rest

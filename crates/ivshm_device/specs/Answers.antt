@@ -31,12 +31,6 @@ abbrev pub answer_at : Option DeviceState → (DeviceState → Status) → Statu
 answer_at None answer = NoDevice
 answer_at (Some state) answer = answer state
 
--- An empty handle stays empty. The devices of another handle take the step, and stay in the handle.
-abbrev pub Leads : Option DeviceState → (DeviceState → DeviceState → Type 0) → Option DeviceState → Type 0
-Leads None step None = Unit {0}
-Leads (Some old) step (Some new) = step old new
-Leads old step new = ⊥
-
 -- The first if the status is Done, else the second.
 abbrev pub IfDone : Status → Type 0 → Type 0 → Type 0
 IfDone Done step rest = step

@@ -1,5 +1,6 @@
 -- The values that cross to a program in C.
-use Rattle.std.specs.Prelude.{ℕ, ◌≡◌, ◌*◌, ◌+◌, Bool, true, false, length, take, is_some, unwrap_or}
+use Rattle.std.specs.Prelude.{ℕ, ◌≡◌, ◌*◌, ◌+◌, length, take, is_some, unwrap_or}
+use Rattle.core.specs.Int.{from_bool}
 use Rattle.pci_space.specs.declared.wiring.Wiring.{Wiring}
 use Rattle.doorbell_irq.specs.DeviceRules.{Bytes, msix_at}
 use Rattle.doorbell_irq.specs.declared.route.Route as device_route
@@ -8,21 +9,16 @@ use Rattle.ivshm_device.specs.declared.crossing.Effect.{Effect}
 use Rattle.ivshm_device.specs.declared.crossing.Message.{Message}
 use Rattle.ivshm_device.specs.declared.crossing.Route.{Route}
 
--- The number of a flag: 1 for true, 0 for false.
-abbrev pub flag : Bool → ℕ
-flag true = 1
-flag false = 0
-
 -- The struct has the effect: the State word, if one is written, and the deliveries.
 pub record CrossesEffect (effect : device_effect.Effect) (crossed : Effect) : Type 0 where
-  pub writes : crossed.writes_state ≡ flag (is_some effect.state)
+  pub writes : crossed.writes_state ≡ from_bool (is_some effect.state)
   pub state : crossed.state ≡ unwrap_or effect.state 0
   pub count : crossed.count ≡ length effect.deliveries.items
   pub deliveries : take (length effect.deliveries.items) crossed.deliveries ≡ effect.deliveries.items
 
 -- The struct of a route.
 abbrev pub route_crossed : device_route.Route → Route
-route_crossed route = record { vectors = route.vectors; intx = flag route.intx; one_shot = flag route.one_shot; enabled = flag route.enabled }
+route_crossed route = record { vectors = route.vectors; intx = from_bool route.intx; one_shot = from_bool route.one_shot; enabled = from_bool route.enabled }
 
 -- The message of an MSI-X entry with these words: Message Address, Message Upper Address, Message
 -- Data.

@@ -1,6 +1,6 @@
 //! The structs that cross to a program in C.
 ghost use Rattle.std.specs.Prelude.{◌≡◌, ◌≤◌, ◌<◌, ◌^◌, ◌*◌, ◌+◌, length};
-ghost use Rattle.ivshm_device.specs.Crossing.{flag, CrossesEffect, route_crossed, message_of};
+ghost use Rattle.ivshm_device.specs.Crossing.{CrossesEffect, route_crossed, message_of};
 
 use doorbell_irq::Delivery;
 
@@ -75,21 +75,14 @@ pub struct Access {
     pub width: u32,
 }
 
-/// Returns 1 for true and 0 for false.
-fn flag(value: bool) -> u32
-    ensures { result ≡ flag value }
-{
-    if value { 1 } else { 0 }
-}
-
 pub(crate) fn route_crossed(route: doorbell_irq::Route) -> Route
     ensures { result ≡ route_crossed route }
 {
     Route {
         vectors: route.vectors,
-        intx: flag(route.intx),
-        one_shot: flag(route.one_shot),
-        enabled: flag(route.enabled),
+        intx: u32::from(route.intx),
+        one_shot: u32::from(route.one_shot),
+        enabled: u32::from(route.enabled),
     }
 }
 
@@ -109,7 +102,7 @@ pub(crate) fn cross_effect(effect: &doorbell_irq::Effect, crossed: &mut Effect)
     ensures { CrossesEffect effect.now crossed.new }
 {
     let deliveries = effect.deliveries.as_slice();
-    crossed.writes_state = flag(effect.state.is_some());
+    crossed.writes_state = u32::from(effect.state.is_some());
     crossed.state = effect.state.unwrap_or(0);
     crossed.count = deliveries.len() as u32;
     crossed.deliveries[..deliveries.len()].copy_from_slice(deliveries);

@@ -19,9 +19,10 @@ pub struct DeviceHandle {
 }
 
 impl Model for DeviceHandle {
-    ghost use Rattle.ivshm_device.specs.Handle.{held};
+    ghost use Rattle.raw_box.specs.Handle.{held};
+    ghost use Rattle.ivshm_device.specs.contracts.device_state.DeviceState.{the_row};
 
-    ghost also_owns = { λ h. held h.at h.alloc h.state };
+    ghost also_owns = { λ h. held the_row h.at h.alloc h.state };
 }
 
 impl DeviceHandle {

@@ -1,6 +1,6 @@
 use Rattle.std.proofs.Common.{subst}
 use Rattle.ivshm_device.specs.Answers.{WritesConfig}
-use Rattle.ivshm_device.proofs.Answering.{leads}
+use Rattle.raw_box.proofs.Handles.{leads}
 use Rattle.ivshm_device.proofs.exports.ivshm_device_config_write.Goals as goal
 
 pub returns-clause-step : goal.returns-clause-step

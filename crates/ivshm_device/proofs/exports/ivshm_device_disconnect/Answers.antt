@@ -1,7 +1,7 @@
 use Rattle.std.proofs.Common.{subst}
 use Rattle.doorbell_irq.specs.Events.{WasDisconnected}
 use Rattle.ivshm_device.specs.Answers.{Acts}
-use Rattle.ivshm_device.proofs.Answering.{leads}
+use Rattle.raw_box.proofs.Handles.{leads}
 use Rattle.ivshm_device.proofs.exports.ivshm_device_disconnect.Goals as goal
 
 pub returns-clause-step : goal.returns-clause-step

@@ -1,4 +1,3 @@
-pub mod Words
 pub mod Answering
 pub mod Told
 pub mod Sessions

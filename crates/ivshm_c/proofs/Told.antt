@@ -9,7 +9,7 @@ use Rattle.split_ring.specs.declared.ranges.FieldName.TheVariants.{AvailIndex, A
 use Rattle.link_endpoint.specs.declared.order.Order.{Order}
 use Rattle.link_endpoint.specs.declared.order.Order.TheVariants.{Relaxed, Acquire, Release}
 use Rattle.link_endpoint.specs.declared.order.Ordering.{Ordering}
-use Rattle.ivshm_c.specs.Sizes.{flag}
+use Rattle.core.specs.Int.{from_bool}
 use Rattle.ivshm_c.specs.declared.crossing.Access as crossed_access
 use Rattle.ivshm_c.specs.declared.crossing.Note as crossed_note
 use Rattle.ivshm_c.specs.Crossing.{field_number, order_number, numbered, access_crossed, note_crossed, CrossingsHaveContracts}
@@ -42,7 +42,7 @@ order_is_back Release = refl
 abbrev flag_back : ℕ → Bool
 flag_back n = if n == 0 then false else true
 
-flag_is_back : (b : Bool) → flag_back (flag b) ≡ b
+flag_is_back : (b : Bool) → flag_back (from_bool b) ≡ b
 flag_is_back true = refl
 flag_is_back false = refl
 
@@ -51,8 +51,8 @@ ordering_back c = record { order = order_back c.order; fence_before = flag_back 
 
 numbers_back : (kind word value count : ℕ) (o : Ordering) → ordering_back (numbered kind word value count o) ≡ o
 numbers_back kind word value count o =
-    ap (λ (x : Order). let r : Ordering = record { order = x; fence_before = flag_back (flag o.fence_before); fence_after = flag_back (flag o.fence_after) } in r) (order_is_back o.order)
-    ∙ ap (λ (x : Bool). let r : Ordering = record { order = o.order; fence_before = x; fence_after = flag_back (flag o.fence_after) } in r) (flag_is_back o.fence_before)
+    ap (λ (x : Order). let r : Ordering = record { order = x; fence_before = flag_back (from_bool o.fence_before); fence_after = flag_back (from_bool o.fence_after) } in r) (order_is_back o.order)
+    ∙ ap (λ (x : Bool). let r : Ordering = record { order = o.order; fence_before = x; fence_after = flag_back (from_bool o.fence_after) } in r) (flag_is_back o.fence_before)
     ∙ ap (λ (x : Bool). let r : Ordering = record { order = o.order; fence_before = o.fence_before; fence_after = x } in r) (flag_is_back o.fence_after)
 
 ordering_is_back : (a : Access) (reads writes : ℕ) (o : Ordering) → ordering_back (access_crossed a reads writes o) ≡ o

@@ -27,13 +27,6 @@ abbrev pub answer_at : Option EndState → (EndState → Status) → Status
 answer_at None answer = NoEnd
 answer_at (Some port) answer = answer port
 
--- A handle without an end stays so. The end of another handle makes this step, and stays in the
--- handle.
-abbrev pub Leads : Option EndState → (EndState → EndState → Type 0) → Option EndState → Type 0
-Leads None step None = Unit {0}
-Leads (Some old) step (Some new) = step old new
-Leads old step new = ⊥
-
 -- If the answer is Done, the end makes the step. If not, nothing changes.
 abbrev pub Where : Status → Type 0 → Type 0 → Type 0
 Where Done step rest = step

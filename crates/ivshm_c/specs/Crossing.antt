@@ -27,7 +27,7 @@ use Rattle.ivshm_c.specs.declared.crossing.View.{View}
 use Rattle.ivshm_c.specs.declared.end_state.EndState.{EndState}
 use Rattle.ivshm_c.specs.declared.end_state.Outcome.{Outcome}
 use Rattle.ivshm_c.specs.declared.end_state.Outcome.TheVariants as outcome
-use Rattle.ivshm_c.specs.Sizes.{flag}
+use Rattle.core.specs.Int.{from_bool}
 
 -- The call with this number.
 abbrev pub call_numbered : ℕ → Option Call
@@ -63,8 +63,8 @@ numbered kind word value count ordering = record {
   value = value;
   count = count;
   order = order_number ordering.order;
-  fence_before = flag ordering.fence_before;
-  fence_after = flag ordering.fence_after;
+  fence_before = from_bool ordering.fence_before;
+  fence_after = from_bool ordering.fence_after;
 }
 
 -- An access with its order and the number of words of the burst that it begins.
@@ -133,7 +133,7 @@ view_of port = let end = port.endpoint in record {
   delivered = length (delivered end);
   refused_field = field_of end.refused;
   state = state_of end.phase;
-  busy = flag (is_busy end);
+  busy = from_bool (is_busy end);
   outcome = outcome_number port.outcome;
   longest = end.config.sizes.mtu + FRAME_OVERHEAD;
 }

@@ -1,4 +1,3 @@
-pub mod Handle
 pub mod Statuses
 pub mod Crossing
 pub mod Counts

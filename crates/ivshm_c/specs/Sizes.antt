@@ -1,6 +1,7 @@
 -- The description of a device and of a section that the C interface returns, and the sizes that it
 -- refuses.
-use Rattle.std.specs.Prelude.{ℕ, ◌≡◌, ◌+◌, ◌-◌, ◌%◌, min, Bool, true, false, unwrap_or, is_some, Result, Ok, Err}
+use Rattle.std.specs.Prelude.{ℕ, ◌≡◌, ◌+◌, ◌-◌, ◌%◌, min, unwrap_or, is_some, Result, Ok, Err}
+use Rattle.core.specs.Int.{from_bool}
 use Rattle.section_map.specs.declared.limits.TheConstants.{LARGEST_REGION}
 use Rattle.split_ring.specs.declared.sizes.TheConstants.{FRAME_OVERHEAD, LEAST_MTU, LONGEST_FRAME, MOST_MTU, SHORTEST_FRAME}
 use Rattle.section_map.specs.Geometry.{Shape, IsShape, section_start}
@@ -19,11 +20,6 @@ use Rattle.ivshm_c.specs.declared.status.Status.{Status}
 use Rattle.ivshm_c.specs.declared.status.Status.TheVariants.{Done}
 use Rattle.ivshm_c.specs.Statuses.{geometry_status, queue_status, capability_status}
 
--- The number of a flag: 1 for true, 0 for false.
-abbrev pub flag : Bool → ℕ
-flag true = 1
-flag false = 0
-
 abbrev pub no_msix : MsixFound
 no_msix = record { vectors = 0; table = 0; pending = 0 }
 
@@ -36,8 +32,8 @@ found_crossed found = let msix = unwrap_or found.msix no_msix in record {
   base = unwrap_or found.base 0;
   table = found.table;
   protocol = found.protocol;
-  one_shot = flag found.one_shot;
-  has_base = flag (is_some found.base);
+  one_shot = from_bool found.one_shot;
+  has_base = from_bool (is_some found.base);
   vectors = msix.vectors;
   vectors_bar = msix.table % 8;
   vectors_offset = msix.table - msix.table % 8;

@@ -153,8 +153,8 @@ pub(crate) fn access_crossed(
         value,
         count,
         order: order_number(ordering.order),
-        fence_before: if ordering.fence_before { 1 } else { 0 },
-        fence_after: if ordering.fence_after { 1 } else { 0 },
+        fence_before: u32::from(ordering.fence_before),
+        fence_after: u32::from(ordering.fence_after),
     }
 }
 
@@ -280,7 +280,7 @@ pub(crate) fn view_of(port: &EndState) -> View
         delivered: endpoint.delivered().len() as u64,
         refused_field: field_of(refused),
         state: state_of(endpoint.phase()),
-        busy: if endpoint.busy() { 1 } else { 0 },
+        busy: u32::from(endpoint.busy()),
         outcome: outcome_number(port.outcome),
         longest: endpoint.longest(),
     }

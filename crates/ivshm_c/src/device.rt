@@ -2,7 +2,7 @@
 ghost use Rattle.std.specs.Prelude.{◌≡◌, ◌+◌, ◌*◌, IfOk, IfErr, unwrap_or};
 ghost use Rattle.section_map.specs.Geometry.{IsShape};
 ghost use Rattle.split_ring.specs.Layout.{IsQueue, IsVersion};
-ghost use Rattle.ivshm_c.specs.Sizes.{flag, no_msix, found_crossed, shape_found, sizes_found, IsSizeFault, layout_of, longest_delivery};
+ghost use Rattle.ivshm_c.specs.Sizes.{no_msix, found_crossed, shape_found, sizes_found, IsSizeFault, layout_of, longest_delivery};
 
 use crate::status::{Status, geometry_status, queue_status};
 use pci_space::MsixFound;
@@ -65,13 +65,6 @@ pub struct Limits {
     pub largest_region: u32,
 }
 
-/// Returns the number of a flag: 1 or 0.
-fn flag(yes: bool) -> u32
-    ensures { result ≡ flag yes }
-{
-    if yes { 1 } else { 0 }
-}
-
 /// Returns MSI-X as a walk found it, without a vector if there is none.
 fn msix_of(found: Option<MsixFound>) -> MsixFound
     ensures { result ≡ unwrap_or found no_msix }
@@ -106,8 +99,8 @@ pub(crate) fn found_crossed(found: &pci_space::Found) -> Found
         base: base_of(found.base),
         table: found.table,
         protocol: u32::from(found.protocol),
-        one_shot: flag(found.one_shot),
-        has_base: flag(found.base.is_some()),
+        one_shot: u32::from(found.one_shot),
+        has_base: u32::from(found.base.is_some()),
         vectors: msix.vectors,
         vectors_bar: msix.table % 8,
         vectors_offset: msix.table - msix.table % 8,

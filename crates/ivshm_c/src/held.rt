@@ -18,9 +18,10 @@ pub struct End {
 }
 
 impl Model for End {
-    ghost use Rattle.ivshm_c.specs.Handle.{held};
+    ghost use Rattle.raw_box.specs.Handle.{held};
+    ghost use Rattle.ivshm_c.specs.contracts.end_state.EndState.{the_row};
 
-    ghost also_owns = { λ h. held h.at h.alloc h.port };
+    ghost also_owns = { λ h. held the_row h.at h.alloc h.port };
 }
 
 // The handle may be sent to another thread, because the end and the allocator may.

@@ -16,7 +16,7 @@ use Rattle.std.proofs.alloc.Global.TheSendSync as handle
 use Rattle.ivshm_c.specs.declared.end_state.EndState.{EndState}
 use Rattle.ivshm_c.specs.contracts.end_state.EndState as boxed
 use Rattle.ivshm_c.specs.contracts.counts.Counts as counts
-use Rattle.ivshm_c.specs.Handle.{held}
+use Rattle.raw_box.specs.Handle.{held}
 use Rattle.ivshm_c.specs.contracts.held.End.{the_row, the_type}
 
 -- Counts may be sent to another thread, because numbers may.
@@ -28,7 +28,7 @@ counts_sent =
 sent : IsSend boxed.the_row
 sent = recorded_send (boxed.the_field).row _ _ boxed.the_type.to_one (struct_send (plain_shape boxed.the_type) (endpoint_sent, (search sendable depth 16, (counts_sent, tt))))
 
-held_keyless : (at : Ptr) (alloc : Global) (port : Option EndState) → Keyless (held at alloc port)
+held_keyless : (at : Ptr) (alloc : Global) (port : Option EndState) → Keyless (held boxed.the_row at alloc port)
 held_keyless at alloc None = λ _. tt
 held_keyless at alloc (Some port) = (lies boxed.the_row sent at port, heap.frees.frees alloc (raw (lone boxed.the_row.mir)) at)
 

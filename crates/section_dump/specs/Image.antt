@@ -4,7 +4,9 @@ use Rattle.std.specs.Prelude.{◌≡◌, ℕ, ◌+◌, ◌*◌, List, take, drop
 use Rattle.byteorder.specs.Endian.{little_number}
 use Rattle.section_map.specs.Geometry.{Shape, IsShape, section_start, word_count}
 use Rattle.section_map.specs.Faults.{IsPages, IsSomePages, shape_of}
+use Rattle.split_ring.specs.declared.sizes.TheConstants.{LEAST_MTU}
 use Rattle.split_ring.specs.Layout.{Sizes}
+use Rattle.section_dump.specs.declared.images.TheConstants.{HEADER_LEN}
 
 -- The header's numbers: the peers, and in bytes the sizes of the State Table, of the common and of
 -- an output section.
@@ -26,7 +28,7 @@ shape_in image = shape_of (peers_in image) (table_in image) (common_in image) (o
 
 -- The header is complete and begins with `IVSHMIMG`.
 abbrev pub HasHeader : List ℕ → Type 0
-HasHeader image = (32 ≤ length image) × (take 8 image ≡ codes "IVSHMIMG")
+HasHeader image = (HEADER_LEN ≤ length image) × (take 8 image ≡ codes "IVSHMIMG")
 
 -- The sizes are those of a region.
 abbrev pub HasSizes : List ℕ → Type 0
@@ -34,7 +36,7 @@ HasSizes image = IsSomePages (table_in image) × IsPages (common_in image) × Is
 
 -- The length of an image with these sizes, in bytes.
 abbrev pub length_due : List ℕ → ℕ
-length_due image = 32 + 4 * word_count (shape_in image)
+length_due image = HEADER_LEN + 4 * word_count (shape_in image)
 
 -- The header, the sizes and the length are right.
 pub record IsImage (image : List ℕ) : Type 0 where
@@ -57,4 +59,4 @@ section_words image peer = words_from image (8 + section_start (shape_in image) 
 -- The sizes of the queue in a section. A listing doesn't depend on the MTU: the queue size, the
 -- rings and the ranges are the same for each.
 abbrev pub queue_in : List ℕ → Sizes
-queue_in image = record { version = 1; out = out_in image; mtu = 256 }
+queue_in image = record { version = 1; out = out_in image; mtu = LEAST_MTU }

@@ -1,5 +1,6 @@
 -- Laws of every image.
 use Rattle.std.specs.Prelude.{◌≡◌, ◌≢◌, ℕ, ◌<◌, ◌≤◌, List, length, take}
+use Rattle.section_dump.specs.declared.images.TheConstants.{HEADER_LEN}
 use Rattle.section_dump.specs.Image.{IsImage}
 use Rattle.section_dump.specs.Listing.{IsListing}
 use Rattle.section_dump.specs.Faults.{IsDumpFault}
@@ -20,8 +21,8 @@ ListingsAreOne = (image a b : List ℕ) → IsListing image a → IsListing imag
 
 -- Fewer than 32 bytes have no header.
 abbrev pub CutHeadersAreBad : Type 0
-CutHeadersAreBad = (image : List ℕ) (j : ℕ) → j < 32 → IsDumpFault (take j image) BadHeader
+CutHeadersAreBad = (image : List ℕ) (j : ℕ) → j < HEADER_LEN → IsDumpFault (take j image) BadHeader
 
 -- The first j bytes of an image, from 32 on, are too few: the fault has the image's length and j.
 abbrev pub CutImagesAreShort : Type 0
-CutImagesAreShort = (image : List ℕ) (j : ℕ) → IsImage image → 32 ≤ j → j < length image → IsDumpFault (take j image) (ShortImage (length image) j)
+CutImagesAreShort = (image : List ℕ) (j : ℕ) → IsImage image → HEADER_LEN ≤ j → j < length image → IsDumpFault (take j image) (ShortImage (length image) j)

@@ -5,10 +5,16 @@ ghost use Rattle.section_map.specs.Geometry.{IsShape};
 ghost use Rattle.section_dump.specs.Image.{HasHeader, words_from, peers_in, table_in, common_in, out_in};
 
 use byteorder::{ByteOrder, LittleEndian};
-use section_map::{Geometry, GeometryFault};
+use section_map::{Geometry, GeometryFault, LARGEST_REGION};
 
 /// The first bytes of an image.
 const MAGIC: [u8; 8] = *b"IVSHMIMG";
+
+/// The length in bytes of an image's header.
+pub const HEADER_LEN: u64 = 32;
+
+/// The greatest length in bytes of an image: the header and the largest region.
+pub const LONGEST_IMAGE: u64 = HEADER_LEN + LARGEST_REGION as u64;
 
 /// The sizes in the header of an image, in bytes.
 #[derive(Clone, Copy, Debug)]
@@ -30,7 +36,7 @@ impl Header {
           out = out_in image.now;
         }) }
     {
-        if image.len() < 32 || !image.starts_with(&MAGIC) {
+        if (image.len() as u64) < HEADER_LEN || !image.starts_with(&MAGIC) {
             return None;
         }
         Some(Header {
@@ -53,7 +59,7 @@ impl Header {
 
 /// Returns word `i` of the region, which comes after the header.
 pub fn region_word(image: &[u8], i: u32) -> u32
-    requires { 32 + 4 * i + 4 ≤ length image.now }
+    requires { HEADER_LEN + 4 * i + 4 ≤ length image.now }
     ensures { result ≡ words_from image.now 8 i }
 {
     LittleEndian::read_u32(&image[4 * (8 + i as usize)..])

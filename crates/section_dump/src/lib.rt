@@ -14,7 +14,7 @@
 //! - Words are numbered from the image's start, and the header is the first eight of them.
 //!   `section_words` gives the words of a peer's section.
 //! - The ranges and the queue's size don't depend on the MTU, which an image doesn't have. The
-//!   definitions and the code take an MTU of 256, for which a queue is refused exactly if no queue
+//!   definitions and the code take the least MTU, for which a queue is refused exactly if no queue
 //!   size fits.
 //! - `dump` reads each word of the rings and each frame once, directly from the image.
 // tested: `dump` succeeds with ample memory.
@@ -32,6 +32,7 @@ ghost use Rattle.section_dump.specs.Listing.{IsListing};
 ghost use Rattle.section_dump.specs.Faults.{IsDumpFault};
 
 use images::Header;
+pub use images::{HEADER_LEN, LONGEST_IMAGE};
 pub use laws::{cut_images_are_short, faults_are_exact, listings_are_one};
 use section_map::{Geometry, GeometryFault};
 use std::alloc::Global;
@@ -81,7 +82,7 @@ pub fn dump(alloc: Global, image: &[u8]) -> Result<Vec<u8>, DumpFault>
         Ok(geometry) => geometry,
         Err(fault) => return Err(DumpFault::Geometry(fault)),
     };
-    let need = 32 + 4 * u64::from(geometry.words());
+    let need = HEADER_LEN + 4 * u64::from(geometry.words());
     let found = image.len() as u64;
     if found < need {
         return Err(DumpFault::ShortImage { need, found });

@@ -6,12 +6,12 @@ ghost use Rattle.section_dump.specs.Image.{IsImage, words_from, region_words, sh
 ghost use Rattle.section_dump.specs.Lines.{Puts, line_of, text_of, Peers, Table, Common, Out, QueueSizes, End};
 ghost use Rattle.section_dump.specs.Listing.{IsItemLine, AreItemsOf, IsSection, AreTwoSections, state_lines, IsBody, IsListing};
 
-use crate::images::{Header, region_word};
+use crate::images::{HEADER_LEN, Header, region_word};
 use crate::lines;
 use crate::rings::Ring;
 use ivs_base::plus;
 use section_map::Geometry;
-use split_ring::{Queue, queue_size_is_greatest};
+use split_ring::{LEAST_MTU, Queue, queue_size_is_greatest};
 use std::alloc::{AllocError, Global};
 
 /// Appends the line of a position: the frame that is spelled there, or the first field that a poll
@@ -88,10 +88,10 @@ fn put_head(text: &mut String, header: &Header) -> Result<(), AllocError>
 fn queue_of(out: u64) -> Option<Queue>
     requires { out ≤ LARGEST_REGION }
     ensures size { MatchOption result (queue_size out ≡ None) (λ q. queue_size out ≡ Some (size_of q)) }
-    ensures queue { IfSome result (λ q. q ≡ record { version = 1; out = out; mtu = 256 }) }
+    ensures queue { IfSome result (λ q. q ≡ record { version = 1; out = out; mtu = LEAST_MTU }) }
 {
     queue_size_is_greatest();
-    Queue::of(out, 256).ok()
+    Queue::of(out, LEAST_MTU).ok()
 }
 
 /// Appends the line of the queue.
@@ -105,7 +105,7 @@ fn put_queue(text: &mut String, queue: &Queue) -> Result<(), AllocError>
 
 /// Appends the states of the peers below `peers`.
 fn put_states(text: &mut String, image: &[u8], peers: u32) -> Result<(), AllocError>
-    requires { 32 + 4 * peers ≤ length image.now }
+    requires { HEADER_LEN + 4 * peers ≤ length image.now }
     ensures { OnOk result (string_bytes text.new ≡ string_bytes text.old ++ text_of (state_lines (region_words image.now) peers)) }
 {
     for peer in 0..peers {

@@ -8,6 +8,7 @@ use Rattle.frame_capture.specs.declared.order.Order.{Order}
 use Rattle.frame_capture.specs.declared.order.Order.TheVariants.{Little, Big}
 use Rattle.frame_capture.specs.declared.packets.Packet.{Packet}
 use Rattle.frame_capture.specs.declared.packets.Capture.{Capture}
+use Rattle.frame_capture.specs.declared.reading.TheConstants.{LONGEST_CAPTURED}
 
 -- A number as `width` bytes.
 abbrev pub bytes_of : Order → (width number : ℕ) → List ℕ
@@ -54,11 +55,11 @@ pub record IsPacket (p : Packet) : Type 0 where
   pub seconds : p.seconds < 2 ^ 32
   pub micros : p.micros < 2 ^ 32
   pub original : p.original < 2 ^ 32
-  pub short : length p.frame ≤ 262144
+  pub short : length p.frame ≤ LONGEST_CAPTURED
 
 -- Each frame fits into a packet.
 abbrev pub AreShort : List Packet → Type 0
-AreShort ps = All (λ p. length p.frame ≤ 262144) ps
+AreShort ps = All (λ p. length p.frame ≤ LONGEST_CAPTURED) ps
 
 -- The bytes are a file of the capture, in one of the orders. Zone and figures may have any value.
 pub record IsCaptureFile (capture : Capture) (bytes : List ℕ) : Type 0 where

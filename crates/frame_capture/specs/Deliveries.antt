@@ -5,6 +5,7 @@ use Rattle.lawful_history.specs.declared.line.Line.{Line}
 use Rattle.lawful_history.specs.declared.line.Line.TheVariants.{Deliver}
 use Rattle.frame_capture.specs.declared.packets.Packet.{Packet}
 use Rattle.frame_capture.specs.declared.packets.Capture.{Capture}
+use Rattle.frame_capture.specs.declared.reading.TheConstants.{LONGEST_CAPTURED}
 
 -- The packet of a frame that line `number` delivers.
 abbrev pub packet_of : (number : ℕ) (frame : List ℕ) → Packet
@@ -22,9 +23,9 @@ packets_from peer number (line ∷ lines) = line_packets peer number line ++ pac
 
 -- The capture of a history.
 abbrev pub capture_of : (peer : ℕ) → List Line → Capture
-capture_of peer lines = record { snaplen = 262144; packets = packets_from peer 1 lines }
+capture_of peer lines = record { snaplen = LONGEST_CAPTURED; packets = packets_from peer 1 lines }
 
 -- A delivered frame fits into a packet.
 abbrev pub IsShortLine : Line → Type 0
-IsShortLine (Deliver receiver frame) = length frame ≤ 262144
+IsShortLine (Deliver receiver frame) = length frame ≤ LONGEST_CAPTURED
 IsShortLine _ = Unit {0}

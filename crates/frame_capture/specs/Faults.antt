@@ -5,6 +5,7 @@ use Rattle.frame_capture.specs.declared.order.Order.{Order}
 use Rattle.frame_capture.specs.declared.packets.Packet.{Packet}
 use Rattle.frame_capture.specs.declared.faults.CaptureFault.{CaptureFault}
 use Rattle.frame_capture.specs.declared.faults.CaptureFault.TheVariants.{Short, BadMagic, BadVersion, BadLinkType, BadPacket, CutPacket, NoMemory}
+use Rattle.frame_capture.specs.declared.reading.TheConstants.{HEADER_LEN, LONGEST_CAPTURED, PACKET_HEADER_LEN}
 use Rattle.frame_capture.specs.CaptureFile.{IsInOrder, number_at, packets_bytes, IsPacket}
 
 -- ---- the header
@@ -17,7 +18,7 @@ IsEthernet order bytes = number_at order 4 20 bytes ≡ 1
 
 -- The bytes have the length of a header and begin with the magic number.
 abbrev pub BeginsWell : Order → List ℕ → Type 0
-BeginsWell order bytes = (24 ≤ length bytes) × IsInOrder order bytes
+BeginsWell order bytes = (HEADER_LEN ≤ length bytes) × IsInOrder order bytes
 
 -- The whole header is right.
 abbrev pub HasHeader : Order → List ℕ → Type 0
@@ -31,13 +32,13 @@ captured_length order bytes = number_at order 4 8 bytes
 
 -- The packet's own header is complete, and its captured length is above the most.
 abbrev pub IsTooLong : Order → List ℕ → Type 0
-IsTooLong order bytes = (16 ≤ length bytes) × (262144 < captured_length order bytes)
+IsTooLong order bytes = (PACKET_HEADER_LEN ≤ length bytes) × (LONGEST_CAPTURED < captured_length order bytes)
 
 -- The packet's header or its bytes are incomplete.
 abbrev pub IsCut : Order → List ℕ → Type 0
 IsCut order bytes =
     (0 < length bytes)
-    × ((length bytes < 16) ⊎ ((captured_length order bytes ≤ 262144) × (length bytes < 16 + captured_length order bytes)))
+    × ((length bytes < PACKET_HEADER_LEN) ⊎ ((captured_length order bytes ≤ LONGEST_CAPTURED) × (length bytes < PACKET_HEADER_LEN + captured_length order bytes)))
 
 -- The packets before this one are good, and the bytes from it on are bad.
 pub record IsFirstBad (IsBad : Order → List ℕ → Type 0) (order : Order) (bytes : List ℕ) (number : ℕ) : Type 0 where
@@ -50,15 +51,15 @@ pub record IsFirstBad (IsBad : Order → List ℕ → Type 0) (order : Order) (b
 
 -- In a file with a right header, packet `number` is the first bad one.
 abbrev pub IsPacketFault : (Order → List ℕ → Type 0) → List ℕ → ℕ → Type 0
-IsPacketFault IsBad bytes number = (order : Order) × HasHeader order bytes × IsFirstBad IsBad order (drop 24 bytes) number
+IsPacketFault IsBad bytes number = (order : Order) × HasHeader order bytes × IsFirstBad IsBad order (drop HEADER_LEN bytes) number
 
 -- ---- faults
 
 -- The first fault; an allocation may fail at any time.
 abbrev pub IsCaptureFault : List ℕ → CaptureFault → Type 0
-IsCaptureFault bytes (Short found) = (length bytes < 24) × (found ≡ length bytes)
+IsCaptureFault bytes (Short found) = (length bytes < HEADER_LEN) × (found ≡ length bytes)
 IsCaptureFault bytes (BadMagic value) =
-    (24 ≤ length bytes) × ((order : Order) → ¬ IsInOrder order bytes) × (value ≡ little_number 4 bytes)
+    (HEADER_LEN ≤ length bytes) × ((order : Order) → ¬ IsInOrder order bytes) × (value ≡ little_number 4 bytes)
 IsCaptureFault bytes (BadVersion major minor) =
     (order : Order) × BeginsWell order bytes × (¬ IsVersion order bytes)
     × (major ≡ number_at order 2 4 bytes) × (minor ≡ number_at order 2 6 bytes)

@@ -2,18 +2,21 @@
 -- calls. One offers the frames, and the other expects as many.
 use Rattle.std.specs.Prelude.{ℕ, ◌+◌, ◌-◌, ◌*◌, ◌/◌, ◌<◌, ◌==◌, ◌&&◌, ◌⊎◌, Bool, true, nat_le, List, [], ◌∷◌, ◌++◌, length, map, filter, sum_by}
 use Rattle.std.specs.List.{range_with_len, flat_map}
+use Rattle.section_map.specs.declared.limits.TheConstants.{PAGE}
 use Rattle.section_map.specs.Faults.{shape_of}
+use Rattle.split_ring.specs.declared.sizes.TheConstants.{SHORTEST_FRAME}
 use Rattle.pci_space.specs.declared.wiring.Wiring.TheVariants.{Msix}
 use Rattle.scenario_text.specs.declared.acts.Act.{Act}
 use Rattle.scenario_text.specs.declared.acts.Act.TheVariants.{Auto, Offer, Turn}
 use Rattle.scenario_text.specs.Acts.{turns_of}
 use Rattle.scenario_text.specs.Scenario.{World}
 use Rattle.scenario_text.specs.Spelling.{spelling}
+use Rattle.frame_capture.specs.declared.feeding.TheConstants.{MOST_ACTS}
 use Rattle.frame_capture.specs.declared.packets.Packet.{Packet}
 
 -- A packet is offered if it has its whole frame, of 14 to 16,402 bytes.
 abbrev pub is_offered : Packet → Bool
-is_offered p = length p.frame == p.original && nat_le 14 (length p.frame) && nat_le (length p.frame) 16402
+is_offered p = length p.frame == p.original && nat_le SHORTEST_FRAME (length p.frame) && nat_le (length p.frame) 16402
 
 -- The frames offered, in the order of their packets.
 abbrev pub offered_frames : List Packet → List (List ℕ)
@@ -44,7 +47,7 @@ feed_acts peer frames = Auto peer 0 ∷ Auto (1 - peer) (length frames) ∷ map 
 unfoldable pub feed_world : (peer : ℕ) → List (List ℕ) → World
 feed_world peer frames = record {
   version = 1;
-  geometry = shape_of 2 4096 0 520192;
+  geometry = shape_of 2 PAGE 0 520192;
   queue = record { version = 1; out = 520192; mtu = 16384 };
   wiring = Msix 2;
   honest = true ∷ true ∷ [];
@@ -53,4 +56,4 @@ feed_world peer frames = record {
 
 -- The scenario has more acts than allowed, or a longer text than is read.
 abbrev pub IsTooLarge : World → Type 0
-IsTooLarge w = (4000000 < turns_of w.acts) ⊎ (16777216 < length (spelling w))
+IsTooLarge w = (MOST_ACTS < turns_of w.acts) ⊎ (16777216 < length (spelling w))

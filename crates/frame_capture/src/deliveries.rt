@@ -4,6 +4,7 @@ ghost use Rattle.frame_capture.specs.CaptureFile.{AreShort};
 ghost use Rattle.frame_capture.specs.Deliveries.{packet_of, line_packets, capture_of, IsShortLine};
 
 use crate::packets::{Capture, Packet, Packets};
+use crate::reading::LONGEST_CAPTURED;
 use ivs_base::{Frame, NoMemory};
 use lawful_history::Line;
 use record_text::Trace;
@@ -12,7 +13,7 @@ use std::alloc::Global;
 /// Returns the packet of a frame that line `number` delivers. Both lengths of the packet are the
 /// frame's.
 fn packet(alloc: Global, number: u32, frame: &Frame) -> Result<Packet, NoMemory>
-    requires { length frame.now ≤ 262144 }
+    requires { length frame.now ≤ LONGEST_CAPTURED }
     ensures { IfOk result (λ packet. packet ≡ packet_of number frame.now) }
 {
     let bytes = frame.bytes();
@@ -66,7 +67,7 @@ pub fn captured(alloc: Global, trace: &Trace, peer: u32) -> Result<Capture, NoMe
         put_line(alloc, &mut packets, peer, index as u32 + 1, line)?;
     }
     Ok(Capture {
-        snaplen: 262_144,
+        snaplen: LONGEST_CAPTURED as u32,
         packets,
     })
 }

@@ -11,8 +11,8 @@ use crate::packets::{Capture, Packet};
 use ivs_base::{Frame, NoMemory};
 use pci_space::Wiring;
 use scenario_text::{Act, Acts, Flags, Scenario};
-use section_map::Geometry;
-use split_ring::Queue;
+use section_map::{Geometry, PAGE};
+use split_ring::{Queue, SHORTEST_FRAME};
 use std::alloc::Global;
 use thiserror::Error;
 
@@ -20,7 +20,16 @@ use thiserror::Error;
 const STEPS: u32 = 1000;
 
 /// The most acts of a scenario; a turn counts for its steps.
-const MOST_ACTS: u128 = 4_000_000;
+pub const MOST_ACTS: u64 = 4_000_000;
+
+/// The size of an output section, in bytes: 127 pages.
+const OUT: u64 = 520_192;
+
+/// The MTU of the link.
+const MTU: u32 = 16_384;
+
+/// The longest frame that is offered, in bytes: the MTU and the overhead of a frame.
+const LONGEST: usize = 16_402;
 
 /// Why a capture makes no scenario.
 #[derive(Clone, Copy, Debug, PartialEq, Eq, Error)]
@@ -55,7 +64,7 @@ fn is_offered(packet: &Packet) -> bool
     ensures { result ≡ is_offered packet.now }
 {
     let size = packet.frame.bytes().len();
-    size == packet.original as usize && 14 <= size && size <= 16_402
+    size == packet.original as usize && SHORTEST_FRAME as usize <= size && size <= LONGEST
 }
 
 /// Returns the number of offered frames and the sum of their weights.
@@ -79,12 +88,12 @@ fn weigh(packets: &[Packet]) -> (u64, u128)
 fn plan_of(packets: &[Packet]) -> Option<Plan>
     ensures frames { IfSome result (λ plan. plan.frames ≡ length (offered_frames packets.now)) }
     ensures rounds { IfSome result (λ plan. plan.rounds ≡ round_count (offered_frames packets.now)) }
-    ensures few { OnSome result (act_count (offered_frames packets.now) ≤ 4000000) }
-    ensures many { IfNone result (4000000 < act_count (offered_frames packets.now)) }
+    ensures few { OnSome result (act_count (offered_frames packets.now) ≤ MOST_ACTS) }
+    ensures many { IfNone result (MOST_ACTS < act_count (offered_frames packets.now)) }
 {
     let (frames, weight) = weigh(packets);
     let rounds = 300 + u128::from(frames) / 14 + weight / 500;
-    if 2 + u128::from(frames) + 2000 * rounds > MOST_ACTS {
+    if 2 + u128::from(frames) + 2000 * rounds > u128::from(MOST_ACTS) {
         return None;
     }
     Some(Plan {
@@ -162,9 +171,9 @@ fn acts(alloc: Global, packets: &[Packet], peer: u32, plan: Plan) -> Result<Acts
 
 /// Returns the region: a page for the State Table, and 127 pages for each of two peers.
 fn region() -> Geometry
-    ensures { result ≡ shape_of 2 4096 0 520192 }
+    ensures { result ≡ shape_of 2 PAGE 0 520192 }
 {
-    match Geometry::new(2, 4096, 0, 520_192) {
+    match Geometry::new(2, PAGE, 0, OUT) {
         Ok(geometry) => geometry,
         Err(_) => unreachable!(),
     }
@@ -174,7 +183,7 @@ fn region() -> Geometry
 fn section() -> Queue
     ensures { result ≡ record { version = 1; out = 520192; mtu = 16384 } }
 {
-    match Queue::of(520_192, 16_384) {
+    match Queue::of(OUT, MTU) {
         Ok(queue) => queue,
         Err(_) => unreachable!(),
     }

@@ -5,6 +5,7 @@ ghost use Rattle.frame_capture.specs.CaptureFile.{header_bytes, packet_bytes, pa
 
 use crate::order::{MAGIC, Order};
 use crate::packets::{Capture, Packet};
+use crate::reading::LONGEST_CAPTURED;
 use byteorder::{ByteOrder, LittleEndian};
 use ivs_base::NoMemory;
 use std::alloc::{AllocError, Global};
@@ -43,7 +44,7 @@ fn put_header(out: &mut Vec<u8>, snaplen: u32) -> Result<(), AllocError>
 
 /// Appends the packet.
 fn put_packet(out: &mut Vec<u8>, packet: &Packet) -> Result<(), AllocError>
-    requires { length packet.now.frame ≤ 262144 }
+    requires { length packet.now.frame ≤ LONGEST_CAPTURED }
     ensures put { OnOk result (out.new.items ≡ out.old.items ++ packet_bytes Order.Little packet.now) }
     ensures fits { OnOk result (IsPacket packet.now) }
 {

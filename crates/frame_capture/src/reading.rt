@@ -13,13 +13,13 @@ use std::alloc::Global;
 use thiserror::Error;
 
 /// The length of the header before the packets, in bytes.
-const HEADER: usize = 24;
+pub const HEADER_LEN: usize = 24;
 
 /// The length of a packet's header before its frame, in bytes.
-const PACKET_HEADER: usize = 16;
+pub const PACKET_HEADER_LEN: usize = 16;
 
 /// The most bytes of a frame that a packet may have here.
-const MOST: usize = 262_144;
+pub const LONGEST_CAPTURED: usize = 262_144;
 
 /// Why bytes don't begin with a packet.
 #[derive(Clone, Copy, Debug, Error)]
@@ -64,17 +64,17 @@ fn read_packet(alloc: Global, order: Order, bytes: &[u8]) -> Result<Packet, Dama
     ensures packet { IfOk result (λ p. StartsWith order p bytes.now) }
     ensures damage { IfErr result (IsDamage order bytes.now) }
 {
-    if bytes.len() < PACKET_HEADER {
+    if bytes.len() < PACKET_HEADER_LEN {
         return Err(Damage::Cut);
     }
     let size = order.u32_at(bytes, 8) as usize;
-    if size > MOST {
+    if size > LONGEST_CAPTURED {
         return Err(Damage::TooLong);
     }
-    if bytes.len() < PACKET_HEADER + size {
+    if bytes.len() < PACKET_HEADER_LEN + size {
         return Err(Damage::Cut);
     }
-    let frame = Frame::of(alloc, &bytes[PACKET_HEADER..PACKET_HEADER + size])?;
+    let frame = Frame::of(alloc, &bytes[PACKET_HEADER_LEN..PACKET_HEADER_LEN + size])?;
     Ok(Packet {
         seconds: order.u32_at(bytes, 0),
         micros: order.u32_at(bytes, 4),
@@ -96,7 +96,7 @@ fn read_packets(alloc: Global, order: Order, bytes: &[u8]) -> Result<Packets, Ca
             Ok(packet) => packet,
             Err(damage) => return Err(damage.at(all.items().len() as u64 + 1)),
         };
-        left = &left[PACKET_HEADER + packet.frame.bytes().len()..];
+        left = &left[PACKET_HEADER_LEN + packet.frame.bytes().len()..];
         all.push(packet)?;
     }
     Ok(all)
@@ -121,7 +121,7 @@ pub fn parse(alloc: Global, bytes: &[u8]) -> Result<Capture, CaptureFault>
     ensures short { IfOk result (λ capture. AreShort capture.packets) }
     ensures fault { IfErr result (IsCaptureFault bytes.now) }
 {
-    if bytes.len() < HEADER {
+    if bytes.len() < HEADER_LEN {
         return Err(CaptureFault::Short(bytes.len() as u64));
     }
     let Some(order) = Order::of(bytes) else {
@@ -136,7 +136,7 @@ pub fn parse(alloc: Global, bytes: &[u8]) -> Result<Capture, CaptureFault>
     if link_type != 1 {
         return Err(CaptureFault::BadLinkType(link_type));
     }
-    let packets = read_packets(alloc, order, &bytes[HEADER..])?;
+    let packets = read_packets(alloc, order, &bytes[HEADER_LEN..])?;
     Ok(Capture {
         snaplen: order.u32_at(bytes, 16),
         packets,

@@ -5,27 +5,24 @@ use Rattle.record_text.specs.declared.faults.RecordFault.{RecordFault}
 use Rattle.record_text.specs.Spelling.{Record, IsSpelling}
 use Rattle.record_text.specs.Judge.{answer}
 use Rattle.trace_replay.specs.declared.verdict.Verdict.{Verdict}
-use Rattle.trace_replay.specs.declared.verdict.Verdict.TheVariants.{Same, Differs}
+use Rattle.trace_replay.specs.declared.verdict.Verdict.TheVariants as verdicts
 use Rattle.trace_replay.specs.Texts.{IsVerdictOfText}
 use Rattle.record_chart.specs.Pictures.{IsPicture}
 use Rattle.ivshm_chart.specs.declared.words.Span.{Span}
 use Rattle.ivshm_chart.specs.declared.words.Form.{Form}
 use Rattle.ivshm_chart.specs.declared.replies.Drawn.{Drawn}
-use Rattle.ivshm_chart.specs.declared.status.Status.{Status}
-use Rattle.ivshm_chart.specs.declared.status.Status.TheVariants.{Done, Usage, Refused, ReadFault, WriteFault, NoMemory}
+use Rattle.program_edge.specs.declared.limits.TheConstants.{RECORD_LIMIT}
+use Rattle.program_edge.specs.declared.exit.Status.{Status}
+use Rattle.program_edge.specs.declared.exit.Status.TheVariants.{Done, Differs, Usage, Refused, ReadFault, WriteFault, NoMemory}
 use Rattle.ivshm_chart.specs.Refusals.{line_of}
 
 abbrev pub usage_line : List ℕ
 usage_line = codes "usage: ivshm_chart [--text] [FROM TO]\n"
 
--- The most bytes that are read, as for `ivshm replay`.
-abbrev pub limit : ℕ
-limit = 1073741824
-
 -- The line at which a record differs from the lawful history of its scenario.
 abbrev pub differing : Verdict → Option ℕ
-differing Same = None
-differing (Differs fault) = Some fault.line
+differing verdicts.Same = None
+differing (verdicts.Differs fault) = Some fault.line
 
 -- The line that the picture marks is that of the verdict of `ivshm replay`.
 abbrev pub IsMark : List ℕ → Option ℕ → Type 0
@@ -59,7 +56,7 @@ pub record Charts (span : Span) (before now : Input) (before' now' : Output) (dr
 
 -- The text is the line for an input that is longer than the limit, or spells no record.
 abbrev pub IsWhy : (before now : Input) → (text : List ℕ) → Type 0
-IsWhy before now text = ((text ≡ codes "refused 0 TooLong\n") × GaveMany before (limit + 1) now) ⊎
+IsWhy before now text = ((text ≡ codes "refused 0 TooLong\n") × GaveMany before (RECORD_LIMIT + 1) now) ⊎
     ((bytes : List ℕ) × Gave before bytes now × HasEnded now × IsRefusal bytes text)
 
 -- The line of `IsWhy` was written.
@@ -72,6 +69,7 @@ pub record Refuses (before now : Input) (before' now' : Output) : Type 0 where
 abbrev pub HasCause : Status → Option Form → (before now : Input) → (before' now' : Output) → Option Drawn → Type 0
 HasCause Done (Some form) before now before' now' drawn = Charts form.span before now before' now' drawn
 HasCause Done None before now before' now' drawn = ⊥
+HasCause Differs form before now before' now' drawn = ⊥
 HasCause Usage None before now before' now' drawn = (now ≡ before) × Took before' usage_line now'
 HasCause Usage (Some form) before now before' now' drawn = ⊥
 HasCause Refused (Some form) before now before' now' drawn = Refuses before now before' now'

@@ -1,18 +1,11 @@
 -- The line for a text that is no record, as `ivshm replay` writes it (profile): the place and the
 -- fault.
-use Rattle.std.specs.Prelude.{ℕ, List, ◌++◌, codes, decimal}
+use Rattle.std.specs.Prelude.{ℕ, List, codes}
 use Rattle.scenario_text.specs.declared.faults.ScenarioFault.{ScenarioFault}
 use Rattle.scenario_text.specs.declared.faults.ScenarioFault.TheVariants as faults
 use Rattle.record_text.specs.declared.faults.RecordFault.{RecordFault}
 use Rattle.record_text.specs.declared.faults.RecordFault.TheVariants as records
-
--- The line for a faulty line of the text.
-abbrev pub place_line_of : (name : List ℕ) → (number : ℕ) → List ℕ
-place_line_of name number = codes "refused " ++ decimal number ++ codes " " ++ name ++ codes "\n"
-
--- The line for a text whose number of lines isn't the one that it states.
-abbrev pub count_line_of : (name : List ℕ) → (kept found : ℕ) → List ℕ
-count_line_of name kept found = codes "refused 0 " ++ name ++ codes " " ++ decimal kept ++ codes " " ++ decimal found ++ codes "\n"
+use Rattle.program_edge.specs.Refusals.{place_line_of, count_line_of}
 
 -- The line for a fault of a scenario; no text has the fault NoMemory.
 abbrev pub scenario_line_of : ScenarioFault → List ℕ
@@ -30,6 +23,6 @@ abbrev pub line_of : RecordFault → List ℕ
 line_of (records.Scenario fault) = scenario_line_of fault
 line_of (records.BadLine line) = place_line_of (codes "BadLine") line
 line_of (records.BadNumber line) = place_line_of (codes "BadNumber") line
-line_of (records.BadCount kept found) = count_line_of (codes "BadCount") kept found
+line_of (records.BadCount kept found) = count_line_of (codes "BadCount") 0 kept found
 line_of records.NoEnd = codes "refused 0 NoEnd\n"
 line_of records.NoMemory = codes "refused 0 NoMemory\n"

@@ -5,19 +5,17 @@
 //! trusted edge: no contract describes them.
 #![tactic(auto)]
 
-mod arguments;
 mod fronts;
 mod program;
 mod refusals;
 mod replies;
-mod status;
 #[cfg(test)]
 mod tests;
 mod words;
 
-use arguments::words_of;
 use ivs_base::{InputSource, OutputSink};
 use program::status_of_words;
+use program_edge::words_of;
 use std::process::ExitCode;
 use std::{env, io};
 

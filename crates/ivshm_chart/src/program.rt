@@ -1,34 +1,17 @@
 //! The top call.
-ghost use Rattle.std.specs.Prelude.{◌≡◌, ◌≢◌, ◌⊎◌, None, IfOk, IsErrOf, map};
+ghost use Rattle.std.specs.Prelude.{◌≡◌, ◌⊎◌, None, IfOk, IsErrOf, map};
 ghost use Rattle.std.specs.String.{string_bytes};
-ghost use Rattle.ivs_base.specs.SourceAndSink.{Took, SinkFailed};
 ghost use Rattle.ivshm_chart.specs.Forms.{form_of};
 ghost use Rattle.ivshm_chart.specs.Charts.{HasCause};
 
-use crate::arguments::WordsFault;
 use crate::replies::{Drawn, Reply, reply_to};
-use crate::status::Status;
 use crate::words::read_form;
-use ivs_base::{ReadEnd, Sink, Source, read_all, write_whole};
+use ivs_base::{ReadEnd, Sink, Source, read_all};
+use program_edge::{RECORD_LIMIT, Status, WordsFault, write_text};
 use std::alloc::Global;
 
 /// The usage line, which lists the program's words.
 const USAGE: &[u8] = b"usage: ivshm_chart [--text] [FROM TO]\n";
-
-/// The most bytes that are read.
-const LIMIT: u64 = 1_073_741_824;
-
-/// Writes `text`. Returns `status` if all of the text was written, and WriteFault otherwise.
-fn write_text<K: Sink>(sink: &mut K, text: &[u8], status: Status) -> Status
-    ensures cases { (result ≡ status) ⊎ (result ≡ Status.WriteFault) }
-    ensures whole { result ≢ Status.WriteFault → Took (K.output sink.old) text.now (K.output sink.new) }
-    ensures fault { result ≢ status → SinkFailed (K.output sink.old) (K.output sink.new) }
-{
-    match write_whole(sink, text) {
-        Ok(()) => status,
-        Err(_) => Status::WriteFault,
-    }
-}
 
 /// Runs the program's words, its arguments after its name: reads a record to its end, and writes
 /// the picture of the lines asked for, as an SVG file or as a text for a terminal. Nothing is
@@ -58,22 +41,24 @@ pub fn chart<S: Source, K: Sink>(
     let Some(form) = read_form(words) else {
         return write_text(sink, USAGE, Status::Usage);
     };
-    let bytes = match read_all(alloc, source, LIMIT) {
+    let bytes = match read_all(alloc, source, RECORD_LIMIT) {
         Ok(bytes) => bytes,
         Err(ReadEnd::ReadFault) => return Status::ReadFault,
         Err(ReadEnd::NoMemory) => return Status::NoMemory,
         Err(ReadEnd::TooLong) => return write_text(sink, b"refused 0 TooLong\n", Status::Refused),
     };
-    let Ok(reply) = reply_to(alloc, form, &bytes) else {
-        return Status::NoMemory;
-    };
-    let Reply {
-        status,
-        text,
-        drawn: made,
-    } = reply;
-    *drawn = made;
-    write_text(sink, &text, status)
+    match reply_to(alloc, form, &bytes) {
+        Ok(reply) => {
+            let Reply {
+                status,
+                text,
+                drawn: made,
+            } = reply;
+            *drawn = made;
+            write_text(sink, &text, status)
+        }
+        Err(_) => Status::NoMemory,
+    }
 }
 
 /// Returns the status of the program for the words that it has, or for `words` that can't be had. A

@@ -5,9 +5,9 @@ ghost use Rattle.ivshm_chart.specs.Charts.{differing, IsMark, IsReply};
 
 use crate::fronts::{Front, front_of};
 use crate::refusals::refusal_line;
-use crate::status::Status;
 use crate::words::{Form, Kind};
 use ivs_base::NoMemory;
+use program_edge::Status;
 use record_chart::{Picture, draw, draw_text, picture_of, picture_of_front};
 use record_text::{RecordFault, Trace, parse};
 use std::alloc::Global;

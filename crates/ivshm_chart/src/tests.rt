@@ -1,7 +1,7 @@
 //! The top call over sources and sinks in memory.
 use crate::program::chart;
-use crate::status::Status;
 use ivs_base::{MemorySink, MemorySource};
+use program_edge::Status;
 use std::alloc::Global;
 use std::test::Fail;
 

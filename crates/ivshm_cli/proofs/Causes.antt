@@ -4,11 +4,12 @@ use Rattle.std.specs.Prelude.{Option, Some, None, Result, Ok, IfOk, true, IsTrue
 use Rattle.ivs_base.specs.SourceAndSink.{Input, Output, Took, SourceFailed, SinkFailed, LastReadFailed, LastWriteFailed}
 use Rattle.ivshm_cli.specs.declared.words.Command.{Command}
 use Rattle.ivshm_cli.specs.declared.refusals.Fault.{Fault}
-use Rattle.ivshm_cli.specs.declared.exit.Status.{Status}
-use Rattle.ivshm_cli.specs.declared.exit.Status.TheVariants.{Done, Differs, Usage, Refused, ReadFault, WriteFault, NoMemory}
+use Rattle.program_edge.specs.declared.exit.Status.{Status}
+use Rattle.program_edge.specs.declared.exit.Status.TheVariants.{Done, Differs, Usage, Refused, ReadFault, WriteFault, NoMemory}
 use Rattle.ivshm_cli.specs.declared.runs.Ran.{Ran}
 use Rattle.ivshm_cli.specs.Forms.{IsVerdict}
-use Rattle.ivshm_cli.specs.Due.{Follows, IsDue, limit_for, has_reply, writes_nothing, HasCause, WritesReply, WritesFront, WritesRefusal, Runs, usage_line}
+use Rattle.program_edge.specs.Exit.{has_reply}
+use Rattle.ivshm_cli.specs.Due.{Follows, IsDue, limit_for, writes_nothing, HasCause, WritesReply, WritesFront, WritesRefusal, Runs, usage_line}
 use Rattle.ivshm_cli.proofs.Replaying.{answer_of}
 use Rattle.ivshm_cli.proofs.Complete.{not_refused, due_usage}
 

@@ -14,8 +14,8 @@ use Rattle.record_sizes.specs.Sizes.{RecordsAreWithinLimit}
 use Rattle.trace_replay.specs.declared.verdict.Verdict.TheVariants.{Same}
 use Rattle.ivshm_cli.specs.declared.words.Command.TheVariants.{Sim, Replay}
 use Rattle.ivshm_cli.specs.declared.refusals.Fault.TheVariants.{TooLong}
-use Rattle.ivshm_cli.specs.declared.exit.Status.{Status}
-use Rattle.ivshm_cli.specs.declared.exit.Status.TheVariants.{Done, Differs}
+use Rattle.program_edge.specs.declared.exit.Status.{Status}
+use Rattle.program_edge.specs.declared.exit.Status.TheVariants.{Done, Differs}
 use Rattle.ivshm_cli.specs.Replay.{verdict_line, SpellsLawful}
 use Rattle.ivshm_cli.specs.Forms.{limit_of, passes, IsTextVerdict, Replies}
 use Rattle.ivshm_cli.specs.Due.{Follows}

@@ -1,5 +1,6 @@
 -- The counts of a history while it is made.
-use Rattle.std.specs.Prelude.{ℕ, ◌≡◌, ◌+◌, ◌/◌, if◌then◌else◌, List, ◌++◌, codes, count_by, fold, unwrap_or}
+use Rattle.std.specs.Prelude.{ℕ, ◌≡◌, ◌+◌, if◌then◌else◌, List, ◌++◌, codes, count_by, fold, unwrap_or}
+use Rattle.split_ring.specs.Spelling.{high_half}
 use Rattle.scenario_text.specs.Scenario.{World}
 use Rattle.lawful_history.specs.declared.line.Line.{Line}
 use Rattle.ivshm_cli.specs.declared.summary.Counts.{Counts}
@@ -38,4 +39,4 @@ lines_of_counts count counts =
     ++ number_line (codes "accepted") counts.accepted
     ++ number_line (codes "delivered") counts.delivered
     ++ number_line (codes "refused") counts.refused
-    ++ number_line (codes "index") (counts.last / 65536)
+    ++ number_line (codes "index") (high_half counts.last)

@@ -1,4 +1,3 @@
-pub mod Exit
 pub mod Headline
 pub mod Configuration
 pub mod Load

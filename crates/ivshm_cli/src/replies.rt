@@ -3,7 +3,9 @@
 ghost use Rattle.std.specs.Prelude.{◌≡◌, ◌≢◌, ◌^◌, ◌<◌, ◌≤◌, ℕ, List, true, false, Option, Some, None, Ok, IsSome, IsTrue, IfOk, OnOk, IsErrOf, length};
 ghost use Rattle.ivs_base.specs.SourceAndSink.{SourceFailed, LastReadFailed};
 ghost use Rattle.ivshm_cli.specs.Forms.{limit_of, passes, scenario_fault, IsInRange, IsTextVerdict, Replies, IsLeft};
-ghost use Rattle.ivshm_cli.specs.Due.{IsDue, HasRead, has_reply};
+ghost use Rattle.program_edge.specs.declared.limits.TheConstants.{MOST_FRAMES};
+ghost use Rattle.program_edge.specs.Exit.{has_reply};
+ghost use Rattle.ivshm_cli.specs.Due.{IsDue, HasRead};
 ghost use Rattle.scenario_text.specs.Scenario.{World};
 ghost use Rattle.scenario_text.specs.Spelling.{IsSpelling, world_of};
 ghost use Rattle.scenario_text.specs.Judge.{answer as judged};
@@ -19,7 +21,6 @@ ghost use Rattle.ivshm_cli.specs.declared.replies.NoReply.TheVariants.{NoMemory 
 
 use crate::captures::{capture_file, fed};
 use crate::configuration::configuration;
-use crate::exit::Status;
 use crate::refusals::{Fault, refusal_line};
 use crate::runs::{Ran, RunReply, run};
 use crate::summary::{Counts, summary};
@@ -31,6 +32,7 @@ use ivs_base::{NoMemory, ReadEnd, Source, read_all};
 use lawful_history::{one_history, records_tell_one_history};
 use peer_runner::Gate;
 use port_text::{PortsFault, printed_is_read_again};
+use program_edge::Status;
 use record_text::{RecordFault, Trace, parse as parse_record};
 use sampling_port::ports;
 use scenario_text::{Scenario, ScenarioFault, load, parse};
@@ -259,7 +261,7 @@ fn configured(alloc: Global, peer: u32, bytes: &[u8]) -> Result<Vec<u8>, NoReply
 /// Returns the five lines that count the lawful history of a load of `count` frames.
 fn loaded(alloc: Global, count: u32) -> Result<Vec<u8>, NoMemory>
     requires some { 1 ≤ count }
-    requires few { count ≤ 80000 }
+    requires few { count ≤ MOST_FRAMES }
     ensures { IfOk result (λ text. IsLoadOf count text.items) }
 {
     records_tell_one_history();

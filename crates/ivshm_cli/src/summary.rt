@@ -9,6 +9,7 @@ use ivs_base::NoMemory;
 use lawful_history::Line;
 use scenario_text::Scenario;
 use sim_world::{Listener, Stopped};
+use split_ring::high_half;
 use std::alloc::{AllocError, Global};
 
 /// The counts of a history, and the last value that peer 0 wrote to one word.
@@ -110,7 +111,7 @@ fn put_number(text: &mut String, name: &str, number: usize) -> Result<(), AllocE
 pub(crate) fn summary(alloc: Global, count: u32, counts: &Counts) -> Result<Vec<u8>, AllocError>
     ensures { IfOk result (λ text. text.items ≡ lines_of_counts count counts.now) }
 {
-    let index = counts.last >> 16;
+    let index = high_half(counts.last);
     let mut text = String::new(alloc);
     put_number(&mut text, "load", count as usize)?;
     put_number(&mut text, "accepted", counts.accepted)?;

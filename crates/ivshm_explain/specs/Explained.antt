@@ -8,8 +8,8 @@ use Rattle.ivshm_explain.specs.declared.forms.Form.TheVariants as forms
 use Rattle.ivshm_explain.specs.declared.refusals.Refusal.{Refusal}
 use Rattle.ivshm_explain.specs.declared.refusals.Place.TheVariants.{Whole}
 use Rattle.ivshm_explain.specs.declared.refusals.Reason.TheVariants.{TooLong}
-use Rattle.ivshm_explain.specs.declared.status.Status.{Status}
-use Rattle.ivshm_explain.specs.declared.status.Status.TheVariants.{Accepted, Differs, Usage, Refused, ReadFault, WriteFault, NoMemory}
+use Rattle.program_edge.specs.declared.exit.Status.{Status}
+use Rattle.program_edge.specs.declared.exit.Status.TheVariants.{Done, Differs, Usage, Refused, ReadFault, WriteFault, NoMemory}
 use Rattle.ivshm_explain.specs.declared.verdicts.Verdict.TheVariants as verdicts
 use Rattle.ivshm_explain.specs.Forms.{limit_of}
 use Rattle.ivshm_explain.specs.Places.{place_of}
@@ -27,7 +27,7 @@ pub record IsExplained (bytes : List ℕ) (refusal : Refusal) (text : List ℕ) 
 
 -- the reply to bytes that were read: its status and its text
 abbrev pub IsReply : Form → List ℕ → Status → (text : List ℕ) → Type 0
-IsReply form bytes Accepted text = IsVerdict form bytes verdicts.Accepted
+IsReply form bytes Done text = IsVerdict form bytes verdicts.Accepted
 IsReply form bytes Refused text = (refusal : Refusal) × IsVerdict form bytes (verdicts.Refused refusal) × IsExplained bytes refusal text
 IsReply form bytes Differs text = (difference : Difference) × IsVerdict form bytes (verdicts.Differs difference) × IsDifferenceText difference text
 IsReply form bytes _ text = ⊥
@@ -55,7 +55,7 @@ pub record FindsTooMany (form : Form) (before now : Input) (before' now' : Outpu
 
 -- each status has its cause
 abbrev pub HasCause : Status → Option Form → (before now : Input) → (before' now' : Output) → Type 0
-HasCause Accepted (Some form) before now before' now' = Replies form before now before' now' Accepted
+HasCause Done (Some form) before now before' now' = Replies form before now before' now' Done
 HasCause Refused (Some form) before now before' now' = Replies form before now before' now' Refused ⊎ FindsTooMany form before now before' now'
 HasCause Differs (Some form) before now before' now' = Replies form before now before' now' Differs
 HasCause Usage None before now before' now' = (now ≡ before) × Took before' usage_line now'

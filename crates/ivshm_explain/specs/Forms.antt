@@ -2,6 +2,8 @@
 use Rattle.std.specs.Prelude.{ℕ, ◌-◌, ◌<◌, ⊤, ◌&&◌, nat_le, if◌then◌else◌, List, [], ◌∷◌, codes, Option, Some, None, option_and_then}
 use Rattle.std.specs.Str.{bytes_eq}
 use Rattle.line_format.specs.Numbers.{number_of}
+use Rattle.section_dump.specs.declared.images.TheConstants.{LONGEST_IMAGE}
+use Rattle.program_edge.specs.declared.limits.TheConstants.{MOST_FRAMES, RECORD_LIMIT, TEXT_LIMIT}
 use Rattle.ivshm_explain.specs.declared.forms.Form.{Form}
 use Rattle.ivshm_explain.specs.declared.forms.Form.TheVariants.{Sim, Run, Config, Load, Record, Feed, Dump, Ports, Bridge}
 
@@ -12,7 +14,7 @@ config_of _ = None
 
 -- `load` with a count: a number from 1 to 80,000
 abbrev pub load_of : List ℕ → Option Form
-load_of word = option_and_then (λ count. if nat_le 1 count && nat_le count 80000 then Some Load else None) (number_of word)
+load_of word = option_and_then (λ count. if nat_le 1 count && nat_le count MOST_FRAMES then Some Load else None) (number_of word)
 
 -- `capture` with a link peer: one digit, 0 or 1
 abbrev pub capture_of : List ℕ → Option Form
@@ -51,6 +53,6 @@ IsFit _ = ⊤
 -- how many bytes a form reads at most; `load` reads nothing
 abbrev pub limit_of : Form → ℕ
 limit_of Load = 0
-limit_of Record = 1073741824
-limit_of Dump = 16777248
-limit_of _ = 16777216
+limit_of Record = RECORD_LIMIT
+limit_of Dump = LONGEST_IMAGE
+limit_of _ = TEXT_LIMIT

@@ -2,6 +2,7 @@
 use Rattle.std.specs.Prelude.{ℕ, zero, suc, ◌+◌, ◌-◌, ◌==◌, ◌||◌, nat_lt, if◌then◌else◌, List, [], ◌∷◌, ◌++◌, codes, decimal, map, take, drop, length, slice_index_or}
 use Rattle.hex.specs.Hex.{encode_lower}
 use Rattle.byteorder.specs.Endian.{little_number, big_number}
+use Rattle.frame_capture.specs.declared.reading.TheConstants.{HEADER_LEN, PACKET_HEADER_LEN}
 use Rattle.frame_capture.specs.CaptureFile.{magic}
 use Rattle.line_format.specs.Forms.{cuts, is_printable}
 use Rattle.ivshm_explain.specs.declared.refusals.Place.{Place}
@@ -36,18 +37,18 @@ bytes_text first some = codes "byte " ++ decimal first ++ codes ": " ++ digits s
 -- the magic number; 0 if the file doesn't have them
 abbrev pub captured_in : (file packet : List ℕ) → ℕ
 captured_in file packet =
-    if nat_lt (length file) 24 || nat_lt (length packet) 12 then 0
+    if nat_lt (length file) HEADER_LEN || nat_lt (length packet) 12 then 0
     else if little_number 4 file == magic then little_number 4 (drop 8 packet)
     else big_number 4 (drop 8 packet)
 
 -- what is left of a file after these packets: each has 16 bytes and those captured
 abbrev pub after_packets : (file : List ℕ) → (count : ℕ) → (left : List ℕ) → List ℕ
 after_packets file zero left = left
-after_packets file (suc count) left = after_packets file count (drop (16 + captured_in file left) left)
+after_packets file (suc count) left = after_packets file count (drop (PACKET_HEADER_LEN + captured_in file left) left)
 
 -- a capture file from the packet with this number on, from 1, after the header of 24 bytes
 abbrev pub packet_at : (file : List ℕ) → (number : ℕ) → List ℕ
-packet_at file number = after_packets file (number - 1) (drop 24 file)
+packet_at file number = after_packets file (number - 1) (drop HEADER_LEN file)
 
 -- where a text or a file is faulty, and what stands there: the faulty line, bytes, or the 16 bytes
 -- before a packet's frame
@@ -55,4 +56,4 @@ abbrev pub place_of : List ℕ → Place → List ℕ
 place_of bytes Whole = []
 place_of bytes (Line number) = number_text number ++ shown (line_at bytes number) ++ codes "\n"
 place_of bytes (Bytes first count) = bytes_text first (take count (drop first bytes))
-place_of bytes (Packet number) = bytes_text (length bytes - length (packet_at bytes number)) (take 16 (packet_at bytes number))
+place_of bytes (Packet number) = bytes_text (length bytes - length (packet_at bytes number)) (take PACKET_HEADER_LEN (packet_at bytes number))

@@ -1,5 +1,5 @@
 -- Why and where a text is refused, and the line that `ivshm` answers (profile).
-use Rattle.std.specs.Prelude.{ℕ, List, ◌++◌, codes, decimal, Option, Some, None}
+use Rattle.std.specs.Prelude.{ℕ, List, codes, Option, Some, None}
 use Rattle.scenario_text.specs.declared.faults.ScenarioFault.{ScenarioFault}
 use Rattle.scenario_text.specs.declared.faults.ScenarioFault.TheVariants as scenarios
 use Rattle.record_text.specs.declared.faults.RecordFault.{RecordFault}
@@ -11,10 +11,12 @@ use Rattle.bridge_text.specs.declared.faults.BridgeFault.TheVariants as bridges
 use Rattle.section_map.specs.declared.sizes.Part.TheVariants.{Table, Common, Out}
 use Rattle.section_map.specs.declared.sizes.GeometryFault.{GeometryFault}
 use Rattle.section_map.specs.declared.sizes.GeometryFault.TheVariants.{BadPeers, BadPage, TableTooSmall, TooLarge as RegionTooLarge}
+use Rattle.section_dump.specs.declared.images.TheConstants.{HEADER_LEN}
 use Rattle.section_dump.specs.declared.DumpFault.{DumpFault}
 use Rattle.section_dump.specs.declared.DumpFault.TheVariants as dumps
 use Rattle.frame_capture.specs.declared.faults.CaptureFault.{CaptureFault}
 use Rattle.frame_capture.specs.declared.faults.CaptureFault.TheVariants as captures
+use Rattle.program_edge.specs.Refusals.{place_line_of, count_line_of}
 use Rattle.ivshm_explain.specs.declared.refusals.Place.{Place}
 use Rattle.ivshm_explain.specs.declared.refusals.Place.TheVariants.{Whole, Line, Bytes, Packet}
 use Rattle.ivshm_explain.specs.declared.refusals.Reason.{Reason}
@@ -53,20 +55,11 @@ name_of BadPacket = codes "BadPacket"
 name_of CutPacket = codes "CutPacket"
 name_of TooLarge = codes "TooLarge"
 
--- the answer to a line that is wrong, or to a text as a whole
-abbrev pub place_line_of : (number : ℕ) → (name : List ℕ) → List ℕ
-place_line_of number name = codes "refused " ++ decimal number ++ codes " " ++ name ++ codes "\n"
-
--- the answer to a record that hasn't as many lines as it states, or to an image that hasn't as many
--- bytes as its header asks for
-abbrev pub count_line_of : (number : ℕ) → (name : List ℕ) → (kept found : ℕ) → List ℕ
-count_line_of number name kept found = codes "refused " ++ decimal number ++ codes " " ++ name ++ codes " " ++ decimal kept ++ codes " " ++ decimal found ++ codes "\n"
-
 abbrev pub answer_of : (number : ℕ) → Reason → List ℕ
-answer_of number (BadCount kept found) = count_line_of number (name_of (BadCount kept found)) kept found
-answer_of number (ShortImage need found) = count_line_of number (name_of (ShortImage need found)) need found
-answer_of number (LongImage need found) = count_line_of number (name_of (LongImage need found)) need found
-answer_of number reason = place_line_of number (name_of reason)
+answer_of number (BadCount kept found) = count_line_of (name_of (BadCount kept found)) number kept found
+answer_of number (ShortImage need found) = count_line_of (name_of (ShortImage need found)) number need found
+answer_of number (LongImage need found) = count_line_of (name_of (LongImage need found)) number need found
+answer_of number reason = place_line_of (name_of reason) number
 
 -- the line that `ivshm` answers
 abbrev pub verdict_of : Refusal → List ℕ
@@ -135,7 +128,7 @@ of_sizes (RegionTooLarge size) = at_bytes 8 24 BadGeometry
 
 -- the header, its sizes, the end of an image that is too short, or the first bytes after the region
 abbrev pub of_image : DumpFault → Option Refusal
-of_image dumps.BadHeader = at_bytes 0 32 BadHeader
+of_image dumps.BadHeader = at_bytes 0 HEADER_LEN BadHeader
 of_image (dumps.Geometry fault) = of_sizes fault
 of_image (dumps.ShortImage need found) = at_bytes found 1 (ShortImage need found)
 of_image (dumps.LongImage need found) = at_bytes need 16 (LongImage need found)

@@ -3,6 +3,8 @@
 use crate::places::{captured_in, from_place, packet_at};
 use crate::refusals::{Place, Reason, Refusal};
 use byteorder::{BigEndian, ByteOrder, LittleEndian};
+use frame_capture::{HEADER_LEN, LONGEST_CAPTURED, MOST_ACTS, PACKET_HEADER_LEN};
+use program_edge::TEXT_LIMIT;
 use std::alloc::{AllocError, Global};
 
 /// Whether the numbers of the file have their lowest byte first.
@@ -58,7 +60,7 @@ fn header_words(alloc: Global, file: &[u8], reason: Reason) -> Result<String, Al
         Reason::Short => {
             let size = file.len();
             format!(in alloc;
-                "a capture file begins with a header of 24 bytes, and there are {size}: capture anew, since the file is cut\n"
+                "a capture file begins with a header of {HEADER_LEN} bytes, and there are {size}: capture anew, since the file is cut\n"
             )
         }
         Reason::BadMagic => magic_words(alloc, file),
@@ -76,7 +78,7 @@ fn header_words(alloc: Global, file: &[u8], reason: Reason) -> Result<String, Al
             )
         }
         _ => format!(in alloc;
-            "the scenario of this capture would have more than 4000000 acts or 16777216 bytes: take fewer packets, as by `editcap -r FILE NEW 1-10000`\n"
+            "the scenario of this capture would have more than {MOST_ACTS} acts or {TEXT_LIMIT} bytes: take fewer packets, as by `editcap -r FILE NEW 1-10000`\n"
         ),
     }
 }
@@ -85,18 +87,18 @@ fn header_words(alloc: Global, file: &[u8], reason: Reason) -> Result<String, Al
 fn packet_words(alloc: Global, file: &[u8], number: u64) -> Result<String, AllocError> {
     let packet = packet_at(file, number);
     let left = packet.len();
-    if left < 16 {
+    if left < PACKET_HEADER_LEN {
         return format!(in alloc;
-            "packet {number} begins with 16 bytes of its own, and {left} are left: take it out, since the file is cut\n"
+            "packet {number} begins with {PACKET_HEADER_LEN} bytes of its own, and {left} are left: take it out, since the file is cut\n"
         );
     }
     let captured = captured_in(file, packet);
-    if captured > 262_144 {
+    if captured > LONGEST_CAPTURED as u64 {
         return format!(in alloc;
-            "packet {number} has {captured} captured bytes, by its third number: 0 to 262144 are due\n"
+            "packet {number} has {captured} captured bytes, by its third number: 0 to {LONGEST_CAPTURED} are due\n"
         );
     }
-    let found = left - 16;
+    let found = left - PACKET_HEADER_LEN;
     format!(in alloc;
         "packet {number} has {captured} captured bytes, by its third number, and {found} are left: take it out, since the file is cut\n"
     )

@@ -5,8 +5,12 @@ use crate::differences::Difference;
 use ivs_base::Frame;
 use lawful_history::Line;
 use record_text::put_lines;
+use split_ring::{SHORTEST_FRAME, high_half, low_half};
 use std::alloc::{AllocError, Global};
 use trace_replay::Law;
+
+/// The length of an Ethernet frame's header in bytes, which is that of the shortest frame.
+const HEADER: usize = SHORTEST_FRAME as usize;
 
 /// How many lines are shown before the differing one, and after it.
 const AROUND: usize = 3;
@@ -30,15 +34,15 @@ fn law_words(law: Law) -> &'static str {
 fn frame_words(alloc: Global, which: &str, frame: &Frame) -> Result<String, AllocError> {
     let bytes = frame.bytes();
     let size = bytes.len();
-    if size < 14 {
+    if size < HEADER {
         return format!(in alloc;
-            "{which}: a frame of {size} bytes, too short for a header of 14\n"
+            "{which}: a frame of {size} bytes, too short for a header of {HEADER}\n"
         );
     }
     let to = hex::encode(alloc, &bytes[..6])?;
     let from = hex::encode(alloc, &bytes[6..12])?;
-    let kind = hex::encode(alloc, &bytes[12..14])?;
-    let data = size - 14;
+    let kind = hex::encode(alloc, &bytes[12..HEADER])?;
+    let data = size - HEADER;
     format!(in alloc;
         "{which}: a frame of {size} bytes: destination {to}, source {from}, type {kind}, then {data} bytes\n"
     )
@@ -53,8 +57,8 @@ fn value_words(
     word: u32,
     value: u32,
 ) -> Result<String, AllocError> {
-    let low = value % 65_536;
-    let high = value / 65_536;
+    let low = low_half(value);
+    let high = high_half(value);
     format!(in alloc;
         "{which}: peer {peer} {verb} word {word}, value {value}, which is {high} in the high half and {low} in the low half\n"
     )

@@ -10,9 +10,9 @@ use crate::fault_words::fault_words;
 use crate::forms::Form;
 use crate::places::put_place;
 use crate::refusals::{Place, Reason, Refusal};
-use crate::status::Status;
 use crate::verdicts::{Verdict, verdict_of};
 use ivs_base::NoMemory;
+use program_edge::Status;
 use std::alloc::{AllocError, Global};
 
 /// What is due to bytes that were read.
@@ -79,7 +79,7 @@ pub fn reply_to(alloc: Global, form: Form, bytes: &[u8]) -> Result<Reply, NoMemo
 {
     match verdict_of(alloc, form, bytes)? {
         Verdict::Accepted => Ok(Reply {
-            status: Status::Accepted,
+            status: Status::Done,
             text: accepted(form).to_vec(alloc)?,
         }),
         Verdict::Refused(refusal) => Ok(Reply {

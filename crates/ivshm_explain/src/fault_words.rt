@@ -10,7 +10,9 @@ use crate::refusals::{Place, Reason, Refusal};
 use crate::shapes::Grammar;
 use crate::size_words::{bad_geometry_words, no_end_words};
 use crate::texts::FaultyText;
+use frame_capture::MOST_ACTS;
 use line_format::cut;
+use split_ring::{FRAME_OVERHEAD, LEAST_MTU, SHORTEST_FRAME};
 use std::alloc::{AllocError, Global};
 
 /// Whether a line `end` stands before the line with this number, or anywhere if the number is 0.
@@ -47,9 +49,13 @@ fn faulty_text(form: Form, bytes: &[u8], number: u64) -> FaultyText {
 
 /// The least and the most bytes of a frame of this text.
 fn frame_sizes(text: &FaultyText) -> (u64, u64) {
+    let least = u64::from(SHORTEST_FRAME);
     match text.grammar {
-        Grammar::Bridge => (14, 274),
-        _ => (14, text.head_number(b"mtu").saturating_add(18)),
+        Grammar::Bridge => (least, u64::from(LEAST_MTU) + FRAME_OVERHEAD),
+        _ => (
+            least,
+            text.head_number(b"mtu").saturating_add(FRAME_OVERHEAD),
+        ),
     }
 }
 
@@ -92,7 +98,7 @@ fn line_words(
         Reason::BadGeometry => bad_geometry_words(alloc, text, number),
         Reason::TooManyTurns => {
             format!(in alloc;
-                "with this line the acts count for more than 4000000: a `turn P K` counts for K, and any other act for 1\n"
+                "with this line the acts count for more than {MOST_ACTS}: a `turn P K` counts for K, and any other act for 1\n"
             )
         }
         Reason::TooManyFrames => { format!(in alloc; "this is frame 10001: 10000 are the most\n") }

@@ -4,9 +4,8 @@ ghost use Rattle.std.specs.String.{string_bytes};
 ghost use Rattle.ivshm_explain.specs.Forms.{form_of, config_of, load_of, capture_of, feed_of, IsFit, limit_of};
 
 use line_format::number;
-
-/// The most frames of a load.
-const MOST_FRAMES: u64 = 80_000;
+use program_edge::{MOST_FRAMES, RECORD_LIMIT, TEXT_LIMIT};
+use section_dump::LONGEST_IMAGE;
 
 /// A form of `ivshm`, as what it reads.
 #[derive(Clone, Copy, Debug, PartialEq, Eq)]
@@ -125,8 +124,8 @@ pub fn limit(form: Form) -> u64
 {
     match form {
         Form::Load => 0,
-        Form::Record => 1 << 30,
-        Form::Dump => (1 << 24) + 32,
-        _ => 1 << 24,
+        Form::Record => RECORD_LIMIT,
+        Form::Dump => LONGEST_IMAGE,
+        _ => TEXT_LIMIT,
     }
 }

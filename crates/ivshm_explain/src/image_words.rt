@@ -4,6 +4,8 @@ use crate::places::from_place;
 use crate::refusals::{Reason, Refusal};
 use crate::size_words::{Sizes, sizes_words};
 use byteorder::{ByteOrder, LittleEndian};
+use section_dump::HEADER_LEN;
+use section_map::{LEAST_PEERS, MOST_PEERS};
 use std::alloc::{AllocError, Global};
 
 /// The 32-bit number at a place; 0 if the image ends before it.
@@ -42,11 +44,11 @@ fn header_words(alloc: Global, image: &[u8]) -> Result<String, AllocError> {
     }
     if !image.starts_with(b"IVSHMIMG") {
         return format!(in alloc;
-            "an image begins with `IVSHMIMG`, which is 495653484d494d47: write the header of 32 bytes before the region's bytes\n"
+            "an image begins with `IVSHMIMG`, which is 495653484d494d47: write the header of {HEADER_LEN} bytes before the region's bytes\n"
         );
     }
     format!(in alloc;
-        "the header has 32 bytes, and there are {size}: write the peers, the three sizes and then the region's bytes\n"
+        "the header has {HEADER_LEN} bytes, and there are {size}: write the peers, the three sizes and then the region's bytes\n"
     )
 }
 
@@ -54,9 +56,9 @@ fn header_words(alloc: Global, image: &[u8]) -> Result<String, AllocError> {
 fn geometry_words(alloc: Global, image: &[u8]) -> Result<String, AllocError> {
     let sizes = sizes_of(image);
     let peers = sizes.peers;
-    if !(2..=65_536).contains(&peers) {
+    if !(u64::from(LEAST_PEERS)..=u64::from(MOST_PEERS)).contains(&peers) {
         return format!(in alloc;
-            "the header has {peers} peers, with the lowest byte first: 2 to 65536 are due\n"
+            "the header has {peers} peers, with the lowest byte first: {LEAST_PEERS} to {MOST_PEERS} are due\n"
         );
     }
     sizes_words(alloc, sizes)
@@ -71,7 +73,7 @@ fn need_words(alloc: Global, image: &[u8], need: u64) -> Result<String, AllocErr
         out,
     } = sizes_of(image);
     format!(in alloc;
-        "the header asks for {need} bytes (header 32, table {table}, common {common}, {peers} sections of {out})"
+        "the header asks for {need} bytes (header {HEADER_LEN}, table {table}, common {common}, {peers} sections of {out})"
     )
 }
 

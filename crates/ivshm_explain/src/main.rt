@@ -15,7 +15,6 @@
 //!   forms, and no contract covers it. `checks/faults` holds it to words written by hand.
 #![tactic(auto)]
 
-mod arguments;
 mod capture_words;
 mod difference_text;
 mod difference_words;
@@ -32,13 +31,12 @@ mod program;
 mod refusals;
 mod shapes;
 mod size_words;
-mod status;
 mod texts;
 mod verdicts;
 
-use arguments::words_of;
 use ivs_base::{InputSource, OutputSink};
 use program::status_of_words;
+use program_edge::words_of;
 use std::process::ExitCode;
 use std::{env, io};
 

@@ -3,6 +3,7 @@
 use crate::shapes::{Grammar, range_of};
 use crate::texts::{FaultyText, fields_of, first_word, is_name, number_named, shape_of, text_of};
 use line_format::number;
+use section_map::PAGE;
 use std::alloc::{AllocError, Global};
 
 /// What is wrong with a field that spells no number, or one out of its range.
@@ -77,7 +78,7 @@ fn form_range_words(
 /// How many words the region of a scenario or of a schedule of ports has.
 fn region_words(text: &FaultyText) -> u64 {
     let table = match text.grammar {
-        Grammar::Ports => 4096,
+        Grammar::Ports => u64::from(PAGE),
         _ => text.head_number(b"table"),
     };
     let sections = text.peers().saturating_mul(text.head_number(b"out"));

@@ -5,11 +5,9 @@ ghost use Rattle.ivshm_explain.specs.Places.{line_at, visible, number_text, digi
 
 use crate::refusals::Place;
 use byteorder::{BigEndian, ByteOrder, LittleEndian};
+use frame_capture::{HEADER_LEN, MAGIC, PACKET_HEADER_LEN};
 use line_format::cut;
 use std::alloc::{AllocError, Global};
-
-/// The first number of a capture file, in the byte order of its numbers.
-const MAGIC: u32 = 0xa1b2_c3d4;
 
 /// The most bytes of a line that are shown.
 const SHOWN: u64 = 160;
@@ -128,7 +126,7 @@ pub fn captured_in(file: &[u8], packet: &[u8]) -> u64
     ensures value { result ≡ captured_in file.now packet.now }
     ensures small { result < 2 ^ 32 }
 {
-    if file.len() < 24 || packet.len() < 12 {
+    if file.len() < HEADER_LEN || packet.len() < 12 {
         0
     } else if LittleEndian::read_u32(file) == MAGIC {
         u64::from(LittleEndian::read_u32(&packet[8..]))
@@ -145,7 +143,7 @@ fn after_packets<'a>(file: &[u8], count: u64, left: &'a [u8]) -> &'a [u8]
     let mut rest = left;
     let mut more = count;
     while more > 0 {
-        rest = from_place(rest, 16 + captured_in(file, rest));
+        rest = from_place(rest, PACKET_HEADER_LEN as u64 + captured_in(file, rest));
         more -= 1;
     }
     rest
@@ -155,7 +153,8 @@ fn after_packets<'a>(file: &[u8], count: u64, left: &'a [u8]) -> &'a [u8]
 pub fn packet_at(file: &[u8], number: u64) -> &[u8]
     ensures { result.now ≡ packet_at file.now number }
 {
-    after_packets(file, number.saturating_sub(1), from_place(file, 24))
+    let packets = from_place(file, HEADER_LEN as u64);
+    after_packets(file, number.saturating_sub(1), packets)
 }
 
 /// Puts the place of a packet last, and the 16 bytes before its frame.
@@ -164,7 +163,8 @@ fn put_packet(alloc: Global, out: &mut Vec<u8>, bytes: &[u8], number: u64) -> Re
 {
     let packet = packet_at(bytes, number);
     let first = (bytes.len() as u64).saturating_sub(packet.len() as u64);
-    put_bytes(alloc, out, first, first_of(packet, 16))
+    let header = first_of(packet, PACKET_HEADER_LEN as u64);
+    put_bytes(alloc, out, first, header)
 }
 
 /// Puts the number and the text of a line last.

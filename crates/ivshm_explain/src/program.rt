@@ -1,32 +1,19 @@
 //! The top call.
-ghost use Rattle.std.specs.Prelude.{◌≡◌, ◌≢◌, ◌⊎◌, ◌+◌, None, IfOk, IsErrOf, map};
+ghost use Rattle.std.specs.Prelude.{◌≡◌, ◌⊎◌, ◌+◌, None, IfOk, IsErrOf, map};
 ghost use Rattle.std.specs.String.{string_bytes};
-ghost use Rattle.ivs_base.specs.SourceAndSink.{Gave, GaveMany, Took, SourceFailed, SinkFailed};
+ghost use Rattle.ivs_base.specs.SourceAndSink.{Gave, GaveMany, SourceFailed};
 ghost use Rattle.ivshm_explain.specs.Forms.{form_of, limit_of};
 ghost use Rattle.ivshm_explain.specs.Explained.{IsRead, HasCause};
 
-use crate::arguments::WordsFault;
 use crate::explaining::{Reply, reply_to, too_many};
 use crate::forms::{Form, limit, read_form};
-use crate::status::Status;
-use ivs_base::{ReadEnd, Sink, Source, read_all, write_whole};
+use ivs_base::{ReadEnd, Sink, Source, read_all};
+use program_edge::{Status, WordsFault, write_text};
 use std::alloc::Global;
 
 /// The line that says which words the program knows.
 const USAGE: &[u8] =
     b"usage: ivshm_explain sim | run | replay | renew | dump | config P | load N | capture P | feed P | ports | bridge\n";
-
-/// Writes a text. The status is this one where all of it was written, else WriteFault.
-fn write_text<K: Sink>(sink: &mut K, text: &[u8], status: Status) -> Status
-    ensures cases { (result ≡ status) ⊎ (result ≡ Status.WriteFault) }
-    ensures whole { result ≢ Status.WriteFault → Took (K.output sink.old) text.now (K.output sink.new) }
-    ensures fault { result ≢ status → SinkFailed (K.output sink.old) (K.output sink.new) }
-{
-    match write_whole(sink, text) {
-        Ok(()) => status,
-        Err(_) => Status::WriteFault,
-    }
-}
 
 /// The bytes that the form reads: none for `load`, else all up to the end.
 fn read_of<S: Source>(alloc: Global, form: Form, source: &mut S) -> Result<Vec<u8>, ReadEnd>
@@ -43,7 +30,8 @@ fn read_of<S: Source>(alloc: Global, form: Form, source: &mut S) -> Result<Vec<u
 
 /// Runs the words of the program, which are its arguments after its name and those of `ivshm`:
 /// reads what that form reads to its end, and explains what `ivshm` answers to it. Nothing is
-/// written before the explanation is whole. `load N` reads nothing, and is never refused.
+/// written before the explanation is whole. `load N` reads nothing, and is never refused. The
+/// status is that of `ivshm` on the same words and bytes.
 // claim cause: Each status has its cause. An explanation begins with the line that `ivshm` answers
 //    and with the faulty line or the faulty bytes. A difference has the line found, and the line
 //    due in the lawful history.

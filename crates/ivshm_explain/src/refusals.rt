@@ -1,13 +1,14 @@
 //! Why a text is refused, and where: what `ivshm` answers in one line.
 ghost use Rattle.std.specs.Prelude.{◌≡◌, IfOk};
-ghost use Rattle.ivshm_explain.specs.Refusals.{number_of, name_of, place_line_of, count_line_of, verdict_of, at, whole, at_bytes, at_packet, of_scenario, of_record, of_ports, of_bridge, of_sizes, of_image, of_capture};
+ghost use Rattle.ivshm_explain.specs.Refusals.{number_of, name_of, verdict_of, at, whole, at_bytes, at_packet, of_scenario, of_record, of_ports, of_bridge, of_sizes, of_image, of_capture};
 
 use bridge_text::BridgeFault;
 use frame_capture::CaptureFault;
 use port_text::PortsFault;
+use program_edge::{count_line, place_line};
 use record_text::RecordFault;
 use scenario_text::ScenarioFault;
-use section_dump::DumpFault;
+use section_dump::{DumpFault, HEADER_LEN};
 use section_map::{GeometryFault, Part};
 use std::alloc::{AllocError, Global};
 
@@ -107,29 +108,6 @@ impl Reason {
     }
 }
 
-/// The answer to a line that is wrong, or to a text as a whole.
-fn place_line(alloc: Global, number: u64, name: &'static str) -> Result<Vec<u8>, AllocError>
-    ensures { IfOk result (λ v. v.items ≡ place_line_of number name.now) }
-{
-    let line = format!(in alloc; "refused {number} {name}\n")?;
-    Ok(line.into_bytes())
-}
-
-/// The answer to a record that hasn't as many lines as it states, or to an image that hasn't as
-/// many bytes as its header asks for.
-fn count_line(
-    alloc: Global,
-    number: u64,
-    name: &'static str,
-    kept: u64,
-    found: u64,
-) -> Result<Vec<u8>, AllocError>
-    ensures { IfOk result (λ v. v.items ≡ count_line_of number name.now kept found) }
-{
-    let line = format!(in alloc; "refused {number} {name} {kept} {found}\n")?;
-    Ok(line.into_bytes())
-}
-
 impl Refusal {
     /// The refusal of a line.
     fn at(line: u64, reason: Reason) -> Option<Refusal>
@@ -178,10 +156,10 @@ impl Refusal {
         let number = self.place.number();
         let name = self.reason.name();
         match self.reason {
-            Reason::BadCount { kept, found } => count_line(alloc, number, name, kept, found),
-            Reason::ShortImage { need, found } => count_line(alloc, number, name, need, found),
-            Reason::LongImage { need, found } => count_line(alloc, number, name, need, found),
-            _ => place_line(alloc, number, name),
+            Reason::BadCount { kept, found } => count_line(alloc, name, number, kept, found),
+            Reason::ShortImage { need, found } => count_line(alloc, name, number, need, found),
+            Reason::LongImage { need, found } => count_line(alloc, name, number, need, found),
+            _ => place_line(alloc, name, number),
         }
     }
 
@@ -271,7 +249,7 @@ impl Refusal {
         ensures { result ≡ of_image fault }
     {
         match fault {
-            DumpFault::BadHeader => Refusal::at_bytes(0, 32, Reason::BadHeader),
+            DumpFault::BadHeader => Refusal::at_bytes(0, HEADER_LEN, Reason::BadHeader),
             DumpFault::Geometry(fault) => Refusal::of_sizes(fault),
             DumpFault::ShortImage { need, found } => {
                 Refusal::at_bytes(found, 1, Reason::ShortImage { need, found })

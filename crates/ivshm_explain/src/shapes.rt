@@ -1,5 +1,9 @@
 //! The forms of lines as docs/FORMATS.md writes them, and the ranges of their numbers.
 
+use frame_capture::MOST_ACTS;
+use pci_space::{MOST_VECTORS, SPACE_LEN};
+use section_map::PAGE;
+
 /// What the lines of a text are, for a reader of its faults.
 #[derive(Clone, Copy, Debug, PartialEq, Eq)]
 pub enum Grammar {
@@ -132,7 +136,7 @@ pub fn shapes(grammar: Grammar) -> &'static [&'static str] {
 }
 
 /// The last number of a 32-bit field.
-const U32: u64 = 4_294_967_295;
+const U32: u64 = u32::MAX as u64;
 
 /// The first and the last number of a field of a history line.
 fn history_range(word: &[u8], name: &[u8]) -> (u64, u64) {
@@ -150,7 +154,7 @@ fn head_range(word: &[u8], name: &[u8]) -> Option<(u64, u64)> {
         b"ports" if name == b"K".as_slice() => Some((2, 8)),
         b"ports" | b"bridge" => Some((1, 1)),
         b"rounds" => Some((0, 4000)),
-        b"irq" => Some((1, 64)),
+        b"irq" => Some((1, u64::from(MOST_VECTORS))),
         b"table" | b"mtu" | b"message" => Some((0, U32)),
         _ => None,
     }
@@ -159,12 +163,12 @@ fn head_range(word: &[u8], name: &[u8]) -> Option<(u64, u64)> {
 /// The first and the last number of a field of an act.
 fn act_range(word: &[u8], name: &[u8]) -> (u64, u64) {
     match name {
-        b"K" => (0, 4_000_000),
-        b"OFFSET" if word == b"cfg".as_slice() => (0, 255),
-        b"OFFSET" => (0, 4095),
+        b"K" => (0, MOST_ACTS),
+        b"OFFSET" if word == b"cfg".as_slice() => (0, SPACE_LEN as u64 - 1),
+        b"OFFSET" => (0, u64::from(PAGE) - 1),
         b"WIDTH" => (1, 4),
-        b"VECTOR" if word == b"again".as_slice() => (0, 63),
-        b"TARGET" | b"VECTOR" => (0, 65_535),
+        b"VECTOR" if word == b"again".as_slice() => (0, u64::from(MOST_VECTORS) - 1),
+        b"TARGET" | b"VECTOR" => (0, u64::from(u16::MAX)),
         b"WORD" | b"VALUE" => (0, U32),
         _ => (0, u64::MAX),
     }

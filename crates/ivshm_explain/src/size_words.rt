@@ -2,13 +2,14 @@
 
 use crate::shapes::Grammar;
 use crate::texts::{FaultyText, first_word};
+use split_ring::{FRAME_OVERHEAD, LEAST_MTU, MOST_MTU};
 use std::alloc::{AllocError, Global};
 
 /// The bytes of a page.
-const PAGE: u64 = 4096;
+const PAGE: u64 = section_map::PAGE as u64;
 
 /// The most bytes of a region.
-const REGION: u64 = 16_777_216;
+const REGION: u64 = section_map::LARGEST_REGION as u64;
 
 /// Why a size isn't a number of whole pages; nothing if it is.
 fn page_words(
@@ -91,17 +92,17 @@ fn region_words(alloc: Global, text: &FaultyText) -> Result<String, AllocError> 
 fn queue_words(alloc: Global, text: &FaultyText) -> Result<String, AllocError> {
     let mtu = text.head_number(b"mtu");
     let out = text.head_number(b"out");
-    if mtu < 256 || mtu > 65_535 {
-        return format!(in alloc; "the MTU is {mtu}: 256 to 65535 is due\n");
+    if mtu < u64::from(LEAST_MTU) || mtu > u64::from(MOST_MTU) {
+        return format!(in alloc; "the MTU is {mtu}: {LEAST_MTU} to {MOST_MTU} is due\n");
     }
     if out < 16_384 {
         return format!(in alloc;
             "a section of {out} bytes has no room for a queue: `out 16384` or more is due\n"
         );
     }
-    let frame = mtu.saturating_add(18);
+    let frame = mtu.saturating_add(FRAME_OVERHEAD);
     format!(in alloc;
-        "a frame of {frame} bytes (mtu + 18) doesn't fit the data area of a section of {out} bytes: a smaller MTU or a greater `out` is due\n"
+        "a frame of {frame} bytes (mtu + {FRAME_OVERHEAD}) doesn't fit the data area of a section of {out} bytes: a smaller MTU or a greater `out` is due\n"
     )
 }
 

@@ -24,10 +24,7 @@ pub enum WordsFault {
 
 /// Returns the words of the program: its arguments after its name. Returns `NotText` exactly if
 /// `args` fails for another reason than memory.
-// claim words, not_text with status_of_words.words, status_of_words.not_text,
-//    status_of_words.no_memory: The words are the arguments after the program's name, all of them
-//    and unchanged. A word that is not UTF-8 is no form. Without memory for the words nothing is
-//    read or written.
+// claim words, not_text: The words are the arguments after the program's name, all and unchanged.
 pub fn words_of(alloc: Global, args: io::Result<Args>) -> Result<Vec<String>, WordsFault>
     ensures words { IfOk result (λ w. IsOkAnd args (λ a. w.items ≡ drop 1 (into_iter_items a))) }
     ensures not_text { IsErrOf result WordsFault.NotText ↔ IsErrAnd args (λ e. error_kind e ≢ OutOfMemory) }

@@ -1,6 +1,6 @@
 use Rattle.std.proofs.Common.{◌≡◌, ◌++◌}
 use Rattle.std.specs.Vec.Iter.{into_iter_items, into_iter_len}
-use Rattle.ivshm_cli.proofs.arguments.words_of.Given as goal
+use Rattle.program_edge.proofs.arguments.words_of.Given as goal
 
 -- The words so far, and then the arguments that are left.
 abbrev pub invariant-loop-word : goal.invariant-loop-word

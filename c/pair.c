@@ -1,12 +1,15 @@
-/* pair REGION ME OUT MTU FRAMES SIZE                one end; run it twice, with ME 0 and 1
+/* pair REGION ME OUT MTU FRAMES SIZE [BURST]        one end; run it twice, with ME 0 and 1
  * pair --both OUT MTU FRAMES SIZE [--record FILE]   both ends in this process, in turn
  * pair --counts OUT MTU FRAMES SIZE                 the same, and prints all counts of each end
  *
  * Each end sends FRAMES frames of SIZE bytes, and compares each frame that it takes with the one
  * that the other sent at that place. An end has exit number 1 if it lost, changed or refused
  * anything, or if the library's counts differ from the link's. With --record the record of both
- * ends is written to FILE: see record.h. */
-#include "region.h"
+ * ends is written to FILE: see record.h. With BURST an end measures: it polls after that many
+ * offers, in place of 16. Its frames are made beforehand, and the comparison is short: frames.h. */
+#include "region.h" /* first: it asks for POSIX */
+
+#include "frames.h"
 
 #include <sched.h>
 
@@ -14,34 +17,28 @@ struct side {
     struct region region;
     size_t size;
     uint64_t frames, sent, taken, bad;
-    uint8_t next[IVSHM_LONGEST], expected[IVSHM_LONGEST];
+    const uint8_t *next; /* the frame to be sent */
+    uint8_t made[IVSHM_LONGEST], expected[IVSHM_LONGEST];
+    struct kept_frames kept; /* of a measurement */
     ivshm_link_count list[IVSHM_LINK_LIST];
 };
 
-/* Makes frame `number` of this peer: an Ethernet header to all, the number, and bytes that depend
- * on both. */
-static void make(uint8_t *frame, uint32_t from, uint64_t number, size_t size) {
-    uint64_t x = number * 2 + from + 1;
-    memset(frame, 0xff, 6);
-    memset(frame + 6, 0, 6);
-    frame[6] = 2;
-    frame[11] = (uint8_t)from;
-    frame[12] = 0x88;
-    frame[13] = 0xb5;
-    for (size_t i = 14; i < size; i++) {
-        if (i % 8 == 6) {
-            x ^= x << 13;
-            x ^= x >> 7;
-            x ^= x << 17;
-        }
-        frame[i] = (uint8_t)(x >> 8 * ((i - 6) % 8));
-    }
+static bool is_right(struct side *s, uint32_t from, uint64_t number, const uint8_t *frame, size_t length) {
+    if (s->kept.frames) return is_kept(&s->kept, from, number, frame, length);
+    make_frame(s->expected, from, number, s->size);
+    return length == s->size && memcmp(frame, s->expected, length) == 0;
 }
 
 static void take(struct region *r, const uint8_t *frame, size_t length) {
     struct side *s = r->context;
-    make(s->expected, 1 - r->link.setup.me, s->taken++, s->size);
-    if (length != s->size || memcmp(frame, s->expected, length) != 0) s->bad++;
+    if (!is_right(s, 1 - r->link.setup.me, s->taken++, frame, length)) s->bad++;
+}
+
+/* Makes the frame that is sent next, or takes it from those that are kept. */
+static void prepare(struct side *s) {
+    uint32_t me = s->region.link.setup.me;
+    if (s->kept.frames) s->next = kept_frame(&s->kept, me, s->sent);
+    else make_frame(s->made, me, s->sent, s->size);
 }
 
 static void begin(struct side *s, const char *path, uint32_t me, char **sizes, struct record *record) {
@@ -50,14 +47,16 @@ static void begin(struct side *s, const char *path, uint32_t me, char **sizes, s
     s->region.deliver = take;
     s->frames = strtoull(sizes[2], NULL, 10);
     s->size = strtoull(sizes[3], NULL, 10);
-    make(s->next, me, 0, s->size);
+    s->next = s->made;
+    prepare(s);
 }
 
 /* Offers up to `most` frames, and polls once. */
-static void exchange(struct side *s, int most) {
-    for (int i = 0; i < most && s->sent < s->frames; i++) {
+static void exchange(struct side *s, uint64_t most) {
+    for (uint64_t i = 0; i < most && s->sent < s->frames; i++) {
         if (offer(&s->region, s->next, s->size) != IVSHM_ACCEPTED) break;
-        make(s->next, s->region.link.setup.me, ++s->sent, s->size);
+        s->sent++;
+        prepare(s);
     }
     take_frames(&s->region);
 }
@@ -94,8 +93,10 @@ static int report(const struct side *s, double seconds) {
     return s->bad || counts->refusals || counts->stray || !counts_agree(s) || !is_done(s);
 }
 
-static int one(const char *path, uint32_t me, char **sizes) {
+/* One end. With `burst` above 0 it measures. */
+static int one(const char *path, uint32_t me, char **sizes, uint64_t burst) {
     static struct side s;
+    if (burst > 0) keep_frames(&s.kept, strtoull(sizes[3], NULL, 10));
     begin(&s, path, me, sizes, NULL);
     double started = now();
     while (!is_running(&s.region) && now() - started < 20) {
@@ -105,7 +106,7 @@ static int one(const char *path, uint32_t me, char **sizes) {
     double start = now(), last = start;
     for (uint64_t idle = 0; !is_done(&s) && is_running(&s.region) && now() - last < 20;) {
         uint64_t before = s.taken;
-        exchange(&s, 16);
+        exchange(&s, burst > 0 ? burst : 16);
         if (s.taken != before) {
             last = now();
             idle = 0;
@@ -158,10 +159,11 @@ static int both(char **sizes, const char *record, bool prints) {
 }
 
 int main(int argc, char **argv) {
-    if (argc == 7 && strcmp(argv[1], "--both") != 0) return one(argv[1], (uint32_t)strtoul(argv[2], NULL, 10), argv + 3);
+    if ((argc == 7 || argc == 8) && argv[1][0] != '-')
+        return one(argv[1], (uint32_t)strtoul(argv[2], NULL, 10), argv + 3, argc == 8 ? strtoull(argv[7], NULL, 10) : 0);
     if (argc == 6 && !strcmp(argv[1], "--both")) return both(argv + 2, NULL, false);
     if (argc == 6 && !strcmp(argv[1], "--counts")) return both(argv + 2, NULL, true);
     if (argc == 8 && !strcmp(argv[1], "--both") && !strcmp(argv[6], "--record")) return both(argv + 2, argv[7], false);
-    fprintf(stderr, "usage: pair REGION ME OUT MTU FRAMES SIZE | pair --both OUT MTU FRAMES SIZE [--record FILE] | pair --counts OUT MTU FRAMES SIZE\n");
+    fprintf(stderr, "usage: pair REGION ME OUT MTU FRAMES SIZE [BURST] | pair --both OUT MTU FRAMES SIZE [--record FILE] | pair --counts OUT MTU FRAMES SIZE\n");
     return 2;
 }

@@ -4,8 +4,8 @@ use Rattle.ivshm_explain.specs.Explained.{IsReply, HasCause}
 use Rattle.ivshm_explain.proofs.Causes.{replied, written}
 use Rattle.ivshm_explain.proofs.program.explain.Goals as goal
 
-pub write_text-in-Ok-reply_to-requires : goal.write_text-in-Ok-reply_to-requires
-write_text-in-Ok-reply_to-requires g c =
+pub write_text-requires-in-Ok-reply_to : goal.write_text-requires-in-Ok-reply_to
+write_text-requires-in-Ok-reply_to g c =
     written c.in-Some.form c.deref-2.result.now c.in-Ok-reply_to.reply.text.items c.in-Ok-reply_to.reply.status c.in-Ok-reply_to.ensures
 
 pub returns-in-Ok-reply_to-clause-cause : goal.returns-in-Ok-reply_to-clause-cause

@@ -1,5 +1,5 @@
 //! Two peers, of which peer 0 ticks twice, and their history line by line.
-ghost use Rattle.std.specs.Prelude.{◌≡◌, OnOk};
+ghost use Rattle.std.specs.Prelude.{◌≡◌, None, IfOk, OnOk};
 
 use link_model::{Law, Line, Run, StepFault, Unlawful};
 use scenario_text::parse;
@@ -43,19 +43,29 @@ fn take(run: &mut Run, lines: &[Line]) -> Result<(), StepFault>
     Ok(())
 }
 
+/// Returns a run of the scenario, which outlives the scenario.
+fn new_run(alloc: Global) -> Result<Run, Fail>
+    ensures { IfOk result (λ run. run.fault ≡ None) }
+{
+    let scenario = parse(alloc, SCENARIO)?;
+    Ok(Run::new(alloc, &scenario, 1)?)
+}
+
+/// Whether the run refuses this line for this fault, and is closed with that fault.
+#[must_use]
+fn refuses(run: &mut Run, line: &Line, fault: Unlawful) -> bool {
+    run.step(line) == Err(StepFault::Unlawful(fault)) && run.close() == Err(fault)
+}
+
 // claim link_model.Run.step.taken
 // claim link_model.Run.close.whole
 #[test]
 fn a_whole_history(rt: HostRuntime) -> Result<(), Fail> {
-    let alloc = rt.alloc();
-    let scenario = parse(alloc, SCENARIO)?;
-    let mut run = Run::new(alloc, &scenario, 1)?;
-    take(&mut run, lines(alloc)?.as_slice())?;
+    let mut run = new_run(rt.alloc())?;
+    take(&mut run, lines(rt.alloc())?.as_slice())?;
     assert!(rt; run.close().is_ok());
     let surplus = Line::Idle { peer: 0 };
-    let fault = unlawful(10, Law::Order);
-    assert!(rt; run.step(&surplus) == Err(StepFault::Unlawful(fault)));
-    assert!(rt; run.close() == Err(fault));
+    assert!(rt; refuses(&mut run, &surplus, unlawful(10, Law::Order)));
     Ok(())
 }
 
@@ -64,11 +74,9 @@ fn a_whole_history(rt: HostRuntime) -> Result<(), Fail> {
 // claim link_model.Run.step.taken
 #[test]
 fn a_history_that_is_cut(rt: HostRuntime) -> Result<(), Fail> {
-    let alloc = rt.alloc();
-    let scenario = parse(alloc, SCENARIO)?;
-    let mut run = Run::new(alloc, &scenario, 1)?;
+    let mut run = new_run(rt.alloc())?;
     assert!(rt; run.close() == Err(unlawful(1, Law::Order)));
-    take(&mut run, lines(alloc)?.get(..3).unwrap_or(&[]))?;
+    take(&mut run, lines(rt.alloc())?.get(..3).unwrap_or(&[]))?;
     assert!(rt; run.close() == Err(unlawful(4, Law::Order)));
     Ok(())
 }
@@ -77,16 +85,12 @@ fn a_history_that_is_cut(rt: HostRuntime) -> Result<(), Fail> {
 // claim link_model.Run.step.again
 #[test]
 fn a_fault_stays(rt: HostRuntime) -> Result<(), Fail> {
-    let alloc = rt.alloc();
-    let scenario = parse(alloc, SCENARIO)?;
-    let mut run = Run::new(alloc, &scenario, 1)?;
-    let wrong = Line::Saw { peer: 0, value: 7 };
-    let fault = unlawful(2, Law::Link);
-    let right = Line::Saw { peer: 0, value: 0 };
-    take(&mut run, lines(alloc)?.get(..1).unwrap_or(&[]))?;
-    assert!(rt; run.step(&wrong) == Err(StepFault::Unlawful(fault)));
-    assert!(rt; run.step(&right) == Err(StepFault::Unlawful(fault)));
-    assert!(rt; run.close() == Err(fault));
+    let mut run = new_run(rt.alloc())?;
+    take(&mut run, lines(rt.alloc())?.get(..1).unwrap_or(&[]))?;
+    for value in [7, 0] {
+        let line = Line::Saw { peer: 0, value };
+        assert!(rt; refuses(&mut run, &line, unlawful(2, Law::Link)), "{value}");
+    }
     Ok(())
 }
 
@@ -96,17 +100,12 @@ struct Keeper {
     run: Run,
 }
 
-/// Returns a run that outlives the scenario that it was made of.
-fn kept_run(alloc: Global) -> Result<Keeper, Fail> {
-    let scenario = parse(alloc, SCENARIO)?;
-    let run = Run::new(alloc, &scenario, 1)?;
-    Ok(Keeper { run })
-}
-
 #[test]
 fn a_step_is_a_function_pointer(rt: HostRuntime) -> Result<(), Fail> {
     let alloc = rt.alloc();
-    let mut keeper = kept_run(alloc)?;
+    let mut keeper = Keeper {
+        run: new_run(alloc)?,
+    };
     let step: fn(&mut Run, &Line) -> Result<(), StepFault> = Run::step;
     for line in lines(alloc)?.as_slice() {
         step(&mut keeper.run, line)?;

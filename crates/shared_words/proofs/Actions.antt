@@ -20,7 +20,7 @@ pub accesses_snoc : {A : Type 0} → (xs : List (Action A)) (t : Action A) → a
 unfolding accesses_in
 accesses_snoc xs t = flat_map-append access_in xs (t ∷ []) ∙ ap (λ l. accesses_in xs ++ l) (append-nil (access_in t))
 
--- a memory operation is one more in its list, and another action leaves all of these lists
+-- A memory operation is one more in its list, and another action leaves all of these lists.
 pub grows_access : (acc next : ℕ → List (Action (MemoryOp CallAccess))) (p : ℕ) (d : MemoryOp CallAccess) → Appends acc next p (accessed d) → Appends (accesses_by acc) (accesses_by next) p d
 grows_access acc next p d g = record { here = ap accesses_in g.here ∙ accesses_snoc (acc p) (accessed d); neighbour_word = λ q ne. ap accesses_in (g.neighbour_word q ne) }
 

@@ -22,7 +22,7 @@ use Rattle.shared_words.proofs.Standings.{standing_none, stands_next}
 use Rattle.shared_words.proofs.Keys.{clash}
 use Rattle.shared_words.proofs.Keeping.{begun_numbers}
 
--- the session word of a hostile peer
+-- The session word of a hostile peer.
 pub hostile_none : (key : RunSetup) (memory words : ℕ → ℕ) (acc : ℕ → List (MemoryOp CallAccess)) → Made key memory words acc → (p : ℕ) → honest_of key p ≡ false → words p ≡ 0
 hostile_none key memory words acc (made.starts _ _ _ zeros nulls none) p h = nulls p
 hostile_none key after words next (made.makes memory _ _ acc _ q t k lt may meets leaves g) p h = hostile_none key memory words acc k p h
@@ -30,7 +30,7 @@ hostile_none key memory now next (made.stores _ words _ acc _ q number k may sto
 hostile_none key memory words next (made.loads _ _ acc _ q k may g) p h = hostile_none key memory words acc k p h
 hostile_none key after words next (made.resets memory _ _ acc _ q k lt stored g) p h = hostile_none key memory words acc k p h
 
--- what it carried, and what it has loaded for its next session
+-- What it carried, and what it has loaded for its next session.
 record LoadsNone (n : Numbers) : Type 0 where
   log : CarriesNone n.log
   loaded : number_of n.loaded ≡ 0
@@ -53,14 +53,14 @@ access_none n end a h = h
 reset_none : (n : Numbers) (end : End) → LoadsNone n → LoadsNone (numbers_reset n end)
 reset_none n end h = record { log = (h.log.0, ended_none n.log (own_side end) h.log); loaded = refl }
 
--- a memory operation other than a load, and a load of 0
+-- A memory operation other than a load, and a load of 0.
 deed_none : (config : EndConfig) (s : DerivedState) (d : MemoryOp CallAccess) → ((number : ℕ) → d ≡ carried number → number ≡ 0) → LoadsNone s.numbers → LoadsNone (after_memory_op config s d).numbers
 deed_none config s (called t) nulls h = let s' = begun_if config s t.begins in access_none s'.numbers s'.end (access_at config s'.place) (subst LoadsNone (sym (begun_numbers config s t.begins)) h)
 deed_none config s (numbered number) nulls h = record { log = h.log; loaded = h.loaded }
 deed_none config s (carried number) nulls h = record { log = h.log; loaded = nulls number refl }
 deed_none config s restarted nulls h = reset_none s.numbers s.end h
 
--- by one memory operation more of any peer
+-- By one memory operation more of any peer.
 next_none : (key : RunSetup) (acc next : ℕ → List (MemoryOp CallAccess)) (q : ℕ) (d : MemoryOp CallAccess) (p : ℕ) → honest_of key p ≡ true → Appends acc next q d → (q ≡ p → (number : ℕ) → d ≡ carried number → number ≡ 0) →
     LoadsNone (derived_state key p (acc p)).numbers → LoadsNone (derived_state key p (next p)).numbers
 next_none key acc next q d p h g nulls was = dite (ℕ_discrete p q)

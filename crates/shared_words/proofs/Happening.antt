@@ -27,7 +27,7 @@ use Rattle.shared_words.proofs.Regions.{region_at, region_past}
 use Rattle.shared_words.proofs.Ringing.{access_keeps, rang_keeps, looked_keeps, cleared_keeps}
 use Rattle.shared_words.proofs.Starting.{start_region, start_session, start_interrupts}
 
--- The words of the region among all, and those of the sessions
+-- The words of the region among all, and those of the sessions.
 
 abbrev pub low_of : RunSetup → (ℕ → ℕ) → ℕ → ℕ
 low_of key memory w = if nat_lt w (word_count key.geometry) then memory w else 0
@@ -58,7 +58,7 @@ module _ (key : RunSetup) (memory after : ℕ → ℕ) where
   last_same : (i n : ℕ) → i < word_count key.geometry + 2 * key.geometry.peers → Stored memory after i n → last_of key after ≡ last_of key memory
   last_same i n lt st = λ k p. st.neighbour_word (session_word key p) (λ e. omega arith) k
 
-  -- an access is to words of the region
+  -- An access is to words of the region.
   low_leaves : IsFit key → (p : ℕ) (a : Access) → p < key.geometry.peers → IsOwned key p a → MemoryAfter p memory a after → MemoryAfter p (low_of key memory) a (low_of key after)
   low_leaves fit p (access.Read word) lt own leaves = ap (low_of key) leaves
   low_leaves fit p (access.Write word value) lt own leaves = low_stored word value (within key p word fit lt (inl own)) leaves
@@ -85,7 +85,7 @@ low_meets key memory p access.Nothing value own meets = tt
 abbrev MadeOf : RunSetup → (ℕ → ℕ) → (ℕ → List (Action (MemoryOp CallAccess))) → Type 0
 MadeOf key memory acc = Made key (low_of key memory) (last_of key memory) (accesses_by acc)
 
--- an action that is no memory operation, in a word between those of the region and of the sessions
+-- An action that is no memory operation, in a word between those of the region and of the sessions.
 made_besides : (key : RunSetup) (memory after : ℕ → ℕ) (acc next : ℕ → List (Action (MemoryOp CallAccess))) (i n : ℕ) → word_count key.geometry ≤ i → i < word_count key.geometry + 2 * key.geometry.peers → Stored memory after i n → accesses_by next ≡ accesses_by acc →
     MadeOf key memory acc → MadeOf key after next
 made_besides key memory after acc next i n le lt st lists m = let low = low_same key memory after (λ w below. st.neighbour_word w (λ e. omega arith)) in let last = last_same key memory after i n lt st in

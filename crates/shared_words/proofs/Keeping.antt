@@ -26,7 +26,7 @@ pub begun_numbers : (config : EndConfig) (s : DerivedState) (call : Option Call)
 begun_numbers config s None = refl
 begun_numbers config s (Some call) = refl
 
--- one end goes on, wherever the other stands
+-- One end goes on, wherever the other stands.
 module _ (link_config : LinkConfig) (honest : ℕ → Bool) (words : ℕ → ℕ) (st : ℕ → DerivedState) (p : ℕ) (p2 : p < 2) (hp : honest p ≡ true) where
   abbrev R : (ℕ → ℕ) → DerivedState → Type 0
   R memory s = Reached link_config honest memory words (put st p s)
@@ -59,8 +59,8 @@ module _ (link_config : LinkConfig) (honest : ℕ → Bool) (words : ℕ → ℕ
   settle : (memory : ℕ → ℕ) (s : DerivedState) → R memory s → R memory (settled s)
   settle memory s k = settle_at memory s.end s.place s.numbers s.wake k
 
-  -- an honest end begins its call, takes the step of its place, and rings at once where it comes to
-  -- a doorbell
+  -- An honest end begins its call, takes the step of its place, and rings at once where it comes to
+  -- a doorbell.
   pub on_goes : (memory after : ℕ → ℕ) (s : DerivedState) (t : CallAccess) → Begins link_config s t.begins → is_open (begun_if (config_of link_config p) s t.begins).place ≡ true →
       ReadsMemory memory (access_at (config_of link_config p) (begun_if (config_of link_config p) s t.begins).place) t.value → MemoryAfter p memory (access_at (config_of link_config p) (begun_if (config_of link_config p) s t.begins).place) after →
       IsNumbered s.numbers (access_at (config_of link_config p) (begun_if (config_of link_config p) s t.begins).place) → R memory s → R after (after_access (config_of link_config p) s t)
@@ -71,16 +71,16 @@ module _ (link_config : LinkConfig) (honest : ℕ → Bool) (words : ℕ → ℕ
       opened None b = k
       opened (Some call) b = begin_at memory s call b.0 b.1 b.2 k
 
--- where the lists of all peers leave the ends
+-- Where the lists of all peers leave the ends.
 abbrev pub R_of : RunSetup → (memory words : ℕ → ℕ) → (ℕ → List (MemoryOp CallAccess)) → Type 0
 R_of key memory words acc = Reached (link_config_of key) (honest_of key) memory words (λ p. derived_state key p (acc p))
 
--- a memory operation of an honest peer moves it alone
+-- A memory operation of an honest peer moves it alone.
 pub only_stands : (key : RunSetup) (acc next : ℕ → List (MemoryOp CallAccess)) (p : ℕ) (d : MemoryOp CallAccess) → honest_of key p ≡ true → Appends acc next p d →
     OnlyComes (λ q. derived_state key q (acc q)) (λ q. derived_state key q (next q)) p (after_memory_op (config_in key p) (derived_state key p (acc p)) d)
 only_stands key acc next p d hp g = record { here = stands_next key p acc next d hp g; neighbour_word = λ q ne. ap (derived_state key q) (g.neighbour_word q ne) }
 
--- an access of an honest peer
+-- An access of an honest peer.
 pub honest_access : (key : RunSetup) (memory after words : ℕ → ℕ) (acc next : ℕ → List (MemoryOp CallAccess)) (p : ℕ) (t : CallAccess) → p < 2 → honest_of key p ≡ true → IsNext key p (derived_state key p (acc p)) t.begins t.access →
     ReadsMemory memory t.access t.value → MemoryAfter p memory t.access after → Appends acc next p (called t) → R_of key memory words acc → R_of key after words next
 honest_access key memory after words acc next p t p2 hp nx meets leaves grows k = let config = config_of (link_config_of key) p in let s = derived_state key p (acc p) in let st : ℕ → DerivedState = λ q. derived_state key q (acc q) in
@@ -95,7 +95,7 @@ honest_access key memory after words acc next p t p2 hp nx meets leaves grows k 
     (λ e. subst (λ x. derived_state key x (next x) ≡ after_access config s t) (sym e) here ∙ sym (put_here st p q (after_access config s t) e)) (λ ne. ap (derived_state key q) (grows.neighbour_word q ne) ∙ sym (put_else st p q (after_access config s t) ne)) in
     subst (λ (f : ℕ → DerivedState). Reached (link_config_of key) (honest_of key) after words f) (sym (λ i q. all q i)) then
 
--- its store of the next number, its load of the other's, and its reset
+-- Its store of the next number, its load of the other's, and its reset.
 pub honest_store : (key : RunSetup) (memory words now : ℕ → ℕ) (acc next : ℕ → List (MemoryOp CallAccess)) (p number : ℕ) → p < 2 → MayStoreSession key p (acc p) number → Stored words now p number → Appends acc next p (numbered number) →
     R_of key memory words acc → R_of key memory now next
 honest_store key memory words now acc next p number p2 may stored g k =
@@ -109,7 +109,7 @@ pub honest_reset : (key : RunSetup) (memory after words : ℕ → ℕ) (acc next
 honest_reset key memory after words acc next p p2 hp stored g k =
     reaches.resets memory after words (λ q. derived_state key q (acc q)) (λ q. derived_state key q (next q)) p k p2 hp stored (only_stands key acc next p restarted hp g)
 
--- a memory operation of a hostile peer, which leaves the words of each honest one
+-- A memory operation of a hostile peer leaves the words of each honest one.
 pub hostile_deed : (key : RunSetup) (memory after words : ℕ → ℕ) (acc next : ℕ → List (MemoryOp CallAccess)) (p : ℕ) (d : MemoryOp CallAccess) → honest_of key p ≡ false → ((q : ℕ) → q < 2 → honest_of key q ≡ true → IsUntouched (link_config_of key) memory after q) →
     Appends acc next p d → R_of key memory words acc → R_of key after words next
 hostile_deed key memory after words acc next p d hp untouched grows k =

@@ -9,7 +9,7 @@ use Rattle.link_invariant.specs.Steps.{Stored, IsUntouched}
 use Rattle.shared_words.specs.declared.run_setup.RunSetup.{RunSetup}
 use Rattle.shared_words.specs.RunSetups.{config_in, link_config_of, honest_of, IsFit}
 
--- a link peer is the same one on the link's configuration
+-- A link peer is the same one on the link's configuration.
 pub same_section : (key : RunSetup) (p : ℕ) → p < 2 → section_start key.geometry p ≡ section_of (link_config_of key) p
 same_section key zero p2 = omega arith
 same_section key (suc zero) p2 = omega arith
@@ -30,7 +30,7 @@ number false = 0
 pub clash : false ≡ true → ⊥
 clash e = let h : number false ≡ number true = ap number e in omega arith
 
--- an honest peer is one of the link
+-- An honest peer is one of the link.
 honest_none : (key : RunSetup) (p : ℕ) → p ≢ 0 → p ≢ 1 → honest_of key p ≡ false
 honest_none key p one other = ap (λ (b : Bool). if b then key.first_is_honest else (if p == 1 then key.second_is_honest else false)) (ne_eqb p 0 one)
     ∙ ap (λ (b : Bool). if b then key.second_is_honest else false) (ne_eqb p 1 other)
@@ -40,7 +40,7 @@ honest_below key zero is = omega arith
 honest_below key (suc zero) is = omega arith
 honest_below key (suc (suc p)) is = absurd (clash (sym (honest_none key (suc (suc p)) (λ e. omega arith) (λ e. omega arith)) ∙ is))
 
--- the sections of two peers share no word
+-- The sections of two peers share no word.
 abbrev pub Apart : Shape → ℕ → ℕ → Type 0
 Apart g p q = (section_start g p + g.out ≤ section_start g q) ⊎ (section_start g q + g.out ≤ section_start g p)
 
@@ -51,17 +51,17 @@ pub apart_sections : (g : Shape) (p q : ℕ) → (p < q) ⊎ (q < p) → Apart g
 apart_sections g p q (inl lt) = inl (below g p q lt)
 apart_sections g p q (inr lt) = inr (below g q p lt)
 
--- a section ends in the region
+-- A section ends in the region.
 pub section_ends : (g : Shape) (p : ℕ) → p < g.peers → section_start g p + g.out ≤ word_count g
 section_ends g p lt = let h : (p + 1) * g.out ≤ g.peers * g.out = mul-le-mul_right g.out (omega arith) in omega arith
 
--- a word that a peer stores in, or its state word, is one of the region
+-- A word that a peer stores in, or its state word, is one of the region.
 pub within : (key : RunSetup) (p w : ℕ) → IsFit key → p < key.geometry.peers → MayWrite key.geometry p w ⊎ (w ≡ p) → w < word_count key.geometry
 within key p w fit lt (inr e) = let states = fit.shape.states in omega arith
 within key p w fit lt (inl (inr h)) = let high = h.1 in omega arith
 within key p w fit lt (inl (inl h)) = let high = h.1 in let ends = section_ends key.geometry p lt in omega arith
 
--- and no word of another link peer
+-- And no word of another link peer.
 pub apart : (key : RunSetup) (p q w n : ℕ) (memory after : ℕ → ℕ) → IsFit key → p < key.geometry.peers → q < 2 → q ≢ p → MayWrite key.geometry p w ⊎ (w ≡ p) → Stored memory after w n → IsUntouched (link_config_of key) memory after q
 apart key p q w n memory after fit lt q2 ne own st = let page = fit.shape.table_page in let states = fit.shape.states in record {
   state = st.neighbour_word q (λ e. ⊎_elim (λ o. ⊎_elim (λ h. let low = h.0 in omega arith) (λ h. let low = h.0 in omega arith) o) (λ h. ne (e ∙ h)) own);

@@ -62,7 +62,7 @@ starts key fit = record {
   };
 }
 
--- the pass of the words that were opened
+-- The pass of the words that were opened.
 pub opened_of : (key made : RunSetup) (t u : TableId) (me : Me ℕ View) (items : List ℕ) → IsFit key → items ≡ words_at_start key → t.words ≡ length items → u ≡ t → me ≡ (initial_view key, []) → made ≡ key →
     IsOf t made (held u me.0.from me.0.lists) × (me.0.from ≡ 0) × (length me.0.lists ≡ made.geometry.peers)
 opened_of key made t u me items fit same words seat me_is made_is = let nil : List (Action (MemoryOp CallAccess)) = [] in let size : length (replicate key.geometry.peers nil) ≡ key.geometry.peers = length-replicate key.geometry.peers nil in
@@ -70,7 +70,7 @@ opened_of key made t u me items fit same words seat me_is made_is = let nil : Li
     (subst (λ (m : Me ℕ View). IsOf t key (held u m.0.from m.0.lists) × (m.0.from ≡ 0) × (length m.0.lists ≡ key.geometry.peers)) (sym me_is)
     ((seat, words ∙ (ap length same ∙ start_size key), omega arith, fit), refl, size))
 
--- each list of a pass with all peers is the one that the rule knows
+-- Each list of a pass with all peers is the one that the rule knows.
 tells_all : (n : ℕ) (seat : ℕ → ℕ) (acc : ℕ → List (Action (MemoryOp CallAccess))) (id : ℕ) (lists : List (List (Action (MemoryOp CallAccess)))) → Fits n seat acc id (view 0 lists) → (p : ℕ) → p < length lists → list_of lists p ≡ acc p
 tells_all n seat acc id lists f p lt = let h : p ≡ 0 + p = omega arith in sym (ap acc h ∙ f.known p (list_of lists p) (at lists p lt))
   where
@@ -79,7 +79,7 @@ tells_all n seat acc id lists f p lt = let h : p ≡ 0 + p = omega arith in sym 
     at (x ∷ xs) zero lt = refl
     at (x ∷ xs) (suc k) lt = at xs k (omega arith)
 
--- lists that are the same for both peers
+-- Lists that are the same for both peers.
 same_two : (key : RunSetup) (acc next : ℕ → List (MemoryOp CallAccess)) → ((p : ℕ) → p < 2 → next p ≡ acc p) → SessionsAreLearned key acc → SessionsAreLearned key next
 same_two key acc next same t = record {
   deliver = λ p p2. let q2 : 1 - p < 2 = omega arith in
@@ -88,7 +88,7 @@ same_two key acc next same t = record {
   never_refuse = λ p p2. subst (λ l. ((derived_state key p l).place ≢ Refusing) × NeverMarked key p l) (sym (same p p2)) (t.never_refuse p p2);
 }
 
--- lists that are the same for all peers
+-- Lists that are the same for all peers.
 same_rung : (key : RunSetup) (acc next : ℕ → List (Action (MemoryOp CallAccess))) → ((p : ℕ) → p < key.geometry.peers → next p ≡ acc p) → AreRung key acc → AreRung key next
 same_rung key acc next same r = record {
   rung = λ target bit lt. let a : weigh (finds bit) (next target) ≡ weigh (finds bit) (acc target) = ap (weigh (finds bit)) (same target lt) in
@@ -98,7 +98,7 @@ same_rung key acc next same r = record {
   behind = λ target p lt l shot. subst (FollowsClears target) (sym (same p l)) (r.behind target p lt l shot);
 }
 
--- and along the lists neither ever bore the mark
+-- And along the lists neither ever bore the mark.
 never_borne : RunsKeepInvariant → HonestEndsAgree → (key : RunSetup) → IsFit key → honest_of key 0 ≡ true → honest_of key 1 ≡ true → (memory words : ℕ → ℕ) (acc : ℕ → List (MemoryOp CallAccess)) → Made key memory words acc → (p : ℕ) → p < 2 → NeverMarked key p (acc p)
 never_borne whole agree key fit a b memory words acc m = never_marked key (λ memory words acc m p p2. (none_refuses whole agree key memory words acc (is_ground key fit) a b (reached_by key fit memory words acc m) p p2).1) memory words acc m
 

@@ -14,7 +14,7 @@ use Rattle.shared_words.proofs.Standings.{standing_none}
 use Rattle.shared_words.proofs.Keys.{clash, honest_below, apart}
 use Rattle.shared_words.proofs.Keeping.{R_of, honest_access, honest_store, honest_load, honest_reset, hostile_deed}
 
--- an access of one peer leaves the words of every other link peer
+-- An access of one peer leaves the words of every other link peer.
 untouched : (key : RunSetup) (p q : ℕ) (memory after : ℕ → ℕ) (a : Access) → IsFit key → p < key.geometry.peers → q < 2 → q ≢ p → IsOwned key p a → MemoryAfter p memory a after → IsUntouched (link_config_of key) memory after q
 untouched key p q memory after (access.Write word value) fit lt q2 ne own leaves = apart key p q word value memory after fit lt q2 ne (inl own) leaves
 untouched key p q memory after (access.State state) fit lt q2 ne own leaves = apart key p q p state memory after fit lt q2 ne (inr refl) leaves
@@ -24,11 +24,11 @@ pub by_honesty : {P : Type 0} → (b : Bool) → (b ≡ true → P) → (b ≡ f
 by_honesty true f g = f refl
 by_honesty false f g = g refl
 
--- an honest peer is no hostile one
+-- An honest peer is no hostile one.
 differs : (key : RunSetup) (p q : ℕ) → honest_of key p ≡ false → honest_of key q ≡ true → q ≢ p
 differs key p q h hq e = clash (sym (ap (honest_of key) e ∙ h) ∙ hq)
 
--- where the lists leave the ends, by their words
+-- Where the lists leave the ends, by their words.
 pub reached_by : (key : RunSetup) → IsFit key → (memory words : ℕ → ℕ) (acc : ℕ → List (MemoryOp CallAccess)) → Made key memory words acc → R_of key memory words acc
 reached_by key fit memory words acc (made.starts _ _ _ zeros nulls none) = reaches.starts _ _ _ zeros nulls (λ p. ap (derived_state key p) (none p) ∙ standing_none key p)
 reached_by key fit after words next (made.makes memory _ _ acc _ p t k lt may meets leaves g) = let was = reached_by key fit memory words acc k in by_honesty (honest_of key p)

@@ -6,7 +6,7 @@ use Rattle.shared_words.specs.declared.run_setup.RunSetup.{RunSetup}
 use Rattle.shared_words.specs.DerivedStates.{CallAccess, MemoryOp, derived_state, NeverMarked}
 use Rattle.shared_words.specs.SharedMemory.{Made, Appends, starts, makes, stores, loads, resets}
 
--- a front of a list with one memory operation more is a front of the list, or all of it
+-- A front of a list with one memory operation more is a front of the list, or all of it.
 front_snoc : (list front back : List (MemoryOp CallAccess)) (d : MemoryOp CallAccess) → list ++ d ∷ [] ≡ front ++ back → ((rest : List (MemoryOp CallAccess)) × (list ≡ front ++ rest)) ⊎ (front ≡ list ++ d ∷ [])
 front_snoc list [] back d e = inl (list, refl)
 front_snoc [] (f ∷ []) back d e = inr cc
@@ -17,7 +17,7 @@ front_snoc (x ∷ list) (f ∷ front) back d e = let same : list ++ d ∷ [] ≡
 never_more : (key : RunSetup) (p : ℕ) (list : List (MemoryOp CallAccess)) (d : MemoryOp CallAccess) → NeverMarked key p list → (derived_state key p (list ++ d ∷ [])).end.handshake.mark ≡ false → NeverMarked key p (list ++ d ∷ [])
 never_more key p list d was here front back e = ⊎_elim (λ (s : (rest : List (MemoryOp CallAccess)) × (list ≡ front ++ rest)). was front s.0 s.1) (λ all. ap (λ l. (derived_state key p l).end.handshake.mark) all ∙ here) (front_snoc list front back d e)
 
--- no end of these lists bears the mark
+-- No end of these lists bears the mark.
 abbrev pub NoneMarked : RunSetup → (ℕ → List (MemoryOp CallAccess)) → Type 0
 NoneMarked key acc = (p : ℕ) → p < 2 → (derived_state key p (acc p)).end.handshake.mark ≡ false
 
@@ -31,7 +31,8 @@ nil_front : (front back : List (MemoryOp CallAccess)) → [] ≡ front ++ back �
 nil_front [] back e = refl
 nil_front (f ∷ front) back e = absurd (cc)
 
--- where the mark is never borne at the end of lists that were made, it was borne nowhere along them
+-- Where the mark is never borne at the end of lists that were made, it was borne nowhere along
+-- them.
 pub never_marked : (key : RunSetup) → ((memory words : ℕ → ℕ) (acc : ℕ → List (MemoryOp CallAccess)) → Made key memory words acc → NoneMarked key acc) →
     (memory words : ℕ → ℕ) (acc : ℕ → List (MemoryOp CallAccess)) → Made key memory words acc → (p : ℕ) → p < 2 → NeverMarked key p (acc p)
 never_marked key none memory words acc (starts _ _ _ zeros no_words empty) p p2 = λ front back e. ap (λ l. (derived_state key p l).end.handshake.mark) (nil_front front back (sym (empty p) ∙ e) ∙ sym (empty p)) ∙ none memory words acc (starts memory words acc zeros no_words empty) p p2

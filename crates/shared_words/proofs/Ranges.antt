@@ -18,7 +18,7 @@ pick (yes _) (yes _) a b = a
 pick (yes _) (no _) a b = b
 pick (no _) _ a b = b
 
--- n is the holder of the peers from p on and below e, and each other peer keeps its holder
+-- n is the holder of the peers from p on and below e, and each other peer keeps its holder.
 moved : (ℕ → ℕ) → ℕ → ℕ → ℕ → ℕ → ℕ
 moved f p e n q = pick (dec_le p q) (dec_lt q e) n (f q)
 
@@ -61,11 +61,11 @@ module _ {A : Type 0} where
   at_drop (suc n) [] k x e = absurd (some-ne-none x (sym e))
   at_drop (suc n) (y ∷ l) k x e = let h : suc n + k ≡ suc (n + k) = omega arith in ap (get_elem? (y ∷ l)) h ∙ at_drop n l k x e
 
--- the holder of each peer in the range of the holder `id` is `id`
+-- The holder of each peer in the range of the holder `id` is `id`.
 has_seat : (m : ℕ) (seat : ℕ → ℕ) (acc : ℕ → List (Action (MemoryOp CallAccess))) (id : ℕ) (v : View) (q : ℕ) → Fits m seat acc id v → v.from ≤ q → q < v.from + length v.lists → seat q ≡ id
 has_seat m seat acc id v q f lo hi = let e : q ≡ v.from + (q - v.from) = omega arith in ap seat e ∙ f.mine (q - v.from) (omega arith)
 
--- the view of another holder j, when a range of peers goes from the holder `was` to the holder n
+-- The view of another holder j, when a range of peers goes from the holder `was` to the holder n.
 beside : (m : ℕ) (seat : ℕ → ℕ) (acc : ℕ → List (Action (MemoryOp CallAccess))) (p e n was j : ℕ) (v : View) → ((q : ℕ) → p ≤ q → q < e → seat q ≡ was) → j ≢ was → Fits m seat acc j v → Fits m (moved seat p e n) acc j v
 beside m seat acc p e n was j v all ne f = record {
   inside = f.inside;

@@ -46,13 +46,13 @@ comes st next p s only = record {
 pub numbers_come : (st next : ℕ → DerivedState) (p : ℕ) (s : DerivedState) → OnlyComes st next p s → OnlyNumbers (numbers_of st) (numbers_of next) p s.numbers
 numbers_come st next p s only = record { here = ap (λ (x : DerivedState). x.numbers) only.here; neighbour_word = λ q ne. ap (λ (x : DerivedState). x.numbers) (only.neighbour_word q ne) }
 
--- if the derived state that changes keeps its `f`, the derived state of each peer keeps its `f`
+-- If the derived state that changes keeps its `f`, the derived state of each peer keeps its `f`.
 pub kept_by : {A : Type 0} → (f : DerivedState → A) (st next : ℕ → DerivedState) (p : ℕ) (s : DerivedState) → OnlyComes st next p s → f s ≡ f (st p) → (q : ℕ) → f (st q) ≡ f (next q)
 kept_by f st next p s only is q = dite (ℕ_discrete q p)
     (λ e. sym (ap (λ k. f (next k)) e ∙ (ap f only.here ∙ (is ∙ ap (λ k. f (st k)) (sym e)))))
     (λ ne. sym (ap f (only.neighbour_word q ne)))
 
--- a run of the ends, in which session words are nothing
+-- A run of the ends, in which session words are nothing.
 pub reached_runs : (link_config : LinkConfig) (honest : ℕ → Bool) (memory words : ℕ → ℕ) (st : ℕ → DerivedState) → Reached link_config honest memory words st → Runs link_config honest memory (ends_of st) (places_of st)
 reached_runs link_config honest memory words st (reaches.starts _ _ _ zeros none at) = runs.starts memory (ends_of st) (places_of st) zeros (λ p. ap (λ (x : DerivedState). x.end) (at p)) (λ p. ap (λ (x : DerivedState). x.place) (at p))
 reached_runs link_config honest memory words next (reaches.begins _ _ st _ p call k p2 hp closed going given only) =
@@ -69,11 +69,11 @@ reached_runs link_config honest memory words next (reaches.loads _ _ st _ p k p2
     subst (λ (e : ℕ → End). Runs link_config honest memory e (places_of next)) (λ i q. end q i) (subst (λ (f : ℕ → Place). Runs link_config honest memory (ends_of st) f) (λ i q. at q i) (reached_runs link_config honest memory words st k))
 reached_runs link_config honest after words st (reaches.others memory _ _ _ k untouched) = runs.others memory after (ends_of st) (places_of st) (reached_runs link_config honest memory words st k) untouched
 
--- an end that is about to set READY is in INIT
+-- An end that is about to set READY is in INIT.
 pub init_at : (link_config : LinkConfig) (memory : ℕ → ℕ) (p : ℕ) (end : End) (place : Place) → PlaceInvariant link_config memory p end place → place ≡ WritingState 2 → end.handshake.phase ≡ Init
 init_at link_config memory p end place holds is = let h : PlaceInvariant link_config memory p end (WritingState 2) = subst (PlaceInvariant link_config memory p end) is holds in h.0
 
--- and of two honest ends one in which they number their sessions
+-- And of two honest ends one in which they number their sessions.
 pub reached_numbered : (link_config : LinkConfig) (honest : ℕ → Bool) → IsLinkConfig link_config → honest 0 ≡ true → honest 1 ≡ true → (memory words : ℕ → ℕ) (st : ℕ → DerivedState) → Reached link_config honest memory words st →
     NumberedRuns link_config memory words (ends_of st) (places_of st) (numbers_of st)
 reached_numbered link_config honest is a b memory words st (reaches.starts _ _ _ zeros none at) = numbers.starts memory words (ends_of st) (places_of st) (numbers_of st) zeros none
@@ -101,14 +101,14 @@ reached_numbered link_config honest is a b memory words next (reaches.loads _ _ 
 reached_numbered link_config honest is a b after words st (reaches.others memory _ _ _ k untouched) =
     numbers.others memory after words (ends_of st) (places_of st) (numbers_of st) (reached_numbered link_config honest is a b memory words st k) (λ q q2. untouched q q2 (both_honest honest a b q q2))
 
--- neither end is at a refusal or bears its mark
+-- Neither end is at a refusal or bears its mark.
 pub none_refuses : RunsKeepInvariant → HonestEndsAgree → (key : RunSetup) (memory words : ℕ → ℕ) (acc : ℕ → List (MemoryOp CallAccess)) → IsLinkConfig (link_config_of key) → honest_of key 0 ≡ true → honest_of key 1 ≡ true →
     Reached (link_config_of key) (honest_of key) memory words (λ p. derived_state key p (acc p)) → (p : ℕ) → p < 2 → ((derived_state key p (acc p)).place ≢ Refusing) × ((derived_state key p (acc p)).end.handshake.mark ≡ false)
 none_refuses whole agree key memory words acc is a b k p p2 =
     let st : ℕ → DerivedState = λ q. derived_state key q (acc q) in let link_config = link_config_of key in let honest = honest_of key in
     agree.never_refuse link_config memory (ends_of st) (places_of st) p p2 ((whole link_config honest memory (ends_of st) (places_of st) is (reached_runs link_config honest memory words st k)).pair a b)
 
--- what a pass that holds all lists learns
+-- What a pass that holds all lists learns.
 pub are_told : RunsKeepInvariant → SessionsArePaired → HonestEndsAgree → (key : RunSetup) (memory words : ℕ → ℕ) (acc : ℕ → List (MemoryOp CallAccess)) → IsLinkConfig (link_config_of key) → honest_of key 0 ≡ true → honest_of key 1 ≡ true →
     Reached (link_config_of key) (honest_of key) memory words (λ p. derived_state key p (acc p)) → ((p : ℕ) → p < 2 → NeverMarked key p (acc p)) → SessionsAreLearned key acc
 are_told whole paired agree key memory words acc is a b k never =

@@ -12,6 +12,6 @@ region_at key words w lt = get_or-take (word_count key.geometry) words w 0 lt
 pub region_past : (key : RunSetup) (words : List ℕ) (w : ℕ) → word_count key.geometry ≤ w → region key words w ≡ 0
 region_past key words w le = get_or_past (take (word_count key.geometry) words) w 0 (omega (arith, length-take (word_count key.geometry) words))
 
--- a store in a list of words
+-- A store in a list of words.
 pub stored : (words : List ℕ) (i n : ℕ) → i < length words → Stored (λ w. get_or words w 0) (λ w. get_or (set words i n) w 0) i n
 stored words i n room = record { here = get_or-set_same words i n 0 room; neighbour_word = λ w ne. get_or-set_other words i w n 0 ne }

@@ -14,13 +14,13 @@ use Rattle.shared_words.specs.Interrupts.{weigh, tally, rings, aims, finds, wins
 use Rattle.shared_words.specs.SharedMemory.{Appends}
 use Rattle.shared_words.proofs.Weights.{weigh_here, weigh_else, weigh_still, weigh_snoc, tally_grows, tally_most, tally_turned, weigh_turned, weigh_most, rings_bits, behind_all, behind_snoc, rings_accessed, aims_accessed, finds_accessed, wins_accessed, rings_here, rings_same, aims_here, aims_else, finds_rang, wins_rang, finds_looked, rings_looked, aims_looked, wins_looked, finds_cleared, rings_cleared, aims_cleared, wins_here, wins_else}
 
--- one bit more is set
+-- One bit more is set.
 set_bit : (n k bit : ℕ) → bit_at (bit_or n (2 ^ k)) bit ≤ bit_at n bit + rings {A = MemoryOp CallAccess} 0 bit (rang 0 k)
 set_bit n k bit = let was : bit_at (bit_or n (2 ^ k)) bit ≡ max (bit_at n bit) (bit_at (2 ^ k) bit) = bit_at_or n (2 ^ k) bit in dite (ℕ_discrete bit k)
     (λ e. let one : rings {A = MemoryOp CallAccess} 0 bit (rang 0 k) ≡ 1 = ap (λ (j : ℕ). rings {A = MemoryOp CallAccess} 0 bit (rang 0 j)) (sym e) ∙ rings_here (MemoryOp CallAccess) 0 bit in let low : bit_at (2 ^ k) bit < 2 = bit_at-lt (2 ^ k) bit in omega arith)
     (λ ne. let none : bit_at (2 ^ k) bit ≡ 0 = bit_at-pow_other k bit ne in omega arith)
 
--- the lists of one-shot targets go on so
+-- The lists of one-shot targets go on so.
 leave_keeps : (key : RunSetup) (acc next : ℕ → List (Action (MemoryOp CallAccess))) (p : ℕ) (t : Action (MemoryOp CallAccess)) → Appends acc next p t →
     ((target : ℕ) → target < key.geometry.peers → IsOneShot key target → weigh (aims target) (acc p) ≤ weigh (wins target) (acc p) → weigh (aims target) (acc p) + aims target t ≤ weigh (wins target) (acc p) + wins target t) →
     ((target q : ℕ) → target < key.geometry.peers → q < key.geometry.peers → IsOneShot key target → FollowsClears target (acc q)) → (target q : ℕ) → target < key.geometry.peers → q < key.geometry.peers → IsOneShot key target → FollowsClears target (next q)
@@ -32,7 +32,7 @@ leave_keeps key acc next p t g more was target q lt q_lt shot = dite (ℕ_discre
     subst (FollowsClears target) (sym (ap next e ∙ g.here)) (behind_snoc target (acc p) t b (omega arith)))
     (λ ne. subst (FollowsClears target) (sym (g.neighbour_word q ne)) (was target q lt q_lt shot))
 
--- a memory operation leaves the words for interrupts
+-- A memory operation leaves the words for interrupts.
 pub access_keeps : (key : RunSetup) (memory after : ℕ → ℕ) (acc next : ℕ → List (Action (MemoryOp CallAccess))) (p : ℕ) (t : MemoryOp CallAccess) → p < key.geometry.peers → ((w : ℕ) → word_count key.geometry ≤ w → w < word_count key.geometry + 2 * key.geometry.peers → after w ≡ memory w) → Appends acc next p (accessed t) → Interrupts key memory acc → Interrupts key after next
 access_keeps key memory after acc next p t p_lt still g k = record {
   rung = λ target bit lt. let was : weigh (finds bit) (acc target) + bit_at (memory (interrupt_word key target)) bit ≤ tally key.geometry.peers (λ q. weigh (rings target bit) (acc q)) = k.rung target bit lt in
@@ -47,7 +47,7 @@ access_keeps key memory after acc next p t p_lt still g k = record {
   leave = leave_keeps key acc next p (accessed t) g (λ target lt shot b. let none : aims {A = MemoryOp CallAccess} target (accessed t) ≡ 0 = aims_accessed target t in omega arith) k.leave;
 }
 
--- a ring
+-- A ring
 pub rang_keeps : (key : RunSetup) (memory after : ℕ → ℕ) (acc next : ℕ → List (Action (MemoryOp CallAccess))) (p at k : ℕ) → p < key.geometry.peers → Stored memory after (interrupt_word key at) (bit_or (memory (interrupt_word key at)) (2 ^ k)) →
     (IsOneShot key at → MayRing at (acc p)) → Appends acc next p (rang at k) → Interrupts key memory acc → Interrupts key after next
 rang_keeps key memory after acc next p at k p_lt st may g i = record {
@@ -73,7 +73,7 @@ rang_keeps key memory after acc next p at k p_lt st may g i = record {
         let s : bit_at (bit_or (memory (interrupt_word key at)) (2 ^ k)) bit ≤ bit_at (memory (interrupt_word key at)) bit + rings {A = MemoryOp CallAccess} 0 bit (rang 0 k) = set_bit (memory (interrupt_word key at)) k bit in let r : rings {A = MemoryOp CallAccess} at bit (rang at k) ≡ rings {A = MemoryOp CallAccess} 0 bit (rang 0 k) = same_rings at bit in omega arith))
         (λ ne. let h : bit_at (after (interrupt_word key target)) bit ≡ bit_at (memory (interrupt_word key target)) bit = ap (λ n. bit_at n bit) (st.neighbour_word (interrupt_word key target) (λ e. ne (omega arith))) in omega arith)
 
--- a look
+-- A look
 pub looked_keeps : (key : RunSetup) (memory after : ℕ → ℕ) (acc next : ℕ → List (Action (MemoryOp CallAccess))) (p n : ℕ) → p < key.geometry.peers → n ≡ memory (interrupt_word key p) → Stored memory after (interrupt_word key p) 0 → Appends acc next p (looked n) → Interrupts key memory acc → Interrupts key after next
 looked_keeps key memory after acc next p n p_lt found st g i = record {
   rung = λ target bit lt. let was : weigh (finds bit) (acc target) + bit_at (memory (interrupt_word key target)) bit ≤ tally key.geometry.peers (λ q. weigh (rings target bit) (acc q)) = i.rung target bit lt in
@@ -95,7 +95,7 @@ looked_keeps key memory after acc next p n p_lt found st g i = record {
         (λ ne. let a : weigh (finds bit) (next target) ≡ weigh (finds bit) (acc target) = weigh_else (finds bit) acc next p target (looked n) g ne in
         let h : bit_at (after (interrupt_word key target)) bit ≡ bit_at (memory (interrupt_word key target)) bit = ap (λ m. bit_at m bit) (st.neighbour_word (interrupt_word key target) (λ e. ne (omega arith))) in omega arith)
 
--- a clear, by a mask without bit 0
+-- A clear, by a mask without bit 0.
 pub cleared_keeps : (key : RunSetup) (memory after : ℕ → ℕ) (acc next : ℕ → List (Action (MemoryOp CallAccess))) (p at n mask : ℕ) → p < key.geometry.peers → n ≡ memory (control_word key at) → bit_at mask 0 ≡ 0 → Stored memory after (control_word key at) (bit_and n mask) →
     Appends acc next p (cleared at n) → Interrupts key memory acc → Interrupts key after next
 cleared_keeps key memory after acc next p at n mask p_lt found without st g i = record {
@@ -118,14 +118,14 @@ cleared_keeps key memory after acc next p at n mask p_lt found without st g i = 
         (λ ne. let h : bit_at (after (control_word key target)) 0 ≡ bit_at (memory (control_word key target)) 0 = ap (λ m. bit_at m 0) (st.neighbour_word (control_word key target) (λ e. ne (omega arith))) in
         let none : wins {A = MemoryOp CallAccess} target (cleared at n) ≡ 0 = wins_else (MemoryOp CallAccess) target at n ne in omega arith)
 
--- where a clear found the bit, one ring more may be made
+-- Where a clear found the bit, one ring more may be made.
 pub may_ring : (key : RunSetup) (memory : ℕ → ℕ) (acc next : ℕ → List (Action (MemoryOp CallAccess))) (p at n : ℕ) → p < key.geometry.peers → at < key.geometry.peers → Appends acc next p (cleared at n) → Interrupts key memory acc → IsOneShot key at → bit_at n 0 ≡ 1 → MayRing at (next p)
 may_ring key memory acc next p at n p_lt lt g i shot won = let b : weigh (aims at) (acc p) ≤ weigh (wins at) (acc p) = behind_all at (acc p) (i.leave at p lt p_lt shot) in
     let a : weigh (aims at) (next p) ≡ weigh (aims at) (acc p) + aims {A = MemoryOp CallAccess} at (cleared at n) = weigh_here (aims at) acc next p (cleared at n) g in
     let w : weigh (wins at) (next p) ≡ weigh (wins at) (acc p) + wins {A = MemoryOp CallAccess} at (cleared at n) = weigh_here (wins at) acc next p (cleared at n) g in
     let x : aims {A = MemoryOp CallAccess} at (cleared at n) ≡ 0 = aims_cleared (MemoryOp CallAccess) at at n in let y : wins {A = MemoryOp CallAccess} at (cleared at n) ≡ bit_at n 0 = wins_here (MemoryOp CallAccess) at n in omega arith
 
--- what the words keep says this of the lists
+-- What the words keep says this of the lists.
 pub are_rung : (key : RunSetup) (memory : ℕ → ℕ) (acc : ℕ → List (Action (MemoryOp CallAccess))) → Interrupts key memory acc → AreRung key acc
 are_rung key memory acc i = record {
   rung = λ target bit lt. let was : weigh (finds bit) (acc target) + bit_at (memory (interrupt_word key target)) bit ≤ tally key.geometry.peers (λ q. weigh (rings target bit) (acc q)) = i.rung target bit lt in omega arith;

@@ -82,7 +82,7 @@ pub bit_beside : (mask peer k : ℕ) → k ≡ 2 ^ peer → (p : ℕ) → p ≢ 
 bit_beside mask peer k pow p ne = ap (λ n. bit_at (bit_or mask n) p) pow ∙ (let a : bit_at (bit_or mask (2 ^ peer)) p ≡ max (bit_at mask p) (bit_at (2 ^ peer) p) = bit_at_or mask (2 ^ peer) p in
     let none : bit_at (2 ^ peer) p ≡ 0 = bit_at-pow_other peer p ne in let b : bit_at (bit_or mask (2 ^ peer)) p ≡ bit_at mask p = omega arith in b)
 
--- the mask of the first peers of a list
+-- The mask of the first peers of a list.
 abbrev pub IsMask : (Route → Bool) → List Route → ℕ → ℕ → Type 0
 IsMask pick routes mask n = ((p : ℕ) → p < n → bit_at mask p ≡ one_if (pick (route_to routes p))) × ((p : ℕ) → n ≤ p → bit_at mask p ≡ 0)
 
@@ -96,7 +96,7 @@ mask_more pick routes mask next n k flag same is here beside was = (
   λ p le. beside p (λ e. omega arith) ∙ was.1 p (omega arith),
 )
 
--- the key that was made for a scenario is made with its routes
+-- The key that was made for a scenario is made with its routes.
 pub routes_made : (w : World) (key : RunSetup) (routes : List Route) → IsMadeFor w key → AreRoutesOf w routes → AreRoutes key routes
 routes_made w key routes made are = let peers : key.geometry.peers ≡ w.geometry.peers = ap (λ g. g.peers) made.geometry in record {
   count = are.count ∙ sym peers;

@@ -31,7 +31,7 @@ at_within [] k a e = absurd (some-ne-none a (sym e))
 at_within (x ∷ xs) zero a e = omega arith
 at_within (x ∷ xs) (suc k) a e = omega (arith, at_within xs k a e)
 
--- the peer `from`, in the range of the holder `id`, made the action a
+-- The peer `from`, in the range of the holder `id`, made the action a.
 module _ (n : ℕ) (seat : ℕ → ℕ) (acc : ℕ → List (Action (MemoryOp CallAccess))) (id from : ℕ) (l : List (Action (MemoryOp CallAccess))) (ls : List (List (Action (MemoryOp CallAccess)))) (a : Action (MemoryOp CallAccess)) where
   own : Fits n seat acc id (view from (l ∷ ls)) → Fits n seat (put acc from (l ++ a ∷ [])) id (view from ((l ++ a ∷ []) ∷ ls))
   own f = record {
@@ -61,12 +61,12 @@ module _ (n : ℕ) (seat : ℕ → ℕ) (acc : ℕ → List (Action (MemoryOp Ca
   grows : acc from ≡ l → Appends acc (put acc from (l ++ a ∷ [])) from a
   grows e = record { here = put_here acc from from _ refl ∙ ap (λ m. m ++ a ∷ []) (sym e); neighbour_word = λ q n. put_else acc from q _ n }
 
--- a number that is written where it stands
+-- A number that is written where it stands.
 pub put_back : (ws : List ℕ) (i n : ℕ) → n ≡ get_or ws i 0 → set ws i n ≡ ws
 put_back ws i n e = ap (set ws i) e ∙ set-get_or ws i 0
 
--- Whatever the words are, the peer `from` does what d says of the word that it finds, and the word
--- becomes f of it, where that keeps what the table keeps
+-- For all words: the peer `from` makes the action d on the word that it finds, and the word becomes
+-- its image under f. The table keeps its invariant.
 step_allowed : (key : RunSetup) (d : ℕ → Action (MemoryOp CallAccess)) (f : ℕ → ℕ) (told : ℕ → Me ℕ View → Type 0) (slots id i from : ℕ) (lists : List (List (Action (MemoryOp CallAccess)))) (c : List (ℕ × ℕ)) → 0 < length lists →
     ((words : List ℕ) (acc next : ℕ → List (Action (MemoryOp CallAccess))) (n : ℕ) → n ≡ get_or words i 0 → IsFit key → from < key.geometry.peers → acc from ≡ front lists → Appends acc next from (d n) → next from ≡ front lists ++ d n ∷ [] → Memory key words acc →
     Memory key (set words i (f n)) next × told n (more (view from lists) (d n), c)) → Allows (TableInvariant key) slots id (view from lists, c) i f told
@@ -98,7 +98,7 @@ load_allowed key call slots id i from lists c room low is = step_allowed key (λ
       (refl, subst (λ k. k < 2 ^ 32) (sym found) (m.small i low)),
     ))
 
--- the access a is a store of n in the word i
+-- The access a is a store of n in the word i.
 pub store_allowed : (key : RunSetup) (a : CallAccess) (slots id i n from : ℕ) (lists : List (List (Action (MemoryOp CallAccess)))) (c : List (ℕ × ℕ)) → 0 < length lists → MayWrite key.geometry from i ⊎ (i ≡ from) → IsOwned key from a.access → n < 2 ^ 32 →
     ((memory : ℕ → ℕ) → ReadsMemory memory a.access a.value) → ((memory after : ℕ → ℕ) → Stored memory after i n → MemoryAfter from memory a.access after) →
     (honest_of key from ≡ true → IsNext key from (derived_state key from (accesses_in (front lists))) a.begins a.access) → Allows (TableInvariant key) slots id (view from lists, c) i (λ _. n) (λ _ t. t ≡ (more (view from lists) (accessed (called a)), c))
@@ -108,7 +108,7 @@ store_allowed key a slots id i n from lists c room owns owned small meets leaves
       refl,
     ))
 
--- the store of the own session word, the load of the other's, and the reset's store
+-- The store of the own session word, the load of the other's, and the reset's store.
 pub number_allowed : (key : RunSetup) (slots id i n from : ℕ) (lists : List (List (Action (MemoryOp CallAccess)))) (c : List (ℕ × ℕ)) → 0 < length lists → from < 2 → i ≡ session_word key from → n < 2 ^ 32 → MayStoreSession key from (accesses_in (front lists)) n →
     Allows (TableInvariant key) slots id (view from lists, c) i (λ _. n) (λ _ t. t ≡ (more (view from lists) (accessed (numbered n)), c))
 number_allowed key slots id i n from lists c room p2 is small may = step_allowed key (λ _. accessed (numbered n)) (λ _. n) (λ _ t. t ≡ (more (view from lists) (accessed (numbered n)), c)) slots id i from lists c room
@@ -128,7 +128,7 @@ pub reset_allowed : (key : RunSetup) (slots id i from : ℕ) (lists : List (List
 reset_allowed key slots id i from lists c room is = step_allowed key (λ _. accessed restarted) (λ _. 0) (λ _ t. t ≡ (more (view from lists) (accessed restarted), c)) slots id i from lists c room
     (λ words acc next found at fit p mine g then m. (subst (λ j. Memory key (set words j 0) next) (sym is) (memory_reset key words acc next from fit p g m), refl))
 
--- an allowed action stays allowed if a consequence replaces the condition on its result
+-- An allowed action stays allowed if a consequence replaces the condition on its result.
 retold : (key : RunSetup) (slots id i : ℕ) (f : ℕ → ℕ) (me : Me ℕ View) (told then : ℕ → Me ℕ View → Type 0) → ((n : ℕ) (t : Me ℕ View) → told n t → then n t) → Allows (TableInvariant key) slots id me i f told → Allows (TableInvariant key) slots id me i f then
 retold key slots id i f me told then more allowed s k homes at fits = let x = allowed s k homes at fits in (x.0, x.1, x.2, x.3, more _ _ x.4)
 

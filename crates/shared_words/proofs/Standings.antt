@@ -38,6 +38,6 @@ pub stand_hostile : (key : RunSetup) (p : ℕ) (s : DerivedState) (d : MemoryOp 
 unfolding state_after_op
 stand_hostile key p s d e = ap (λ (b : Bool). if b then after_memory_op (config_in key p) s d else s) e
 
--- a memory operation more in its list
+-- A memory operation more in its list.
 pub stands_next : (key : RunSetup) (p : ℕ) (acc next : ℕ → List (MemoryOp CallAccess)) (d : MemoryOp CallAccess) → honest_of key p ≡ true → Appends acc next p d → derived_state key p (next p) ≡ after_memory_op (config_in key p) (derived_state key p (acc p)) d
 stands_next key p acc next d h g = ap (derived_state key p) g.here ∙ (standing_snoc key p (acc p) d ∙ stand_honest key p (derived_state key p (acc p)) d h)

@@ -20,7 +20,7 @@ zeros (suc n) (suc w) = zeros n w
 low_bit : (n : ℕ) → n < 2 → bit_at n 0 ≡ n
 low_bit n lt = bit_at_lowest n ∙ omega arith
 
--- the words after the region, at the start
+-- The words after the region, at the start.
 length_pairs : (enabled n : ℕ) → length (interrupts_at_start enabled n) ≡ 2 * n
 unfolding interrupts_at_start
 length_pairs enabled zero = refl
@@ -47,7 +47,7 @@ pair_at enabled (suc n) k lt = let size : length (interrupts_at_start enabled n)
       get_or_append_left (interrupts_at_start enabled n) (0 ∷ bit_at enabled n ∷ []) 0 (2 * k + 1) (omega arith) ∙ before.1,
     ))
 
--- all words but the session words at the start
+-- All words but the session words at the start.
 abbrev before : RunSetup → List ℕ
 before key = replicate (word_count key.geometry) 0 ++ interrupts_at_start key.enabled key.geometry.peers
 

@@ -21,7 +21,7 @@ use Rattle.shared_words.specs.Rules.{session_words, accesses_by, Memory}
 use Rattle.shared_words.proofs.Keys.{within}
 use Rattle.shared_words.proofs.Regions.{stored}
 
--- an action that stores n in the word i
+-- An action that stores n in the word i.
 after_store : (key : RunSetup) (words : List ℕ) (acc next : ℕ → List (Action (MemoryOp CallAccess))) (i n : ℕ) → (i < word_count key.geometry → n < 2 ^ 32) → ((p : ℕ) → i ≡ session_word key p → n < 2 ^ 32) → Memory key words acc → i < length words →
     Happened key (λ w. get_or (set words i n) w 0) next → Memory key (set words i n) next
 after_store key words acc next i n low last m room then = let st = stored words i n room in record {
@@ -31,7 +31,7 @@ after_store key words acc next i n low last m room then = let st = stored words 
   happened = then;
 }
 
--- one that leaves the words
+-- One that leaves the words.
 after_load : (key : RunSetup) (words : List ℕ) (acc next : ℕ → List (Action (MemoryOp CallAccess))) → Memory key words acc → Happened key (λ w. get_or words w 0) next → Memory key words next
 after_load key words acc next m then = record { sized = m.sized; small = m.small; numbers = m.numbers; happened = then }
 
@@ -47,7 +47,7 @@ memory_write key words acc next p i n t fit lt own owned small meets leaves nx g
     let inside = within key p i fit lt own in let room : i < length words = omega (arith, m.sized, inside) in after_store key words acc next i n (λ low. small) (λ q e. small) m room
     (happened.makes memory after acc next p t m.happened lt record { owned = owned; next = nx } (meets memory) (leaves memory after (stored words i n room)) g)
 
--- the reset of a peer
+-- The reset of a peer.
 pub memory_reset : (key : RunSetup) (words : List ℕ) (acc next : ℕ → List (Action (MemoryOp CallAccess))) (p : ℕ) → IsFit key → p < key.geometry.peers → Appends acc next p (accessed restarted) → Memory key words acc → Memory key (set words p 0) next
 memory_reset key words acc next p fit lt g m = let inside = within key p p fit lt (inr refl) in let room : p < length words = omega (arith, m.sized, inside) in after_store key words acc next p 0 (λ low. omega arith) (λ q e. omega arith) m room
     (happened.resets (λ w. get_or words w 0) (λ w. get_or (set words p 0) w 0) acc next p m.happened lt (stored words p 0 room) g)

@@ -22,9 +22,9 @@ use Rattle.call_grammar.specs.Polls.{entry_in, published_by, is_last, look_marks
 use Rattle.shared_words.specs.DerivedStates.{FrameNumber, DoorbellRequest, Nowhere, Written, At, request_after_access, lapsed, request_after_look, request_after_mark, request_after_marks, missed_by, Wake, wake_after}
 use Rattle.call_grammar.specs.Places.{Place, Closed, ReadingOtherState, Clearing, WritingState, Refusing, NotInRun, ReadingUsedIndex, ReadingUsedId, WritingFrameWord, WritingAvailIndex, ReadingAvailEvent, RingingOffer, ReadingAvailIndex, WritingAvailEvent, ReadingAvailEntry, ReadingDescAddressLow, ReadingDescAddressHigh, ReadingDescLength, ReadingDescFlags, ReadingFrameWord, WritingUsedIndex, RingingPoll, first_place, access_at, next_place, marks_at, step_at, is_open, clear_place, tick_place, fill_place, ids_place, none_place, items_place, words_place}
 
--- Which steps change what is asked for and what is missed
+-- Which steps change what is asked for and what is missed.
 
--- marks among which no look is; and none of which is one, nor the first one the end of a call
+-- Marks among which no look is; and none of which is one, nor the first one the end of a call.
 abbrev pub HasNoLook : List Mark → Type 0
 HasNoLook [] = Unit {0}
 HasNoLook (Look count ∷ marks) = ⊥
@@ -60,7 +60,7 @@ plain_id : (config : EndConfig) (pending : PendingOffer) (freed more value : ℕ
 plain_id config pending freed more value = plain_if (is_used_id (descriptor_of config freed) value) (if more == 0 then full_marks config pending (freed + 1) else []) (refusal field_name.UsedId value)
     (plain_if (more == 0) (full_marks config pending (freed + 1)) [] (plain_full config pending (freed + 1)) tt) tt
 
--- marks without a look, one after another
+-- Marks without a look, one after another.
 abbrev pub lapsed_by : List Mark → DoorbellRequest → DoorbellRequest
 lapsed_by [] a = a
 lapsed_by (mark ∷ marks) a = lapsed_by marks (lapsed a)
@@ -103,7 +103,7 @@ plain_missed n was [] is = refl
 plain_missed n was (Over ∷ marks) is = absurd is
 plain_missed n was (mark ∷ marks) is = refl
 
--- the places at whose steps anything changes
+-- The places at whose steps anything changes.
 abbrev is_waking : Place → Bool
 is_waking (WritingState state) = true
 is_waking Refusing = true
@@ -127,7 +127,7 @@ plain_marks config (ReadingDescFlags number more entry address bytes) value is n
 plain_marks config (ReadingFrameWord number more entry address bytes read words) value is ne = plain_if (words == 0) (Deliver (frame_in bytes (read ++ value ∷ [])) ∷ []) [] tt tt
 plain_marks config place value is ne = tt
 
--- an access to a word
+-- An access to a word.
 pub plain_wake_missed : (event : ℕ) (n m : FrameNumber) (w : Wake) (a : Access) (marks : List Mark) → IsPlain marks → (wake_after event n m w a marks).missed ≡ w.missed
 plain_wake_missed event n m w (access.Read word) marks is = plain_missed n w.missed marks is
 plain_wake_missed event n m w (access.State state) marks is = refl
@@ -143,7 +143,7 @@ kept_missed config event n m w place value is = plain_wake_missed event n m w (a
 
 -- Where a step leads
 
--- neither to a look nor to the write of the own event, nor to the read of the other's
+-- Neither to a look nor to the write of the own event, nor to the read of the other's.
 abbrev pub is_still : Place → Bool
 is_still (WritingAvailEvent taken) = false
 is_still (ReadingAvailEvent number) = false
@@ -179,7 +179,7 @@ words_still : (number more entry address bytes : ℕ) (read : List ℕ) (count :
 words_still number more entry address bytes read zero = refl
 words_still number more entry address bytes read (suc words) = refl
 
--- but from a look, the write of the own event and that of an index
+-- But from a look, the write of the own event and that of an index.
 abbrev pub goes_still : Place → Bool
 goes_still (WritingAvailIndex pending) = false
 goes_still (ReadingAvailIndex taken last) = false
@@ -204,7 +204,7 @@ next_still config (ReadingFrameWord number more entry address bytes read words) 
 next_still config (WritingUsedIndex number more) value is = items_still (number + 1) more
 next_still config place value is = refl
 
--- the frame accepted last waits for the read of its event
+-- The frame accepted last waits for the read of its event.
 abbrev pub unpublished : Place → ℕ
 unpublished (ReadingAvailEvent number) = 1
 unpublished place = 0
@@ -217,8 +217,8 @@ pub pending_most : (place : Place) → unpublished place ≤ 1
 pending_most (ReadingAvailEvent number) = omega arith
 pending_most place = omega arith
 
--- What an end asks for, at its place: if it wrote its event word, it hasn't ended the call since,
--- nor accepted or returned a frame; and before a look the event stands
+-- The request of an end at its place. If it wrote its event word, it hasn't ended the call since,
+-- nor accepted or returned a frame. Before a look the event is set.
 
 abbrev pub AsksAt : (Stands : ℕ → Type 0) → DoorbellRequest → Place → Type 0
 AsksAt Stands a Closed = a ≢ Written
@@ -266,7 +266,7 @@ more_than d = ne_eqb (suc d) 0 (λ e. omega arith)
 abbrev pub empty_marks : Bool → List Mark
 empty_marks last = if last then Look 0 ∷ Done ∷ [] else Look 0 ∷ []
 
--- after a mark nothing is written
+-- After a mark nothing is written.
 
 look_free : (next : FrameNumber) (a : DoorbellRequest) (count : ℕ) → request_after_look next a count ≢ Written
 look_free next Nowhere zero = λ e. cc
@@ -285,7 +285,7 @@ free_on next a (mark ∷ marks) ne = free_on next (request_after_mark next a mar
 pub free_after : (next : FrameNumber) (a : DoorbellRequest) (mark : Mark) (marks : List Mark) → request_after_marks next a (mark ∷ marks) ≢ Written
 free_after next a mark marks = free_on next (request_after_mark next a mark) marks (mark_free next a mark)
 
--- marks of which one is there
+-- Marks of which one is there.
 abbrev HasMark : List Mark → Type 0
 HasMark [] = ⊥
 HasMark (mark ∷ marks) = Unit {0}
@@ -310,7 +310,7 @@ has_used config pending freed value = let d = returned_by freed value in has_if 
 look_has : (last : Bool) (d : ℕ) → HasMark (look_marks last d)
 look_has last d = has_if (d == 0) (if last then Look 0 ∷ Done ∷ [] else Look 0 ∷ []) (Look d ∷ []) (has_if last (Look 0 ∷ Done ∷ []) (Look 0 ∷ []) tt tt) tt
 
--- after the read of the last id: the frame has room, or the ring is full
+-- After the read of the last id: the frame has room, or the ring is full.
 id_asks : (Stands : ℕ → Type 0) (next : FrameNumber) (a : DoorbellRequest) (pending : PendingOffer) (value : ℕ) (fits found : Bool) →
     AsksAt Stands (request_after_marks next a (if found then (if fits then [] else Full ∷ []) else refusal field_name.UsedId value))
     (if found then (if fits then fill_place pending 0 (words_for (length pending.frame)) else Closed) else Refusing)
@@ -322,7 +322,7 @@ pub event_asked : (next : FrameNumber) (a : DoorbellRequest) (b : Bool) → a �
 event_asked next a true ne = ne
 event_asked next a false ne = lapsed_not a
 
--- what is asked for after the step at a place
+-- The request after the step at a place.
 module _ (config : EndConfig) (Stands : ℕ → Type 0) (event : ℕ) (n m : FrameNumber) (value : ℕ) (w : Wake) where
   abbrev asked_at : Place → DoorbellRequest
   asked_at place = (wake_after event n m w (access_at config place) (marks_at config place value)).asked
@@ -356,7 +356,7 @@ module _ (config : EndConfig) (Stands : ℕ → Type 0) (event : ℕ) (n m : Fra
   asks_on Stood RingingPoll armed asks = asks
   asks_on Stood place armed asks = tt
 
--- Where a request at a frame comes from
+-- Where a request at a frame comes from.
 
 abbrev IsEmptyLook : List Mark → Type 0
 IsEmptyLook (Look zero ∷ marks) = Unit {0}
@@ -384,7 +384,7 @@ marks_from next f a (Look zero ∷ marks) e = ⊎_elim (λ h. ⊎_elim (λ i. in
 marks_from next f a (Look (suc more) ∷ marks) e = ⊎_elim (λ h. inl (lapsed_from f a h)) (λ h. absurd (lapsed_not a h.0)) (marks_from next f (lapsed a) marks e)
 marks_from next f a (mark ∷ marks) e = ⊎_elim (λ h. inl (lapsed_from f a h)) (λ h. absurd (lapsed_not a h.0)) (marks_from next f (lapsed a) marks e)
 
--- an access that writes no event word
+-- An access that writes no event word.
 abbrev pub LeavesEvent : (event : ℕ) → Access → Type 0
 LeavesEvent event (access.Write word written) = word ≢ event
 LeavesEvent event a = Unit {0}
@@ -411,7 +411,7 @@ access_from event n m f w (access.State state) marks quiet e = (⊎_elim (λ h. 
 access_from event n m f w (access.Ring target vector) marks quiet e = (e, tt)
 access_from event n m f w access.Nothing marks quiet e = (e, tt)
 
--- it is by this look, which found none
+-- It is by this look, which found none.
 abbrev pub IsNew : (m : FrameNumber) (value : ℕ) (f : FrameNumber) → DoorbellRequest → Place → Type 0
 IsNew m value f a place = (taken : ℕ) × (last : Bool) × (place ≡ ReadingAvailIndex taken last) × (published_by taken value ≡ 0) × (a ≡ Written) × (f ≡ m)
 
@@ -447,7 +447,7 @@ event_missed n was false f c = ⊎_elim (λ h. inl h) (λ h. inr (refl, one_in n
     one_in a b (zero, lt, e) = sym e
     one_in a b (suc k, lt, e) = absurd (omega arith)
 
--- what was missed before, or the frame whose event is read now and doesn't ask for it
+-- What was missed before, or the frame whose event is read now and doesn't ask for it.
 abbrev pub IsMissed : (n : FrameNumber) (value : ℕ) (f : FrameNumber) → Place → Type 0
 IsMissed n value f place = (number : ℕ) × (place ≡ ReadingAvailEvent number) × (wants_doorbell (low_half value) number ≡ false) × (f ≡ n)
 
@@ -505,8 +505,8 @@ look_rings taken zero false true = λ e. cc
 look_rings taken (suc d) last true = subst (λ (b : Bool). (if b then none_place taken last else items_place taken (suc d)) ≢ RingingOffer) (sym (more_than d)) (items_rings taken (suc d))
 look_rings taken d last false = λ e. cc
 
--- in a link with events a step leads to the doorbell of an offer from the read of the event alone,
--- where that asks for it
+-- In a link with events a step leads to the doorbell of an offer from the read of the event alone,
+-- where that asks for it.
 pub rings_from : (config : EndConfig) (place : Place) (value : ℕ) → has_events config.sizes ≡ true → is_open place ≡ true → next_place config place value ≡ RingingOffer → (number : ℕ) × (place ≡ ReadingAvailEvent number) × (wants_doorbell (low_half value) number ≡ true)
 rings_from config (ReadingAvailEvent number) value ev goes e = (number, refl, if_rings (wants_doorbell (low_half value) number) e)
 rings_from config (ReadingOtherState handshake) value ev goes e = absurd (tick_rings config (move_of handshake value) e)
@@ -524,7 +524,7 @@ rings_from config (ReadingFrameWord number more entry address bytes read words) 
 rings_from config (WritingUsedIndex number more) value ev goes e = absurd (items_rings (number + 1) more e)
 rings_from config place value ev goes e = absurd (cc)
 
--- Frames below which none waits for its event
+-- Frames below which none waits for its event.
 
 look_pending : (taken d : ℕ) (last within : Bool) → unpublished (if within then (if d == 0 then none_place taken last else items_place taken d) else Refusing) ≡ 0
 look_pending taken zero true true = refl
@@ -532,7 +532,7 @@ look_pending taken zero false true = refl
 look_pending taken (suc d) last true = subst (λ (b : Bool). unpublished (if b then none_place taken last else items_place taken (suc d)) ≡ 0) (sym (more_than d)) refl
 look_pending taken d last false = refl
 
--- a session's list of frames grows, but where a session opens
+-- A session's list of frames grows, but where a session opens.
 never_shorter : (end : End) (marks : List Mark) → length end.accepted ≤ length (with_marks end marks).accepted
 never_shorter end [] = omega arith
 never_shorter end (mark ∷ marks) = let more = never_shorter (with_mark end mark) marks in let one = once end mark in omega arith
@@ -551,7 +551,7 @@ stated_accepted end access.Nothing ne = refl
 grows : (config : EndConfig) (end : End) (place : Place) (value : ℕ) → access_at config place ≢ access.State 2 → length end.accepted ≤ length (end_after end (step_at config place value)).accepted
 grows config end place value ne = let same = ap length (stated_accepted end (access_at config place) ne) in let more = never_shorter (with_access end (access_at config place)) (marks_at config place value) in omega arith
 
--- a frame that was accepted and whose event is read stays so
+-- A frame that was accepted and whose event is read stays so.
 pub bound_on : (config : EndConfig) (end : End) (place : Place) (value k : ℕ) → access_at config place ≢ access.State 2 → k + 1 + unpublished place ≤ length end.accepted →
     k + 1 + unpublished (next_place config place value) ≤ length (end_after end (step_at config place value)).accepted
 bound_on config end (WritingAvailIndex pending) value k ne h = let n = length-append end.accepted (pending.frame ∷ []) in let most = pending_most (next_place config (WritingAvailIndex pending) value) in omega arith
@@ -559,6 +559,6 @@ bound_on config end (ReadingAvailIndex taken last) value k ne h = let none = loo
 bound_on config end (WritingAvailEvent taken) value k ne h = omega arith
 bound_on config end place value k ne h = let none = still_pending (next_place config place value) (next_still config place value refl) in let more = grows config end place value ne in omega arith
 
--- the read of the event accepts no frame
+-- The read of the event accepts no frame.
 pub event_accepted : (config : EndConfig) (end : End) (number value : ℕ) → (end_after end (step_at config (ReadingAvailEvent number) value)).accepted ≡ end.accepted
 event_accepted config end number value = elim (wants_doorbell (low_half value) number) as (λ b. (with_marks end (if b then [] else Over ∷ [])).accepted ≡ end.accepted) [ true ↦ refl | false ↦ refl ]

@@ -18,7 +18,7 @@ unfolding weigh
 weigh_snoc f [] t = omega arith
 weigh_snoc f (x ∷ l) t = let e : weigh f (l ++ t ∷ []) ≡ weigh f l + f t = weigh_snoc f l t in omega arith
 
--- a weight of the accesses is at most another
+-- A weight of the accesses is at most another.
 pub weigh_most : {A : Type 0} → (f g : Action A → ℕ) → ((t : Action A) → f t ≤ g t) → (l : List (Action A)) → weigh f l ≤ weigh g l
 unfolding weigh
 weigh_most f g all [] = omega arith
@@ -44,7 +44,7 @@ unfolding tally
 tally_sum zero f g = refl
 tally_sum (suc n) f g = let a : tally n (λ p. f p + g p) ≡ tally n f + tally n g = tally_sum n f g in omega arith
 
--- sums in either order
+-- Sums in either order.
 pub tally_turned : (n m : ℕ) (f : ℕ → ℕ → ℕ) → tally n (λ b. tally m (λ p. f p b)) ≡ tally m (λ p. tally n (λ b. f p b))
 unfolding tally
 tally_turned n zero f = tally_zero n (λ b. 0) (λ p lt. refl)
@@ -56,7 +56,7 @@ unfolding weigh
 weigh_turned n f [] = tally_zero n (λ b. 0) (λ p lt. refl)
 weigh_turned n f (x ∷ l) = tally_sum n (λ b. f b x) (λ b. weigh (f b) l) ∙ (let e : tally n (λ b. weigh (f b) l) ≡ weigh (λ t. tally n (λ b. f b t)) l = weigh_turned n f l in ap (λ k. tally n (λ b. f b x) + k) e)
 
--- one peer did one access more
+-- One peer did one access more.
 pub weigh_here : {A : Type 0} → (f : Action A → ℕ) (acc next : ℕ → List (Action A)) (p : ℕ) (t : Action A) → Appends acc next p t → weigh f (next p) ≡ weigh f (acc p) + f t
 weigh_here f acc next p t g = ap (weigh f) g.here ∙ weigh_snoc f (acc p) t
 
@@ -80,7 +80,7 @@ tally_grows (suc n) f acc next p t g lt = dite (ℕ_discrete n p)
     (λ ne. let a : tally n (λ q. weigh f (next q)) ≡ tally n (λ q. weigh f (acc q)) + f t = tally_grows n f acc next p t g (omega arith) in
     let b : weigh f (next n) ≡ weigh f (acc n) = weigh_else f acc next p n t g ne in omega arith)
 
--- the weights of an access to the region
+-- The weights of an access to the region.
 pub rings_accessed : {A : Type 0} → (target bit : ℕ) (t : A) → rings target bit (accessed t) ≡ 0
 unfolding rings
 rings_accessed target bit t = refl
@@ -97,7 +97,7 @@ pub wins_accessed : {A : Type 0} → (target : ℕ) (t : A) → wins target (acc
 unfolding wins
 wins_accessed target t = refl
 
--- of a ring
+-- Of a ring.
 pub rings_same : (A : Type 0) → (target bit k : ℕ) → rings {A = A} target bit (rang target k) ≡ one_if (k == bit)
 unfolding rings
 rings_same A target bit k = ap (λ (b : Bool). one_if (b && (k == bit))) (eq-eqb target target refl)
@@ -122,7 +122,7 @@ pub aims_else : (A : Type 0) → (target at b : ℕ) → at ≢ target → aims 
 unfolding aims
 aims_else A target at b ne = ap (λ (c : Bool). one_if c) (ne_eqb at target ne)
 
--- of a look
+-- Of a look.
 pub finds_looked : (A : Type 0) → (bit found : ℕ) → finds {A = A} bit (looked found) ≡ bit_at found bit
 unfolding finds
 finds_looked A bit found = refl
@@ -139,7 +139,7 @@ pub wins_looked : (A : Type 0) → (target found : ℕ) → wins {A = A} target 
 unfolding wins
 wins_looked A target found = refl
 
--- of a clear
+-- Of a clear.
 pub finds_cleared : (A : Type 0) → (bit at found : ℕ) → finds {A = A} bit (cleared at found) ≡ 0
 unfolding finds
 finds_cleared A bit at found = refl
@@ -160,7 +160,7 @@ pub wins_else : (A : Type 0) → (target at found : ℕ) → at ≢ target → w
 unfolding wins
 wins_else A target at found ne = ap (λ (c : Bool). if c then bit_at found 0 else 0) (ne_eqb at target ne)
 
--- of clears, whatever they found
+-- Of clears, whatever they found.
 pub strikes_accessed : {A : Type 0} → (target : ℕ) (t : A) → strikes target (accessed t) ≡ 0
 unfolding strikes
 strikes_accessed target t = refl
@@ -181,7 +181,7 @@ pub strikes_else : (A : Type 0) → (target at found : ℕ) → at ≢ target �
 unfolding strikes
 strikes_else A target at found ne = ap (λ (c : Bool). one_if c) (ne_eqb at target ne)
 
--- of rings of another bit, or at another target
+-- Of rings of another bit, or at another target.
 pub rings_else : (A : Type 0) → (target bit k : ℕ) → k ≢ bit → rings {A = A} target bit (rang target k) ≡ 0
 rings_else A target bit k ne = rings_same A target bit k ∙ ap (λ (c : Bool). one_if c) (ne_eqb k bit ne)
 
@@ -189,7 +189,7 @@ pub rings_off : (A : Type 0) → (target bit at k : ℕ) → at ≢ target → r
 unfolding rings
 rings_off A target bit at k ne = ap (λ (c : Bool). one_if (c && (k == bit))) (ne_eqb at target ne)
 
--- a ring is of one bit
+-- A ring is of one bit.
 no_bit : (n b : ℕ) → n ≤ b → tally n (λ bit. one_if (b == bit)) ≡ 0
 no_bit n b le = tally_zero n _ (λ p lt. ap (λ (x : Bool). one_if x) (ne_eqb b p (λ e. omega arith)))
 
@@ -211,7 +211,7 @@ rings_bits n target (looked found) = let e : tally n (λ bit. 0) ≡ 0 = tally_z
 rings_bits n target (cleared at found) = let e : tally n (λ bit. 0) ≡ 0 = tally_zero n _ (λ p lt. refl) in omega arith
 rings_bits n target (rang at b) = of_bits n b (at == target)
 
--- each ring of a list comes after a clear, and so does each ring of the list with one more action
+-- Each ring of a list comes after a clear, and so does each ring of the list with one more action.
 pub behind_none : (A : Type 0) → (target : ℕ) → FollowsClears {A = A} target []
 unfolding weigh
 behind_none A target zero = omega arith

@@ -35,20 +35,20 @@ use Rattle.shared_words.proofs.Reaching.{ends_of, places_of, numbers_of, both_ho
 use Rattle.shared_words.proofs.Keys.{clash}
 use Rattle.shared_words.proofs.Waking.{unpublished, AsksAt, free_asks, IsNew, LeavesEvent, lapsed_not, lapsed_at, next_still, first_pending, still_pending, asks_on, asked_from, missed_from, rings_from, bound_on, event_accepted}
 
--- the frame was accepted, and its event was read, or its session is over
+-- The frame was accepted, and its event was read, or its session is over.
 abbrev pub IsOver : DerivedState → FrameNumber → Type 0
 IsOver s f = (f.session < s.numbers.log.opened) ⊎ ((f.session ≡ s.numbers.log.opened) × (f.number + 1 + unpublished s.place ≤ length s.end.accepted))
 
--- and it isn't missed
+-- And it isn't missed.
 abbrev pub IsPast : DerivedState → FrameNumber → Type 0
 IsPast s f = IsOver s f × ¬ Contains s.wake.missed f
 
--- one end by itself
+-- One end by itself.
 record Own (link_config : LinkConfig) (memory : ℕ → ℕ) (p : ℕ) (s : DerivedState) : Type 0 where
   asks : AsksAt (EventIndexIs link_config memory p) s.wake.asked s.place
   missed : (f : FrameNumber) → Contains s.wake.missed f → IsOver s f
 
--- the frame is of the other's present session, and the words ask for it
+-- The frame is of the other's present session, and the words ask for it.
 abbrev AsksFor : LinkConfig → (ℕ → ℕ) → (ℕ → DerivedState) → ℕ → FrameNumber → Type 0
 AsksFor link_config memory st p f = (f.session ≡ (st (1 - p)).numbers.log.opened) × Asks link_config memory (ends_of st) (places_of st) p f.number
 
@@ -59,7 +59,7 @@ record Watched (link_config : LinkConfig) (memory : ℕ → ℕ) (st : ℕ → D
   own : (p : ℕ) → p < 2 → Own link_config memory p (st p)
   wakes : (p : ℕ) (f : FrameNumber) → p < 2 → (st p).wake.asked ≡ At f → Waits link_config memory st p f
 
--- words that aren't the end's
+-- Words that aren't the end's.
 asks_same : (link_config : LinkConfig) (memory after : ℕ → ℕ) (p : ℕ) (a : DoorbellRequest) (place : Place) → fields link_config after p field.AvailEvent ≡ fields link_config memory p field.AvailEvent → AsksAt (EventIndexIs link_config memory p) a place → AsksAt (EventIndexIs link_config after p) a place
 asks_same link_config memory after p a (ReadingAvailIndex taken last) same h = λ e. same ∙ h e
 asks_same link_config memory after p a place same h = h
@@ -71,7 +71,7 @@ waits_same : (link_config : LinkConfig) (memory after : ℕ → ℕ) (st : ℕ �
 waits_same link_config memory after st p f same (inl asks) = inl (asks.0, record { event = same ∙ asks.1.event; ahead = asks.1.ahead })
 waits_same link_config memory after st p f same (inr past) = inr past
 
--- words and an end of which the other's doorbell speaks nothing new
+-- Words and an end for which the other's doorbell reports nothing new.
 waits_on : (link_config : LinkConfig) (memory after : ℕ → ℕ) (st next : ℕ → DerivedState) (p : ℕ) (f : FrameNumber) → fields link_config after p field.AvailEvent ≡ fields link_config memory p field.AvailEvent → next (1 - p) ≡ st (1 - p) → Waits link_config memory st p f → Waits link_config after next p f
 waits_on link_config memory after st next p f same other (inl asks) = inl (
   subst (λ (s : DerivedState). f.session ≡ s.numbers.log.opened) (sym other) asks.0,
@@ -85,7 +85,7 @@ waits_on link_config memory after st next p f same other (inr past) = inr (subst
 none_in : (f : FrameNumber) → Contains [] f → ⊥
 none_in f (i, lt, e) = omega arith
 
--- the words after an access that leaves the own event word
+-- The words after an access that leaves the own event word.
 event_stays : (link_config : LinkConfig) (memory after : ℕ → ℕ) (p : ℕ) (a : Access) → IsLinkConfig link_config → p < 2 → MemoryAfter p memory a after → LeavesEvent (event_word (config_of link_config p)) a → fields link_config after p field.AvailEvent ≡ fields link_config memory p field.AvailEvent
 unfolding fields
 event_stays link_config memory after p (access.Write word written) is p2 stored ne = ap (part_of field.AvailEvent) (stored.neighbour_word (event_word (config_of link_config p)) (λ e. ne (sym e)))
@@ -94,7 +94,7 @@ event_stays link_config memory after p (access.Read word) is p2 same ne = ap (λ
 event_stays link_config memory after p (access.Ring target vector) is p2 same ne = ap (λ (m : ℕ → ℕ). fields link_config m p field.AvailEvent) same
 event_stays link_config memory after p access.Nothing is p2 same ne = ap (λ (m : ℕ → ℕ). fields link_config m p field.AvailEvent) same
 
--- a frame for which the words ask is none that the other missed
+-- A frame for which the words ask is none that the other missed.
 not_missed : (link_config : LinkConfig) (memory : ℕ → ℕ) (st : ℕ → DerivedState) (p : ℕ) (f : FrameNumber) → PlaceInvariant link_config memory (1 - p) (st (1 - p)).end (st (1 - p)).place → Own link_config memory (1 - p) (st (1 - p)) → AsksFor link_config memory st p f → ¬ Contains (st (1 - p)).wake.missed f
 not_missed link_config memory st p f holds o asks c = ⊎_elim (λ over. let here = asks.0 in omega arith)
     (λ over. ⊎_elim (λ few. let h = over.1 in omega arith)
@@ -115,7 +115,7 @@ module _ (link_config : LinkConfig) (memory : ℕ → ℕ) (st next : ℕ → De
     missed = λ f c. begun_over f (o.missed f c);
   }
 
-  -- of the other, for which this end is to ring
+  -- Of the other, for which this end is to ring.
   begun_waits : (q : ℕ) (f : FrameNumber) → 1 - q ≡ p → Waits link_config memory st q f → Waits link_config memory next q f
   begun_waits q f other (inr past) = let had : IsPast (st p) f = subst (λ (x : ℕ). IsPast (st x) f) other past in
       inr (subst (λ (x : ℕ). IsPast (next x) f) (sym other) (subst (λ (s : DerivedState). IsPast s f) (sym only.here) (begun_over f had.0, had.1)))
@@ -193,23 +193,23 @@ module _ (link_config : LinkConfig) (is : IsLinkConfig link_config) (ev : has_ev
   abbrev after_p : DerivedState
   after_p = moved config (st p) value
 
-  -- at the read of the event
+  -- At the read of the event.
   at_size : (number : ℕ) → (st p).place ≡ ReadingAvailEvent number → number + 1 ≡ length (st p).end.accepted
   at_size number at = let h : PlaceInvariant link_config memory p (st p).end (ReadingAvailEvent number) = subst (PlaceInvariant link_config memory p (st p).end) at holds in h.1
 
-  -- a frame that is over stays so
+  -- A frame that is over stays so.
   moved_over : (f : FrameNumber) → IsOver (st p) f → IsOver after_p f
   moved_over f over = ⊎_elim (λ opens. let more = opened_next (st p).numbers (st p).end a opens in inl (⊎_elim (λ old. omega arith) (λ here. let e = here.0 in omega arith) over))
       (λ ne. let same = opened_same (st p).numbers (st p).end a ne in ⊎_elim (λ old. inl (omega arith)) (λ here. inr (here.0 ∙ sym same, bound_on config (st p).end (st p).place value f.number ne here.1)) over) (opens_or a)
 
-  -- the read of the event accepts no frame
+  -- The read of the event accepts no frame.
   event_same : (number : ℕ) → (st p).place ≡ ReadingAvailEvent number → after_p.end.accepted ≡ (st p).end.accepted
   event_same number at = subst (λ (x : Place). (moved config (record (st p) { place = x }) value).end.accepted ≡ (st p).end.accepted) (sym at) (event_accepted config (st p).end number value)
 
   event_opens : (number : ℕ) → (st p).place ≡ ReadingAvailEvent number → after_p.numbers.log.opened ≡ (st p).numbers.log.opened
   event_opens number at = opened_same (st p).numbers (st p).end a (λ e. let r : access_at config (ReadingAvailEvent number) ≡ access.State 2 = sym (ap (access_at config) at) ∙ e in absurd (cc))
 
-  -- after the read of the event of the frame accepted last
+  -- After the read of the event of the frame accepted last.
   read_over : (number : ℕ) (f : FrameNumber) → (st p).place ≡ ReadingAvailEvent number → f ≡ n → IsOver after_p f
   read_over number f at is_last = let size = at_size number at in let k = ap length (event_same number at) in let last : f.number ≡ length (st p).end.accepted - 1 = ap (λ (x : FrameNumber). x.number) is_last in
       let none : unpublished (next_place config (st p).place value) ≡ 0 = subst (λ (x : Place). unpublished (next_place config x value) ≡ 0) (sym at) (still_pending (next_place config (ReadingAvailEvent number) value) (next_still config (ReadingAvailEvent number) value refl)) in
@@ -228,12 +228,12 @@ module _ (link_config : LinkConfig) (is : IsLinkConfig link_config) (ev : has_ev
         ⊎_elim (λ old. omega arith) (λ here. let k = here.1 in omega arith) past.0) (missed_from config event n m f value (st p).wake (st p).place c),
   )
 
-  -- the words of the other
+  -- The words of the other.
   keep : (q : ℕ) → 1 - p ≡ q → fields link_config after q field.AvailEvent ≡ fields link_config memory q field.AvailEvent
   keep q e = let untouched : IsUntouched link_config memory after q = subst (IsUntouched link_config memory after) e (theirs_stay link_config memory after p is p2 (alone_kept.own link_config p memory after (st p).end (st p).place is p2 step.leaves (pair.alone p p2))) in
       fields_same link_config memory after q is untouched.section field.AvailEvent
 
-  -- what this end asks for
+  -- What this end asks for.
   moved_mine : (f : FrameNumber) → after_p.wake.asked ≡ At f → Waits link_config after next p f
   moved_mine f e = ⊎_elim since looks (asked_from config event n m f value (st p).wake (st p).place e)
     where
@@ -252,7 +252,7 @@ module _ (link_config : LinkConfig) (is : IsLinkConfig link_config) (ev : has_ev
           let asks = subst (Asks link_config memory (ends_of st) (places_of st) p) number (wake_lem.looks link_config memory (ends_of st) (places_of st) p taken value new.1 is p2 pair at step.meets new.3 stands) in
           waits_on link_config memory after st next p f (event_stays link_config memory after p a is p2 step.leaves (subst (λ (x : Place). LeavesEvent event (access_at config x)) (sym at) tt)) other_is (inl (session, asks))
 
-  -- and what the other asks for
+  -- And what the other asks for.
   rings_at : (q : ℕ) (f : FrameNumber) → 1 - q ≡ p → AsksFor link_config memory st q f → fields link_config after q field.AvailEvent ≡ fields link_config memory q field.AvailEvent → (number : ℕ) → (st p).place ≡ ReadingAvailEvent number → wants_doorbell (low_half value) number ≡ true →
       next_place config (st p).place value ≡ RingingOffer → ¬ Contains (st p).wake.missed f → Waits link_config after next q f
   rings_at q f other asks same number at asks_it rings free = ⊎_elim few here (subst (λ x. (length (st x).end.accepted ≤ f.number) ⊎ ((st x).place ≡ ReadingAvailEvent f.number)) other asks.1.ahead)
@@ -288,7 +288,7 @@ module _ (link_config : LinkConfig) (is : IsLinkConfig link_config) (ev : has_ev
       free : ¬ Contains (st p).wake.missed f
       free = subst (λ x. ¬ Contains (st x).wake.missed f) other (not_missed link_config memory st q f (subst (λ x. PlaceInvariant link_config memory x (st x).end (st x).place) (sym other) holds) (subst (λ x. Own link_config memory x (st x)) (sym other) (was.own p p2)) asks)
 
-      -- it opens another session
+      -- It opens another session.
       opens : a ≡ access.State 2 → Waits link_config after next q f
       opens two = let more = opened_next (st p).numbers (st p).end a two in inr (subst (λ x. IsPast (next x) f) (sym other) (subst (λ (s : DerivedState). IsPast s f) (sym only.here) (
         inl (let e = session in omega arith),
@@ -317,7 +317,7 @@ own_event : (link_config : LinkConfig) (memory after : ℕ → ℕ) (p q : ℕ) 
 own_event link_config memory after p q is p2 st = fields_same link_config memory after q is (λ j lt. st.neighbour_word (section_of link_config q + j) (λ e. let two = is.first in omega arith)) field.AvailEvent
 
 module _ (link_config : LinkConfig) (is : IsLinkConfig link_config) (memory after : ℕ → ℕ) (st next : ℕ → DerivedState) (p : ℕ) (p2 : p < 2) (stored : Stored memory after p 0) (only : OnlyComes st next p (derived_state_after_reset (st p))) (pair : Pair link_config memory (ends_of st) (places_of st)) (was : Watched link_config memory st) where
-  -- an offer that is cut at the read of the event has its frame accepted
+  -- An offer that is cut at the read of the event has its frame accepted.
   reset_over : (f : FrameNumber) → IsOver (st p) f → IsOver (derived_state_after_reset (st p)) f
   reset_over f (inl old) = inl old
   reset_over f (inr here) = inr (here.0, let h = here.1 in omega arith)
@@ -368,7 +368,7 @@ own_bare link_config memory p s o = record { asks = o.asks; missed = o.missed }
 own_numbered : (link_config : LinkConfig) (memory : ℕ → ℕ) (p : ℕ) (s : DerivedState) → Own link_config memory p (bare s) → Own link_config memory p s
 own_numbered link_config memory p s o = record { asks = o.asks; missed = o.missed }
 
--- an end whose log stays
+-- An end whose log stays.
 watched_numbers : (link_config : LinkConfig) (memory : ℕ → ℕ) (st next : ℕ → DerivedState) (p : ℕ) (s : DerivedState) → OnlyComes st next p s → bare s ≡ bare (st p) → Watched link_config memory st → Watched link_config memory next
 watched_numbers link_config memory st next p s only log was = record {
   own = λ q q2. own_numbered link_config memory q (next q) (subst (Own link_config memory q) (sym (same q)) (own_bare link_config memory q (st q) (was.own q q2)));
@@ -388,7 +388,7 @@ module _ (link_config : LinkConfig) (is : IsLinkConfig link_config) (ev : has_ev
   pair_at : (memory words : ℕ → ℕ) (st : ℕ → DerivedState) → Reached link_config honest memory words st → Pair link_config memory (ends_of st) (places_of st)
   pair_at memory words st r = (whole_lem link_config honest memory (ends_of st) (places_of st) is (reached_runs link_config honest memory words st r)).pair a b
 
-  -- in RUN an end carries the session that the other opened last
+  -- In RUN an end carries the session that the other opened last.
   carries_at : (memory words : ℕ → ℕ) (st : ℕ → DerivedState) → Reached link_config honest memory words st → (p : ℕ) → p < 2 → state_of (st p).end.handshake.phase ≡ 3 → (st p).numbers.log.carried ≡ (st (1 - p)).numbers.log.opened
   carries_at memory words st r p p2 run = (((paired_lem link_config memory words (ends_of st) (places_of st) (numbers_of st) is (reached_numbered link_config honest is a b memory words st r)).1.3 p p2).2.deliver.present run).0
 
@@ -411,7 +411,7 @@ module _ (link_config : LinkConfig) (is : IsLinkConfig link_config) (ev : has_ev
       same : (p : ℕ) → p < 2 → fields link_config after p field.AvailEvent ≡ fields link_config memory p field.AvailEvent
       same p p2 = fields_same link_config memory after p is (untouched p p2 (both_honest honest a b p p2)).section field.AvailEvent
 
-  -- what one asks for, the other hasn't missed
+  -- What one asks for, the other hasn't missed.
   pub never_missed : (memory words : ℕ → ℕ) (st : ℕ → DerivedState) → Reached link_config honest memory words st → (p : ℕ) (f : FrameNumber) → p < 2 → (st p).wake.asked ≡ At f → ¬ Contains (st (1 - p)).wake.missed f
   never_missed memory words st r p f p2 asked = let w = watched memory words st r in let q2 : 1 - p < 2 = omega arith in
       ⊎_elim (λ asks. not_missed link_config memory st p f ((pair_at memory words st r).alone (1 - p) q2).holds (w.own (1 - p) q2) asks) (λ past. past.1) (w.wakes p f p2 asked)

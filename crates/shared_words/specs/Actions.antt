@@ -13,14 +13,14 @@ pub data Action (A : Type 0) : Type 0 where
   looked : (found : ℕ) → Action A
   cleared : (target found : ℕ) → Action A
 
--- the same, where accesses are seen otherwise
+-- The same action, with its access mapped.
 abbrev pub seen_by : {A B : Type 0} → (A → B) → Action A → Action B
 seen_by f (accessed a) = accessed (f a)
 seen_by f (rang target bit) = rang target bit
 seen_by f (looked found) = looked found
 seen_by f (cleared target found) = cleared target found
 
--- the accesses to the region that are among actions
+-- The accesses to the region among the actions.
 abbrev pub access_in : {A : Type 0} → Action A → List A
 access_in (accessed a) = a ∷ []
 access_in other = []

@@ -1,4 +1,4 @@
--- What a peer does to the words, and where its list of memory operations leaves it.
+-- The actions of a peer on the words, and its derived state after a list of memory operations.
 use Rattle.std.specs.Prelude.{ℕ, zero, suc, ◌≡◌, ◌≢◌, ◌+◌, ◌-◌, ◌==◌, true, false, Option, Some, None, List, [], ◌∷◌, ◌++◌, length, if◌then◌else◌}
 use Rattle.split_ring.specs.Layout.{word_offset, AvailEvent}
 use Rattle.split_ring.specs.declared.steps.Access.{Access}
@@ -13,8 +13,7 @@ use Rattle.pair_sessions.specs.Numbers.{Numbers, no_numbers, numbers_after, numb
 use Rattle.shared_words.specs.declared.run_setup.RunSetup.{RunSetup}
 use Rattle.shared_words.specs.RunSetups.{config_in, link_config_of, honest_of}
 
--- one access to a word: a read with the value that it gave, or a write of a word or of State, with
--- 0
+-- An access to a word and its value: a read with the value that it returned, or a write with 0.
 pub record ObservedAccess : Type 0 where
   pub access : Access
   pub value : ℕ
@@ -22,8 +21,8 @@ pub record ObservedAccess : Type 0 where
 abbrev pub touch : Access → ℕ → ObservedAccess
 touch a value = record { access = a; value = value }
 
--- the same, with the call that the access begins, if it begins one: a read of the used index
--- doesn't determine the frame of its offer
+-- The same, with the call that the access begins, if any. A read of the used index alone doesn't
+-- determine the frame of its offer.
 pub record CallAccess : Type 0 where
   pub begins : Option Call
   pub access : Access
@@ -47,7 +46,7 @@ pub data MemoryOp (A : Type 0) : Type 0 where
   carried : (number : ℕ) → MemoryOp A
   restarted : MemoryOp A
 
--- the same, where accesses are seen otherwise
+-- The same operation, with its access mapped.
 abbrev pub memory_op_by : {A B : Type 0} → (A → B) → MemoryOp A → MemoryOp B
 memory_op_by f (called a) = called (f a)
 memory_op_by f (numbered number) = numbered number
@@ -56,7 +55,7 @@ memory_op_by f restarted = restarted
 
 -- A frame of a link peer, by the number of the peer's session and its own number in that session,
 -- from 0. `accepted_last` is the frame that was accepted last, in the session opened last, and
--- `delivered_next` the next frame to deliver, of the other's session that is carried
+-- `delivered_next` the next frame to deliver, of the other's session that is carried.
 pub record FrameNumber : Type 0 where
   pub session : ℕ
   pub number : ℕ
@@ -77,21 +76,22 @@ pub data DoorbellRequest : Type 0 where
   Written : DoorbellRequest
   At : (frame : FrameNumber) → DoorbellRequest
 
--- the own event word
+-- The event word of this end.
 abbrev pub event_word : EndConfig → ℕ
 event_word config = config.own + word_offset config.sizes AvailEvent
 
--- after an access: a write of the event word takes back what was asked for, also one that clears it
+-- The request after an access: a write of the event word withdraws it, also a write that clears the
+-- word.
 abbrev pub request_after_access : (event : ℕ) → DoorbellRequest → Access → DoorbellRequest
 request_after_access event was (access.Write word value) = if word == event then Written else was
 request_after_access event was other = was
 
--- after another mark than the look, or a reset: the write asks for nothing
+-- The request after a mark other than a look, or after a reset: a request without its look lapses.
 abbrev pub lapsed : DoorbellRequest → DoorbellRequest
 lapsed Written = Nowhere
 lapsed was = was
 
--- after a look, if `next` is the next frame to deliver
+-- The request after a look, with `next` as the next frame to deliver.
 abbrev pub request_after_look : (next : FrameNumber) → DoorbellRequest → (count : ℕ) → DoorbellRequest
 request_after_look next Written zero = At next
 request_after_look next was zero = was
@@ -106,12 +106,12 @@ request_after_marks next was [] = was
 request_after_marks next was (mark ∷ marks) = request_after_marks next (request_after_mark next was mark) marks
 
 -- The frames for which no doorbell was rung, after a read with these marks, if `last` is the frame
--- accepted last. A read of the other's event that ends the offer of this frame adds it
+-- accepted last. A read of the other's event that ends the offer of this frame adds it.
 abbrev pub missed_by : (last : FrameNumber) → List FrameNumber → List Mark → List FrameNumber
 missed_by last was (Over ∷ []) = was ++ last ∷ []
 missed_by last was marks = was
 
--- what a peer asks for, and for which frames of all its sessions it didn't ring
+-- The doorbell that a peer requests, and the frames of all its sessions for which it rang none.
 pub record Wake : Type 0 where
   pub asked : DoorbellRequest
   pub missed : List FrameNumber
@@ -119,7 +119,8 @@ pub record Wake : Type 0 where
 abbrev pub at_rest : Wake
 at_rest = record { asked = Nowhere; missed = [] }
 
--- after a step with these marks; a doorbell and a call that is down touch no word
+-- The same after a step with these marks. A doorbell, and a call that finds the link down, touch no
+-- word.
 abbrev pub wake_after : (event : ℕ) → (last next : FrameNumber) → Wake → Access → List Mark → Wake
 wake_after event last next wake (access.Read word) marks =
     record { asked = request_after_marks next wake.asked marks; missed = missed_by last wake.missed marks }
@@ -132,8 +133,8 @@ abbrev pub wake_on : EndConfig → End → Log → Wake → Access → List Mark
 wake_on config end log wake a marks =
     wake_after (event_word config) (accepted_last log end.accepted) (delivered_next log end.delivered) wake a marks
 
--- an end, its place in the open call, its sessions by their numbers, and which doorbells it asks
--- for and didn't ring
+-- An end, its place in the open call, its sessions by their numbers, and its request and missed
+-- frames.
 pub record DerivedState : Type 0 where
   pub end : End
   pub place : Place
@@ -143,7 +144,7 @@ pub record DerivedState : Type 0 where
 abbrev pub initial_derived_state : DerivedState
 initial_derived_state = record { end = fresh; place = Closed; numbers = no_numbers; wake = at_rest }
 
--- a call begins, and the step at its place is taken
+-- A call begins, and the step at its place is taken.
 abbrev pub begun : EndConfig → DerivedState → Call → DerivedState
 begun config s call = record s { place = first_place config s.end call }
 
@@ -155,19 +156,19 @@ moved config s value = record {
   wake = wake_on config s.end s.numbers.log s.wake (access_at config s.place) (marks_at config s.place value);
 }
 
--- the session word is stored, or the other's is loaded
+-- The session word is stored, or the other's is loaded.
 abbrev pub numbers_stored : DerivedState → DerivedState
 numbers_stored s = record s { numbers = with_stored s.numbers }
 
 abbrev pub numbers_loaded : DerivedState → ℕ → DerivedState
 numbers_loaded s number = record s { numbers = with_loaded s.numbers number }
 
--- the device is reset: no call is open, and what was asked for stays
+-- After a reset of the device no call is open, and the request stays.
 abbrev pub derived_state_after_reset : DerivedState → DerivedState
 derived_state_after_reset s =
     record { end = after_reset s.end; place = Closed; numbers = numbers_reset s.numbers s.end; wake = record (s.wake) { asked = lapsed s.wake.asked } }
 
--- a doorbell and a call that is down touch no word, and leave the call closed
+-- A doorbell, and a call that finds the link down, touch no word and leave the call closed.
 unfoldable pub settled_place : Place → Place
 settled_place RingingOffer = Closed
 settled_place RingingPoll = Closed
@@ -181,8 +182,8 @@ abbrev pub begun_if : EndConfig → DerivedState → Option Call → DerivedStat
 begun_if config s None = s
 begun_if config s (Some call) = begun config s call
 
--- where a memory operation leaves an honest end, and where it leaves peer `p`: the derived state of
--- a hostile peer never changes
+-- The derived state after a memory operation, of an honest end and of peer `p`. That of a hostile
+-- peer never changes.
 abbrev pub after_access : EndConfig → DerivedState → CallAccess → DerivedState
 after_access config s t = settled (moved config (begun_if config s t.begins) t.value)
 
@@ -199,22 +200,22 @@ unfoldable pub state_after_ops : RunSetup → ℕ → DerivedState → List (Mem
 state_after_ops key p s [] = s
 state_after_ops key p s (d ∷ list) = state_after_ops key p (state_after_op key p s d) list
 
--- where its list of memory operations leaves a peer
+-- The derived state of a peer after its list of memory operations.
 unfoldable pub derived_state : RunSetup → ℕ → List (MemoryOp CallAccess) → DerivedState
 derived_state key p list = state_after_ops key p initial_derived_state list
 
--- wherever one memory operation after another left it, it bore no mark of a refusal: a reset takes
--- the mark away
+-- At no derived state along the list does the peer have the mark of a refusal. A reset takes the
+-- mark away.
 abbrev pub NeverMarked : RunSetup → ℕ → List (MemoryOp CallAccess) → Type 0
 NeverMarked key p list = (front back : List (MemoryOp CallAccess)) → list ≡ front ++ back → (derived_state key p front).end.handshake.mark ≡ false
 
--- a call begins where none is open: it is no Stop, and offers a frame that may be offered
+-- A call begins only if none is open. It is no Stop, and the frame of an offer may be offered.
 abbrev pub Begins : LinkConfig → DerivedState → Option Call → Type 0
 Begins over s None = Unit {0}
 Begins over s (Some call) = (s.place ≡ Closed) × (call ≢ Stop) × IsGivenTo over call
 
 -- The access `a` is the next one of an honest peer `p` in the derived state `s`. A State step with
--- 2 comes after a store of its session word, and one with 3 after a load of the other's
+-- 2 comes after a store of its session word, and one with 3 after a load of the other's.
 pub record IsNext (key : RunSetup) (p : ℕ) (s : DerivedState) (begins : Option Call) (a : Access) : Type 0 where
   pub at_call : Begins (link_config_of key) s begins
   pub goes : is_open (begun_if (config_in key p) s begins).place ≡ true

@@ -1,5 +1,5 @@
--- What peers make of all words of a table: one action after another, each a step on one word, and
--- one element more in the list of its peer.
+-- The states of all words of a table: one action after another, each a step on one word, and one
+-- more element in its peer's list.
 use Rattle.std.specs.Prelude.{ℕ, ◌≡◌, ◌-◌, ◌^◌, ◌<◌, List, [], bit_or, bit_and, slice_index}
 use Rattle.link_invariant.specs.Steps.{Stored, ReadsMemory, MemoryAfter}
 use Rattle.shared_words.specs.declared.run_setup.RunSetup.{RunSetup}
@@ -8,7 +8,7 @@ use Rattle.shared_words.specs.Actions.{Action, accessed, rang, looked, cleared, 
 use Rattle.shared_words.specs.Interrupts.{interrupt_word, control_word, session_word, words_at_start, IsOneShot, MayRing}
 use Rattle.shared_words.specs.SharedMemory.{Appends, MayTake, MayStoreSession, MayLoadSession}
 
--- a word without its bit 0
+-- A word without its bit 0.
 abbrev pub without_first : ℕ → ℕ
 without_first n = bit_and n 18446744073709551614
 

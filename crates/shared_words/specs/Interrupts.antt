@@ -5,24 +5,24 @@ use Rattle.section_map.specs.Geometry.{word_count}
 use Rattle.shared_words.specs.declared.run_setup.RunSetup.{RunSetup}
 use Rattle.shared_words.specs.Actions.{Action, accessed, rang, looked, cleared}
 
--- The words after the region's words
+-- The words after the region's words.
 
--- a peer's interrupt word, and the word of its Interrupt Control, which follows it
+-- A peer's interrupt word, and the word of its Interrupt Control, which follows it.
 abbrev pub interrupt_word : RunSetup → ℕ → ℕ
 interrupt_word key target = word_count key.geometry + 2 * target
 
 abbrev pub control_word : RunSetup → ℕ → ℕ
 control_word key target = word_count key.geometry + 2 * target + 1
 
--- after these words of all peers, the session word of each of the two link peers
+-- The session word of each link peer, after these words of all peers.
 abbrev pub session_word : RunSetup → ℕ → ℕ
 session_word key p = word_count key.geometry + 2 * key.geometry.peers + p
 
--- how many words there are
+-- The number of words.
 abbrev pub all_words : RunSetup → ℕ
 all_words key = word_count key.geometry + 2 * key.geometry.peers + 2
 
--- the words for interrupts of the peers below n before any action, and all words
+-- The interrupt words of the peers below n before any action, and all words then.
 unfoldable pub interrupts_at_start : (enabled n : ℕ) → List ℕ
 interrupts_at_start enabled zero = []
 interrupts_at_start enabled (suc n) = interrupts_at_start enabled n ++ 0 ∷ bit_at enabled n ∷ []
@@ -35,7 +35,7 @@ IsOneShot key target = bit_at key.one_shot target ≡ 1
 
 -- Counts
 
--- the sum of a count over actions, and over the peers below n
+-- The sum of a count over actions, and over the peers below n.
 unfoldable pub weigh : {A : Type 0} → (Action A → ℕ) → List (Action A) → ℕ
 weigh f [] = 0
 weigh f (t ∷ list) = f t + weigh f list
@@ -47,55 +47,55 @@ tally (suc n) f = tally n f + f n
 abbrev pub one_if : Bool → ℕ
 one_if b = if b then 1 else 0
 
--- the action sets this bit at this target
+-- The action sets this bit at this target.
 unfoldable pub rings : {A : Type 0} → (target bit : ℕ) → Action A → ℕ
 rings target bit (accessed a) = 0
 rings target bit (rang at b) = one_if ((at == target) && (b == bit))
 rings target bit (looked found) = 0
 rings target bit (cleared at found) = 0
 
--- it sets any bit at this target
+-- The action sets any bit at this target.
 unfoldable pub aims : {A : Type 0} → (target : ℕ) → Action A → ℕ
 aims target (accessed a) = 0
 aims target (rang at b) = one_if (at == target)
 aims target (looked found) = 0
 aims target (cleared at found) = 0
 
--- it is a look that found this bit
+-- The action is a look that found this bit.
 unfoldable pub finds : {A : Type 0} → (bit : ℕ) → Action A → ℕ
 finds bit (accessed a) = 0
 finds bit (rang at b) = 0
 finds bit (looked found) = bit_at found bit
 finds bit (cleared at found) = 0
 
--- it is a clear at this target that found its bit set
+-- The action is a clear at this target that found its bit set.
 unfoldable pub wins : {A : Type 0} → (target : ℕ) → Action A → ℕ
 wins target (accessed a) = 0
 wins target (rang at b) = 0
 wins target (looked found) = 0
 wins target (cleared at found) = if at == target then bit_at found 0 else 0
 
--- it is a clear at this target, whatever it found
+-- The action is a clear at this target.
 unfoldable pub strikes : {A : Type 0} → (target : ℕ) → Action A → ℕ
 strikes target (accessed a) = 0
 strikes target (rang at b) = 0
 strikes target (looked found) = 0
 strikes target (cleared at found) = one_if (at == target)
 
--- What the words keep
+-- The invariant of the interrupt words.
 
--- each ring at this target comes after a clear that found its bit set, one ring for each clear
+-- Each ring at this target follows a clear that found its bit set, one ring for each clear.
 abbrev pub FollowsClears : {A : Type 0} → (target : ℕ) → List (Action A) → Type 0
 FollowsClears target list = (n : ℕ) → weigh (aims target) (take n list) ≤ weigh (wins target) (take n list)
 
--- one ring more may be made
+-- One more ring may be made.
 abbrev pub MayRing : {A : Type 0} → (target : ℕ) → List (Action A) → Type 0
 MayRing target list = weigh (aims target) list < weigh (wins target) list
 
 -- Of each target and bit: the looks that found the bit, plus one if it is set now, are at most the
 -- rings of all peers. Bit 0 of the target's Interrupt Control, plus the number of clears of all
 -- peers that found it set, equals this bit at the start. At a one-shot target each ring comes after
--- such a clear
+-- such a clear.
 pub record Interrupts {A : Type 0} (key : RunSetup) (memory : ℕ → ℕ) (acc : ℕ → List (Action A)) : Type 0 where
   pub rung : (target bit : ℕ) → target < key.geometry.peers →
       weigh (finds bit) (acc target) + bit_at (memory (interrupt_word key target)) bit ≤ tally key.geometry.peers (λ p. weigh (rings target bit) (acc p))
@@ -103,8 +103,8 @@ pub record Interrupts {A : Type 0} (key : RunSetup) (memory : ℕ → ℕ) (acc 
       bit_at (memory (control_word key target)) 0 + tally key.geometry.peers (λ p. weigh (wins target) (acc p)) ≡ bit_at key.enabled target
   pub leave : (target p : ℕ) → target < key.geometry.peers → p < key.geometry.peers → IsOneShot key target → FollowsClears target (acc p)
 
--- Of each target and bit: where any peer rang it, it is set now or a look found it. And where any
--- peer cleared a target's Interrupt Control, its bit 0 isn't set
+-- Of each target and bit: if any peer rang it, it is set now or a look found it. If any peer
+-- cleared a target's Interrupt Control, its bit 0 isn't set.
 pub record Doorbells {A : Type 0} (key : RunSetup) (memory : ℕ → ℕ) (acc : ℕ → List (Action A)) : Type 0 where
   pub refines : (target bit : ℕ) → target < key.geometry.peers → 1 ≤ tally key.geometry.peers (λ p. weigh (rings target bit) (acc p)) →
       1 ≤ bit_at (memory (interrupt_word key target)) bit + weigh (finds bit) (acc target)
@@ -113,7 +113,7 @@ pub record Doorbells {A : Type 0} (key : RunSetup) (memory : ℕ → ℕ) (acc :
 
 -- Of the lists alone: no peer finds a bit more often than the bit was rung. A one-shot peer finds
 -- one bit at most, and once. Each ring at a one-shot peer comes after a clear that found its bit
--- set
+-- set.
 pub record AreRung {A : Type 0} (key : RunSetup) (acc : ℕ → List (Action A)) : Type 0 where
   pub rung : (target bit : ℕ) → target < key.geometry.peers → weigh (finds bit) (acc target) ≤ tally key.geometry.peers (λ p. weigh (rings target bit) (acc p))
   pub once : (target : ℕ) → target < key.geometry.peers → IsOneShot key target → tally 64 (λ bit. weigh (finds bit) (acc target)) ≤ 1

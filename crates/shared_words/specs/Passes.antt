@@ -12,41 +12,42 @@ use Rattle.shared_words.specs.Actions.{Action, seen_by, accesses_in}
 use Rattle.shared_words.specs.Interrupts.{all_words}
 use Rattle.shared_words.specs.Rules.{front, added_to}
 
--- the pass is of the words, which are as many as the key says, and its range is one of the peers
+-- The pass is of the words. Their number is that of the run setup, and the range is one of its
+-- peers.
 abbrev pub IsOf : TableId → RunSetup → PassView → Type 0
 IsOf id key h = (h.table_id ≡ id) × (id.words ≡ all_words key) × (h.from + length h.lists ≤ key.geometry.peers) × IsFit key
 
--- the pass is of the words, and has a peer
+-- The pass is of the words, and has a peer.
 abbrev pub IsFilled : TableId → RunSetup → PassView → Type 0
 IsFilled id key h = IsOf id key h × (0 < length h.lists)
 
--- the pass is of the words, and this peer is its first one
+-- The pass is of the words, and this peer is its first one.
 abbrev pub IsFirstIn : TableId → RunSetup → ℕ → PassView → Type 0
 IsFirstIn id key p h = IsOf id key h × (h.from ≡ p) × (0 < length h.lists)
 
--- where the first list of the pass leaves peer p
+-- The derived state of peer p by the first list of the pass.
 abbrev pub state_in : RunSetup → ℕ → PassView → DerivedState
 state_in key p h = derived_state key p (accesses_in (front h.lists))
 
--- by that list the next access of peer p is this one, which begins such a call, or is a step of the
--- open one
+-- By that list the next access of peer p is this one. It begins this call, or is a step of the open
+-- one.
 abbrev pub IsNextIn : RunSetup → ℕ → PassView → Option Call → Access → Type 0
 IsNextIn key p h begins a = IsNext key p (state_in key p h) begins a
 
--- the pass's first peer may make this access: a hostile one makes any, and an honest one the next
--- of its calls
+-- The pass's first peer may make this access: a hostile one makes any, and an honest one the next
+-- of its calls.
 abbrev pub MayAccess : RunSetup → PassView → Option Call → Access → Type 0
 MayAccess key h begins a = honest_of key h.from ≡ true → IsNextIn key h.from h begins a
 
--- the words were made for this scenario, and the pass is of them and has all peers
+-- The words were made for this scenario, and the pass is of them and has all peers.
 abbrev pub IsWhole : World → TableId → RunSetup → PassView → Type 0
 IsWhole world id key h = IsMadeFor world key × IsOf id key h × (h.from ≡ 0) × (length h.lists ≡ key.geometry.peers)
 
--- no peer of it has done anything
+-- No peer of the pass has an action.
 abbrev pub IsUnused : RunSetup → PassView → Type 0
 IsUnused key h = h.lists ≡ replicate key.geometry.peers []
 
--- what a peer did to the words, by a pass that has all peers
+-- The actions of a peer, by a pass that has all peers.
 abbrev pub shown : List (Action (MemoryOp CallAccess)) → List (Action (MemoryOp ObservedAccess))
 shown list = map (seen_by (memory_op_by touch_of)) list
 
@@ -56,7 +57,7 @@ actions_of h p = shown (get_or h.lists p [])
 abbrev pub held : TableId → ℕ → List (List (Action (MemoryOp CallAccess))) → PassView
 held id from lists = record { table_id = id; from = from; lists = lists }
 
--- the pass, with one action more of its first peer
+-- The pass with one more action of its first peer.
 abbrev pub added : PassView → Action (MemoryOp CallAccess) → PassView
 added h t = held h.table_id h.from (added_to h.lists t)
 

@@ -13,20 +13,20 @@ use Rattle.lawful_history.specs.Device.{devices_of}
 use Rattle.shared_words.specs.declared.run_setup.RunSetup.{RunSetup}
 use Rattle.shared_words.specs.Interrupts.{one_if}
 
--- the route to a peer: no interrupt comes to one that isn't there
+-- The route to a peer. A peer that isn't there gets no interrupt.
 abbrev pub nowhere : Route
 nowhere = record { vectors = 0; intx = false; one_shot = false; enabled = false }
 
 abbrev pub route_to : List Route → ℕ → Route
 route_to routes target = get_or routes target nowhere
 
--- these are the routes of all peers with which the words were made
+-- These are the routes of all peers with which the words were made.
 pub record AreRoutes (key : RunSetup) (routes : List Route) : Type 0 where
   pub count : length routes ≡ key.geometry.peers
   pub one_shot : (p : ℕ) → p < key.geometry.peers → bit_at key.one_shot p ≡ one_if (route_to routes p).one_shot
   pub enabled : (p : ℕ) → p < key.geometry.peers → bit_at key.enabled p ≡ one_if (route_to routes p).enabled
 
--- what an act does to the devices, and what all acts did to them, the newest event first
+-- The device events of an act, and those of all acts, the newest first.
 abbrev pub events_in : Act → List Event
 events_in (act.CfgWrite p offset width value) = ConfigWritten p offset width value ∷ []
 events_in (act.MsixWrite p offset value) = MsixWritten p offset value ∷ []
@@ -36,15 +36,15 @@ events_in other = []
 unfoldable pub events_of : List Act → List Event
 events_of acts = fold (λ events a. events_in a ++ events) [] acts
 
--- an act that sets a device names one of `peers` peers, and a configuration write is a permitted
--- access
+-- An act that sets a device names one of `peers` peers, and a configuration write is a permitted
+-- access.
 abbrev pub MaySet : ℕ → Act → Type 0
 MaySet peers (act.CfgWrite p offset width value) = (p < peers) × (is_access 256 offset width ≡ true)
 MaySet peers (act.MsixWrite p offset value) = p < peers
 MaySet peers (act.MmioWrite p offset value) = p < peers
 MaySet peers other = Unit {0}
 
--- these are the routes of a scenario's peers, once its acts have set their devices
+-- These are the routes of a scenario's peers after all acts that set devices.
 pub record AreRoutesOf (world : World) (routes : List Route) : Type 0 where
   pub count : length routes ≡ world.geometry.peers
   pub each : (p : ℕ) → p < world.geometry.peers → IsRoute (devices_of world) (events_of world.acts) p (route_to routes p)

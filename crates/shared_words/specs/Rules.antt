@@ -1,4 +1,4 @@
--- What a table keeps, and what its steps report.
+-- The invariant of a table, and the reports of its steps.
 use Rattle.std.specs.Prelude.{ℕ, ◌≡◌, ◌≢◌, ◌+◌, ◌-◌, ◌^◌, ◌<◌, ◌≤◌, ◌↔◌, true, false, Option, List, [], ◌∷◌, ◌++◌, length, slice_index, take, drop, replicate, get_or, All, Contains}
 use Rattle.std.specs.Int.{bit_at}
 use mathlib.Core.Option.{some}
@@ -20,8 +20,8 @@ use Rattle.shared_words.specs.Interrupts.{session_word, all_words, IsOneShot, Ma
 pub use Rattle.shared_words.specs.SharedMemory.{IsOwned}
 use Rattle.shared_words.specs.Happened.{Happened}
 
--- the first words are those of the region, and the last two those of the sessions; and the memory
--- operations of each peer, by which they are made
+-- The words of the region come first, and those of the sessions last. The memory operations of each
+-- peer made them.
 abbrev pub region : RunSetup → List ℕ → ℕ → ℕ
 region key words w = slice_index (take (word_count key.geometry) words) w
 
@@ -34,7 +34,7 @@ accesses_by acc p = accesses_in (acc p)
 -- The rule of the words `words` and the lists `acc`. The first words are the region's, each below
 -- 2^32. Two words for interrupts of each peer follow the region's words, and then a session word of
 -- each link peer, also below 2^32. All words are what the actions of the lists made of them, one
--- after another
+-- after another.
 pub record Memory (key : RunSetup) (words : List ℕ) (acc : ℕ → List (Action (MemoryOp CallAccess))) : Type 0 where
   pub sized : length words ≡ all_words key
   pub small : (w : ℕ) → w < word_count key.geometry → slice_index words w < 2 ^ 32
@@ -42,14 +42,13 @@ pub record Memory (key : RunSetup) (words : List ℕ) (acc : ℕ → List (Actio
   pub happened : Happened key (λ w. slice_index words w) acc
 
 -- The holder `id` of a range of peers has the view `v`. The range is within the `peers` peers,
--- `seat` maps each peer of the range to `id`, and `v` has the list of each by `acc`
+-- `seat` maps each peer of the range to `id`, and `v` has the list of each by `acc`.
 pub record Fits (peers : ℕ) (seat : ℕ → ℕ) (acc : ℕ → List (Action (MemoryOp CallAccess))) (id : ℕ) (v : View) : Type 0 where
   pub inside : v.from + length v.lists ≤ peers
   pub mine : (k : ℕ) → k < length v.lists → seat (v.from + k) ≡ id
   pub known : (k : ℕ) (l : List (Action (MemoryOp CallAccess))) → get_elem? v.lists k ≡ some l → acc (v.from + k) ≡ l
 
--- each peer has one holder, by `seat`, and one list of actions, by `acc`; the lists made the words
--- what they are
+-- Each peer has one holder, by `seat`, and one list of actions, by `acc`. The lists made the words.
 pub record TableInvariant (key : RunSetup) (s : State ℕ View) : Type 0 where
   pub seat : ℕ → ℕ
   pub acc : ℕ → List (Action (MemoryOp CallAccess))
@@ -65,7 +64,7 @@ view from lists = record { from = from; lists = lists }
 abbrev pub initial_view : RunSetup → View
 initial_view key = view 0 (replicate key.geometry.peers [])
 
--- the first list, and the lists with one action more in it
+-- The first list, and the lists with one more action in it.
 abbrev pub front : List (List (Action (MemoryOp CallAccess))) → List (Action (MemoryOp CallAccess))
 front [] = []
 front (list ∷ lists) = list
@@ -80,14 +79,14 @@ more v t = view v.from (added_to v.lists t)
 abbrev pub joined : View → View → View
 joined v u = view v.from (v.lists ++ u.lists)
 
--- the peers below p, and the others
+-- The peers below p, and the others.
 abbrev pub lower : ℕ → View → View
 lower p v = view v.from (take (p - v.from) v.lists)
 
 abbrev pub upper : ℕ → View → View
 upper p v = view p (drop (p - v.from) v.lists)
 
--- What steps report
+-- Reports of steps.
 
 abbrev pub reads : Option Call → Step ℕ → Me ℕ View → ℕ → Me ℕ View → Type 0
 reads call st m n t = (t ≡ (more m.0 (accessed (called (taken call (access.Read st.word) n))), m.1)) × (n < 2 ^ 32)
@@ -98,8 +97,8 @@ writes call st m n t = t ≡ (more m.0 (accessed (called (taken call (access.Wri
 abbrev pub sets : Option Call → Step ℕ → Me ℕ View → ℕ → Me ℕ View → Type 0
 sets call st m n t = t ≡ (more m.0 (accessed (called (taken call (access.State n) 0))), m.1)
 
--- the store of the own session word, the load of the other's, and the reset's store of 0 to the own
--- state word
+-- The store of the own session word, the load of the other's, and the reset's store of 0 to the own
+-- state word.
 abbrev pub stores_number : Step ℕ → Me ℕ View → ℕ → Me ℕ View → Type 0
 stores_number st m n t = t ≡ (more m.0 (accessed (numbered n)), m.1)
 
@@ -115,34 +114,34 @@ looks st m n t = t ≡ (more m.0 (looked n), m.1)
 abbrev pub rings_at : ℕ → ℕ → Step ℕ → Me ℕ View → ℕ → Me ℕ View → Type 0
 rings_at target bit st m n t = t ≡ (more m.0 (rang target bit), m.1)
 
--- a clear at `target`: if it finds the bit of a one-shot target, one more ring may be made
+-- A clear at `target`: if it finds the bit of a one-shot target, one more ring may be made.
 abbrev pub clears : RunSetup → ℕ → Step ℕ → Me ℕ View → ℕ → Me ℕ View → Type 0
 clears key target st m n t = (t ≡ (more m.0 (cleared target n), m.1)) × (IsOneShot key target → bit_at n 0 ≡ 1 → MayRing target (front t.0.lists))
 
--- the list of peer p, where the lists of all peers are here
+-- The list of peer p, if the lists of all peers are here.
 abbrev pub list_of : List (List (Action (MemoryOp CallAccess))) → ℕ → List (Action (MemoryOp CallAccess))
 list_of lists p = get_or lists p []
 
--- the lists of two honest ends: each delivers in order what the other accepted, through all
--- sessions, by their numbers; and neither is at a refusal, nor did it ever bear the mark of one
+-- The lists of two honest ends: each delivers in order what the other accepted, through all
+-- sessions by their numbers. Neither is refusing or ever had the mark of a refusal.
 pub record SessionsAreLearned (key : RunSetup) (acc : ℕ → List (MemoryOp CallAccess)) : Type 0 where
   pub deliver : (p : ℕ) → p < 2 → DeliversInOrder (own_side (derived_state key p (acc p)).end) (own_side (derived_state key (1 - p) (acc (1 - p))).end)
       (derived_state key p (acc p)).numbers.log (derived_state key (1 - p) (acc (1 - p))).numbers.log
   pub never_refuse : (p : ℕ) → p < 2 → ((derived_state key p (acc p)).place ≢ Refusing) × NeverMarked key p (acc p)
 
--- no session that reached RUN carries a number: each carries 0
+-- No session that reached RUN carries a number: each carries 0.
 abbrev pub CarriesNone : Log → Type 0
 CarriesNone log = (log.carried ≡ 0) × All (λ (session : Ended). session.carried ≡ 0) log.ended
 
--- where one of them asks for a doorbell at a frame of the session that it carried then, the other's
--- offer of that frame didn't end without one
+-- If one of them requests a doorbell at a frame of the session that it carried then, the other's
+-- offer of that frame didn't end without it.
 abbrev pub NoneIsMissed : RunSetup → (ℕ → List (MemoryOp CallAccess)) → Type 0
 NoneIsMissed key acc = (p : ℕ) (frame : FrameNumber) → p < 2 → (derived_state key p (acc p)).wake.asked ≡ At frame →
     ¬ Contains (derived_state key (1 - p) (acc (1 - p))).wake.missed frame
 
--- What is learned if all lists are here. Interrupts were rung as the lists say. Two honest peers
--- agree, and in a link with events each rings if the other asks. The sessions of an honest peer
--- whose other is hostile carry none
+-- What is learned if all lists are here. Interrupts follow the rings of the lists. Two honest peers
+-- agree, and in a link with events each rings for the other's requests. The sessions of an honest
+-- peer whose other is hostile carry none.
 pub record AllIsLearned (key : RunSetup) (acc : ℕ → List (Action (MemoryOp CallAccess))) : Type 0 where
   pub pair : honest_of key 0 ≡ true → honest_of key 1 ≡ true → SessionsAreLearned key (accesses_by acc)
   pub woken : has_events key.queue ≡ true → honest_of key 0 ≡ true → honest_of key 1 ≡ true → NoneIsMissed key (accesses_by acc)
@@ -156,6 +155,6 @@ IsLearned key from lists = from ≡ 0 → length lists ≡ key.geometry.peers �
 abbrev pub learns : RunSetup → Step ℕ → Me ℕ View → ℕ → Me ℕ View → Type 0
 learns key st m n t = (t ≡ m) × IsLearned key m.0.from m.0.lists
 
--- the play `then` reports exactly `said`
+-- The play `then` reports exactly `said`.
 abbrev pub LearnsExactly : (Step ℕ → Me ℕ View → ℕ → Me ℕ View → Type 0) → (Step ℕ → Me ℕ View → ℕ → Me ℕ View → Type 0) → Type 0
 LearnsExactly then said = (st : Step ℕ) (m : Me ℕ View) (n : ℕ) (t : Me ℕ View) → then st m n t ↔ said st m n t

@@ -1,5 +1,5 @@
--- What the rule of a table reads of a scenario: its sizes, its wiring, which of the two link peers
--- are honest, and how peers take interrupts.
+-- The parts of a scenario on which the rule of a table depends: its sizes, its wiring, its honest
+-- link peers, and how peers take interrupts.
 use Rattle.std.specs.Prelude.{◌≡◌, ℕ, ◌*◌, ◌<◌, ◌≤◌, ◌==◌, if◌then◌else◌, Bool, false, []}
 use Rattle.std.specs.Int.{bit_at}
 use Rattle.section_map.specs.Geometry.{IsShape, section_start}
@@ -14,30 +14,30 @@ use Rattle.shared_words.specs.declared.run_setup.RunSetup.{RunSetup}
 use Rattle.shared_words.specs.Interrupts.{one_if}
 use Rattle.shared_words.specs.PeerRoutes.{events_of}
 
--- a world of these sizes without acts, of the version of its queue, and a peer of it as the call
--- grammar sees it
+-- A world of these sizes without acts, of the version of its queue, and a peer of it as the call
+-- grammar sees it.
 abbrev pub world_in : RunSetup → World
 world_in key = record { version = key.queue.version; geometry = key.geometry; queue = key.queue; wiring = key.wiring; honest = []; acts = [] }
 
 abbrev pub config_in : RunSetup → ℕ → EndConfig
 config_in key p = config_of (world_in key) p
 
--- the link's configuration of its link
+-- The configuration of the link.
 abbrev pub link_config_of : RunSetup → LinkConfig
 link_config_of key = record { first = section_start key.geometry 0; words = key.geometry.out; sizes = key.queue; vector = traffic_vector key.wiring }
 
--- whether this is an honest peer of the link
+-- Whether this is an honest peer of the link.
 abbrev pub honest_of : RunSetup → ℕ → Bool
 honest_of key p = if p == 0 then key.first_is_honest else (if p == 1 then key.second_is_honest else false)
 
--- its sizes are those of a region with at most eight peers, and of queues in its output sections
+-- Its sizes are those of a region with at most eight peers, and of queues in its output sections.
 pub record IsFit (key : RunSetup) : Type 0 where
   pub shape : IsShape key.geometry
   pub queue : IsQueue key.queue
   pub out : key.queue.out ≡ 4 * key.geometry.out
   pub few : key.geometry.peers ≤ 8
 
--- it was made for this scenario
+-- It was made for this scenario.
 pub record IsMadeFor (world : World) (key : RunSetup) : Type 0 where
   pub geometry : key.geometry ≡ world.geometry
   pub queue : key.queue ≡ world.queue

@@ -1,5 +1,5 @@
--- What peers make of the words of the region and of the sessions: one memory operation after
--- another, each in the list of its peer.
+-- The states of the words of the region and of the sessions: one memory operation after another,
+-- each in the list of its peer.
 use Rattle.std.specs.Prelude.{ℕ, ◌≡◌, ◌≢◌, ◌+◌, ◌-◌, ◌<◌, true, List, [], ◌∷◌, ◌++◌}
 use Rattle.section_map.specs.Geometry.{word_count}
 use Rattle.section_map.specs.MayWrite.{MayWrite}
@@ -11,39 +11,39 @@ use Rattle.shared_words.specs.declared.run_setup.RunSetup.{RunSetup}
 use Rattle.shared_words.specs.RunSetups.{honest_of}
 use Rattle.shared_words.specs.DerivedStates.{CallAccess, MemoryOp, called, numbered, carried, restarted, derived_state, IsNext}
 
--- an access that a peer may make: a store is in its own section or in the common one; State is its
--- own word, and it reads any word of the region
+-- An access that a peer may make: a read in the region, a store in its own section or in the common
+-- one, or a write of its own State.
 abbrev pub IsOwned : RunSetup → ℕ → Access → Type 0
 IsOwned key p (access.Read word) = word < word_count key.geometry
 IsOwned key p (access.Write word value) = MayWrite key.geometry p word
 IsOwned key p other = Unit {0}
 
--- peer p, which did these memory operations, may make this access: of an honest link peer it is the
--- next one of its calls
+-- Peer p may make this access after these memory operations. For an honest link peer it is the next
+-- one of its calls.
 pub record MayTake (key : RunSetup) (p : ℕ) (list : List (MemoryOp CallAccess)) (t : CallAccess) : Type 0 where
   pub owned : IsOwned key p t.access
   pub next : honest_of key p ≡ true → IsNext key p (derived_state key p list) t.begins t.access
 
--- it may store this number in its session word: it is honest and about to set READY, and has opened
--- one session fewer
+-- Peer p may store this number in its session word: it is honest, about to set READY, and opened
+-- one session fewer.
 pub record MayStoreSession (key : RunSetup) (p : ℕ) (list : List (MemoryOp CallAccess)) (number : ℕ) : Type 0 where
   pub honest : honest_of key p ≡ true
   pub place : (derived_state key p list).place ≡ WritingState 2
   pub next : number ≡ (derived_state key p list).numbers.log.opened + 1
 
--- it may load the other's session word: it is honest and about to set RUN
+-- Peer p may load the other's session word: it is honest and about to set RUN.
 pub record MayLoadSession (key : RunSetup) (p : ℕ) (list : List (MemoryOp CallAccess)) : Type 0 where
   pub honest : honest_of key p ≡ true
   pub place : (derived_state key p list).place ≡ WritingState 3
 
--- the list of peer p has one element more, and the others stay
+-- The list of peer p has one more element, and the others stay.
 pub record Appends {A : Type 0} (acc next : ℕ → List A) (p : ℕ) (t : A) : Type 0 where
   pub here : next p ≡ acc p ++ t ∷ []
   pub neighbour_word : (q : ℕ) → q ≢ p → next q ≡ acc q
 
--- All words are 0 and all lists empty; or a peer makes an access: a read gives what stands in the
--- word, and a store changes that word alone. Or it stores its session word; or it loads the
--- other's; or its device is reset, by a store of 0 in its state word
+-- All words are 0 and all lists are empty. Or a peer makes an access: a read returns the word, and
+-- a store changes that word alone. Or it stores its session word; or it loads the other's; or its
+-- device is reset, by a store of 0 in its state word.
 pub data Made (key : RunSetup) : (memory words : ℕ → ℕ) → (ℕ → List (MemoryOp CallAccess)) → Type 0 where
   starts : (memory words : ℕ → ℕ) (acc : ℕ → List (MemoryOp CallAccess)) → ((w : ℕ) → memory w ≡ 0) → ((p : ℕ) → words p ≡ 0) → ((p : ℕ) → acc p ≡ []) →
       Made key memory words acc

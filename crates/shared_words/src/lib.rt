@@ -1,8 +1,8 @@
 //! The words that running peers share, and the single actions on them.
 //!
 //! The words are an `atomic_table` under one rule, and a pass has the list of each of its peers'
-//! actions. Each public call that acts on a word makes one operation on one word, and adds exactly
-//! one entry to the list of the pass's first peer: `load`, `store`, `set_state`, `store_session`,
+//! actions. Each public call that acts on a word makes one operation on it, and appends one entry
+//! to the list of the pass's first peer. These are `load`, `store`, `set_state`, `store_session`,
 //! `load_session`, `reset`, `ring`, `look` and `clear`. `split_pass` and `join_pass` move lists and
 //! add none. `learn` makes a load that adds no entry, and gives what the rule says of all lists.
 //!

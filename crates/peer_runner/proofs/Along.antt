@@ -42,7 +42,7 @@ alone_at key fit memory words acc m p hp = (whole_at key fit memory words acc m)
 
 -- An access
 
--- what it changes in an end: what it wrote last, and the phase
+-- What it changes in an end: what it wrote last, and the phase.
 pub noted_written : (end : End) (marks : List Mark) → (with_marks end marks).written ≡ end.written
 noted_written end [] = refl
 noted_written end (m ∷ marks) = noted_written (with_mark end m) marks ∙ once end m
@@ -77,11 +77,11 @@ stated_phase end (access.Write word value) = refl
 stated_phase end (access.State state) = refl
 stated_phase end a = refl
 
--- the place at which it is made
+-- The place at which it is made.
 abbrev pub place_before : RunSetup → ℕ → List (MemoryOp CallAccess) → CallAccess → Place
 place_before key p list t = (begun_if (config_of (link_config_of key) p) (derived_state key p list) t.begins).place
 
--- the access t of an honest peer p, after its list
+-- The access t of an honest peer p, after its list.
 pub record Turn (key : RunSetup) (p : ℕ) (memory after : ℕ → ℕ) (list : List (MemoryOp CallAccess)) (t : CallAccess) : Type 0 where
   pub alone : EndInvariant (link_config_of key) memory p (derived_state key p list).end (place_before key p list t)
   pub next : IsNext key p (derived_state key p list) t.begins t.access
@@ -122,14 +122,14 @@ module _ (key : RunSetup) (p : ℕ) (memory after : ℕ → ℕ) (list : List (M
   phase_after = let e = (derived_state key p list).end in let a = access_at (config_of (link_config_of key) p) (place_before key p list t) in let marks = marks_at (config_of (link_config_of key) p) (place_before key p list t) t.value in
       ap (λ (x : End). x.handshake.phase) turn.next_end ∙ (noted_phase (with_access e a) marks ∙ (stated_phase e a ∙ ap (phase_left e.handshake.phase) (sym turn.is)))
 
--- An access to a session word
+-- An access to a session word.
 
 abbrev pub IsQuiet : MemoryOp CallAccess → Type 0
 IsQuiet (numbered number) = Unit {0}
 IsQuiet (carried number) = Unit {0}
 IsQuiet d = ⊥
 
--- after the list of an honest peer p, d changes neither the peer's end nor its place
+-- After the list of an honest peer p, d changes neither the peer's end nor its place.
 pub record Quiet (key : RunSetup) (p : ℕ) (list : List (MemoryOp CallAccess)) (d : MemoryOp CallAccess) : Type 0 where
   pub kind : IsQuiet d
   pub access : access_of d ≡ access.Nothing
@@ -142,7 +142,7 @@ quiet_of key p list restarted hp is = absurd is
 quiet_of key p list (numbered number) hp is = let then = standing_snoc key p list (numbered number) ∙ stand_honest key p (derived_state key p list) (numbered number) hp in record { kind = tt; access = refl; end = ap (λ (x : DerivedState). x.end) then; place = ap (λ (x : DerivedState). x.place) then }
 quiet_of key p list (carried number) hp is = let then = standing_snoc key p list (carried number) ∙ stand_honest key p (derived_state key p list) (carried number) hp in record { kind = tt; access = refl; end = ap (λ (x : DerivedState). x.end) then; place = ap (λ (x : DerivedState). x.place) then }
 
--- A reset of an honest peer p, after its list
+-- A reset of an honest peer p, after its list.
 
 pub record Restart (key : RunSetup) (p : ℕ) (memory after : ℕ → ℕ) (list : List (MemoryOp CallAccess)) : Type 0 where
   pub stored : Stored memory after p 0
@@ -154,12 +154,12 @@ restart_of key p memory after list hp st = let then = standing_snoc key p list r
 
 -- Lists
 
--- what holds of the empty list, and after each memory operation of the peer, holds of its list
+-- What holds of the empty list, and after each memory operation of the peer, holds of its list.
 module _ (key : RunSetup) (fit : IsFit key) (p : ℕ) (hp : honest_of key p ≡ true) (P : List (MemoryOp CallAccess) → Type 0) (none : P [])
     (more : (memory after words : ℕ → ℕ) (acc next : ℕ → List (MemoryOp CallAccess)) (t : CallAccess) → Made key memory words acc → Made key after words next → next p ≡ acc p ++ called t ∷ [] → Turn key p memory after (acc p) t → P (acc p) → P (acc p ++ called t ∷ []))
     (quiet : (list : List (MemoryOp CallAccess)) (d : MemoryOp CallAccess) → Quiet key p list d → P list → P (list ++ d ∷ []))
     (reset : (memory after : ℕ → ℕ) (list : List (MemoryOp CallAccess)) → Restart key p memory after list → P list → P (list ++ restarted ∷ [])) where
-  -- the list of some peer q grows
+  -- The list of some peer q grows.
   grown : (acc next : ℕ → List (MemoryOp CallAccess)) (q : ℕ) (d : MemoryOp CallAccess) → Appends acc next q d → (p ≡ q → P (acc p) → P (acc p ++ d ∷ [])) → P (acc p) → P (next p)
   grown acc next q d g on was = dite (ℕ_discrete p q)
       (λ e. subst P (sym (ap next e ∙ (g.here ∙ ap (λ x. acc x ++ d ∷ []) (sym e)))) (on e was))

@@ -25,7 +25,7 @@ use Rattle.shared_words.specs.PassView.{PassView}
 use Rattle.peer_runner.specs.Runners.{MayRingBy, made}
 use Rattle.shared_words.proofs.Keys.{clash}
 
--- A way that touches a word is one to a peer that is there, by one of 64 bits
+-- A way that touches a word is one to a peer that is there, by one of 64 bits.
 abbrev pub Fits : List Route → (target : ℕ) → DoorbellPath → Type 0
 Fits routes target Silent = Unit {0}
 Fits routes target (Direct b) = (target < length routes) × (b < 64) × ((route_to routes target).one_shot ≡ false)
@@ -70,7 +70,7 @@ pub way_of : (routes : List Route) (target vector : ℕ) (route : Route) (o : Op
 unfolding doorbell_path_to
 way_of routes target vector route o at is = λ i. doorbell_path_by (at i).one_shot ((is ∙ ap (λ (r : Route). bit_rung r vector) at) i)
 
--- Which peers are in one-shot mode
+-- Which peers are in one-shot mode.
 pub never_one_shot : (key : RunSetup) (routes : List Route) (target : ℕ) → AreRoutes key routes → target < length routes → (route_to routes target).one_shot ≡ false → IsOneShot key target → ⊥
 never_one_shot key routes target are lt off shot = let count = are.count in let bit_is : bit_at key.one_shot target ≡ 0 = are.one_shot target (omega arith) ∙ ap one_if off in omega arith
 
@@ -83,11 +83,11 @@ pub not_so : (b : Bool) → (b ≡ true → ⊥) → b ≡ false
 not_so true never = absurd (never refl)
 not_so false never = refl
 
--- no ring is to come where the doorbell isn't guarded
+-- No ring is to come where the doorbell isn't guarded.
 pub never_ringing : (routes : List Route) (target vector : ℕ) (doorbell_path : DoorbellPath) (ringing : Bool) (list : List (Action (MemoryOp CallAccess))) → doorbell_path_to routes target vector ≡ doorbell_path → is_guarded doorbell_path ≡ false → (ringing ≡ true → MayRingBy routes (access.Ring target vector) list) → ringing ≡ false
 never_ringing routes target vector doorbell_path ringing list is off may = not_so ringing (λ on. clash (sym (ap is_guarded is ∙ off) ∙ (may on).0))
 
--- nor with an access that is no doorbell
+-- Nor with an access that is no doorbell.
 pub no_ring : (routes : List Route) (a : Access) (ringing : Bool) (list : List (Action (MemoryOp CallAccess))) → (MayRingBy routes a list → ⊥) → (ringing ≡ true → MayRingBy routes a list) → ringing ≡ false
 no_ring routes a ringing list none may = not_so ringing (λ on. none (may on))
 

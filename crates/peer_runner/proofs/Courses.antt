@@ -36,7 +36,7 @@ use Rattle.shared_words.proofs.Keys.{clash}
 use Rattle.peer_runner.proofs.Turning.{plan_cut, Chose}
 use Rattle.peer_runner.proofs.Runs.{refused_of, told_snoc, all_spent, all_later, IsCounted, counted_of, far_of, finished_same, there_first, plan_first, lent, did, err_free}
 
--- one turn more, and its lines
+-- One turn more, and its lines.
 
 of_on : (id : TableId) (key : RunSetup) (old pass : PassView) (me : ℕ) (l m : List (Action (MemoryOp CallAccess))) → IsOf id key old → old.from ≡ me → old.lists ≡ l ∷ [] → pass.table_id ≡ old.table_id → pass.from ≡ me → pass.lists ≡ m ∷ [] → IsOf id key pass
 of_on id key old pass me l m of from lists same from' lists' = let inside = of.2 in let one = ap length lists in let one' = ap length lists' in (same ∙ of.0, of.1, omega arith, of.3)
@@ -53,7 +53,7 @@ course_on id key me routes plan spans r next old pass p q on goes there is same 
 pub told_further : (me : ℕ) (so_far now : List Turn) (turn : Turn) (old new : List Line) → now ≡ so_far ++ turn ∷ [] → old ≡ lines_of_turns me so_far → new ≡ old ++ lines_in me turn → new ≡ lines_of_turns me now
 told_further me so_far now turn old new grows told is = is ∙ (ap (λ ls. ls ++ lines_in me turn) told ∙ sym (ap (lines_of_turns me) grows ∙ told_snoc me so_far turn))
 
--- a choice moves the round alone, and not where the peer is finished
+-- A choice moves the round alone, and not where the peer is finished.
 
 round_still : (auto : Auto) (c : Option automatic.Choice) → finishes c ≡ true → round_on auto c ≡ auto
 round_still auto None is = refl
@@ -85,16 +85,16 @@ pub planned_cut : (plan cut : Plan) (r : Runner) → IsPlanOf plan (round_on r.a
 planned_cut plan cut r planned is = subst (λ (p : Plan). IsPlanOf p (restarted_on r).auto) (sym is)
     (subst (IsPlanOf (record plan { round = Anew })) (round_cut r.auto (chosen r)) (plan_cut plan (record r { auto = round_on r.auto (chosen r) }) planned))
 
--- a turn at a session word records no line
+-- A turn at a session word records no line.
 pub met_silent : (me number : ℕ) (word : SessionWord) → lines_in me (turn_met word number) ≡ []
 met_silent me number Own = refl
 met_silent me number Others = refl
 
--- what a turn asks of the pass
+-- What a turn asks of the pass.
 pub seated : (id : TableId) (key : RunSetup) (me : ℕ) (routes : List Route) (plan : Plan) (spans : List ℕ) (r : Runner) (pass : PassView) (p : AutoPeer) → IsOnTrajectory id key me routes plan spans r pass p → IsOf id key pass × (pass.from ≡ me) × (0 < length pass.lists)
 seated id key me routes plan spans r pass p on = (on.of, on.there.from, (let one = ap length on.there.lists in omega arith))
 
--- a session more can be numbered, and so can a turn
+-- A session more can be numbered, and so can a turn.
 pub few_opened : (spans : List ℕ) (r : Runner) → IsCounted spans r → has_turn_left r.spans ≡ true → all_turns spans < 2 ^ 32 → r.numbers.log.opened + 1 < 2 ^ 32
 few_opened spans r is left few = let count = is.count in let most = is.opened in let one = all_spent r.spans left in omega arith
 
@@ -108,11 +108,11 @@ pub record IsInSpan (id : TableId) (key : RunSetup) (me : ℕ) (routes : List Ro
   pub turns_are : turns ≡ length next.turns
   pub told : lines ≡ lines_of_turns me next.turns
 
--- where a turn of it is left
+-- Where a turn of it is left.
 pub left_in_span : (spans : List ℕ) (left : ℕ) (rest : List ℕ) → spans ≡ left ∷ rest → 0 < left → has_turn_left spans ≡ true
 left_in_span spans left rest is some = ap has_turn_left is ∙ lt-ltb 0 left some
 
--- the number of the next turn
+-- The number of the next turn.
 pub few_turns : (spans : List ℕ) (r : Runner) → IsCounted spans r → has_turn_left r.spans ≡ true → length r.turns + 1 ≤ all_turns spans
 few_turns spans r is left = let count = is.count in let one = all_spent r.spans left in omega arith
 
@@ -125,7 +125,7 @@ abbrev pub IsDue : List ℕ → ℕ → Runner → Type 0
 IsDue spans zero r = r.spans ≡ spans
 IsDue spans (suc k) r = has_finished r ≡ false → r.spans ≡ 0 ∷ drop (suc k) spans
 
--- the start
+-- The start.
 pub course_first : (id : TableId) (key : RunSetup) (me : ℕ) (routes : List Route) (spans : List ℕ) (pass : PassView) (p : AutoPeer) → IsOf id key pass → pass.from ≡ me → pass.lists ≡ [] ∷ [] → MayBeAuto key me p.driven.auto p.driven.end →
     (p.looks ≡ Some 0) × (p.ringing ≡ false) × (p.opened ≡ 0) × (p.met ≡ None) → IsOnTrajectory id key me routes p.driven.auto spans (initial_runner p.driven.auto.frames p.driven.auto.expected spans) pass p
 course_first id key me routes spans pass p of from lists may fresh = record {
@@ -135,12 +135,12 @@ course_first id key me routes spans pass p of from lists may fresh = record {
   is = record { planned = plan_first p.driven.auto may.begins; looks = fresh.0; ringing = fresh.1; opened = fresh.2; met = fresh.3 };
 }
 
--- the spans that are left there
+-- The spans that are left there.
 
 span_here : (spans : List ℕ) (k : ℕ) → k < length spans → drop k spans ≡ slice_index spans k ∷ drop (suc k) spans
 span_here spans k there = drop-cons spans k 0 there
 
--- a reset comes between two spans
+-- A reset comes between two spans.
 pub due_over : (spans : List ℕ) (k : ℕ) (r : Runner) → IsDue spans k r → 0 < k → k < length spans → has_finished r ≡ false → IsSpanSpent r.spans
 due_over spans zero r due some there goes = absurd (omega arith)
 due_over spans (suc k) r due some there goes = subst IsSpanSpent (sym (due goes ∙ ap (λ s. 0 ∷ s) (span_here spans (suc k) there))) tt
@@ -153,7 +153,7 @@ pub due_later : (spans : List ℕ) (k : ℕ) (r next : Runner) → IsDue spans k
 due_later spans zero r next due some there goes is = absurd (omega arith)
 due_later spans (suc k) r next due some there goes is = is ∙ (ap later (due goes) ∙ span_here spans (suc k) there)
 
--- after the last span
+-- After the last span.
 pub due_last : (spans : List ℕ) (k : ℕ) (r : Runner) → IsDue spans k r → length spans ≤ k → has_finished r ≡ false → all_turns r.spans ≡ 0
 due_last spans zero r due past goes = ap all_turns (due ∙ drop_all 0 spans past)
 due_last spans (suc k) r due past goes = ap all_turns (due goes ∙ ap (λ s. 0 ∷ s) (drop_all (suc k) spans past))
@@ -164,7 +164,7 @@ most_turns spans r is = let count = is.count in omega arith
 one_reset : (spans : List ℕ) (r next : Runner) → IsCounted spans r → IsCounted spans next → IsSpanSpent r.spans → next.spans ≡ later r.spans → length next.turns ≡ length r.turns + 1
 one_reset spans r next is then' over goes = let count = is.count in let counts = then'.count in let one = all_later r.spans over in let same = ap all_turns goes in omega arith
 
--- The peer that is driven, with its turns and lines: a runner of which this holds is there
+-- The peer that is driven, with its turns and lines: a runner of which this holds is there.
 
 pub record IsAt (id : TableId) (key : RunSetup) (me : ℕ) (routes : List Route) (plan : Plan) (spans : List ℕ) (P : Runner → Type 0) (pass : PassView) (p : AutoPeer) (turns : ℕ) (lines : List Line) : Type 0 where
   pub r : Runner
@@ -187,7 +187,7 @@ module _ (id : TableId) (key : RunSetup) (me : ℕ) (routes : List Route) (plan 
   counts : (r : Runner) (pass : PassView) (p : AutoPeer) → IsOnTrajectory id key me routes plan spans r pass p → IsCounted spans r
   counts r pass p on = counted_of key me routes plan spans r on.comes
 
-  -- at a span: the first, or one after a reset
+  -- At a span: the first, or one after a reset.
   pub enters_first : (k : ℕ) (pass : PassView) (p : AutoPeer) (turns : ℕ) (lines : List Line) → k ≡ 0 → k < length spans → IsAt id key me routes plan spans (IsDue spans k) pass p turns lines →
       IsAt id key me routes plan spans (λ r. r.spans ≡ slice_index spans k ∷ drop (suc k) spans) pass p turns lines
   enters_first k pass p turns lines none there at = record { r = at.r; on = at.on; holds = due_first spans k at.r at.holds none there; turns_are = at.turns_are; told = at.told }
@@ -203,7 +203,7 @@ module _ (id : TableId) (key : RunSetup) (me : ℕ) (routes : List Route) (plan 
     told = took.2.0;
   }
 
-  -- at the end: all spans are spent, or the peer is finished
+  -- At the end: all spans are spent, or the peer is finished.
   pub ends_spent : (k : ℕ) (pass : PassView) (p : AutoPeer) (turns : ℕ) (lines : List Line) → length spans ≤ k → IsAt id key me routes plan spans (IsDue spans k) pass p turns lines →
       IsAt id key me routes plan spans (λ r. has_finished r ≡ false → all_turns r.spans ≡ 0) pass p turns lines
   ends_spent k pass p turns lines past at = record { r = at.r; on = at.on; holds = due_last spans k at.r at.holds past; turns_are = at.turns_are; told = at.told }
@@ -219,7 +219,7 @@ module _ (id : TableId) (key : RunSetup) (me : ℕ) (routes : List Route) (plan 
     told = took.2.0;
   }
 
-  -- what was done there, as it is driven
+  -- What was done there, as it is driven.
   pub pass_at : (first pass : PassView) (p : AutoPeer) (r : Runner) → IsOf id key first → IsOnTrajectory id key me routes plan spans r pass p → pass ≡ held first.table_id me (r.actions ∷ [])
   pass_at first pass p r of on = lent pass me r.actions on.there.from on.there.lists ∙ ap (λ i. held i me (r.actions ∷ [])) (on.of.0 ∙ sym of.0)
 
@@ -255,7 +255,7 @@ module _ (id : TableId) (key : RunSetup) (me : ℕ) (routes : List Route) (plan 
     ),
   )
 
--- at the next span
+-- At the next span.
 pub due_next : (spans : List ℕ) (k : ℕ) (r : Runner) → (has_finished r ≡ false → r.spans ≡ 0 ∷ drop (suc k) spans) → IsDue spans (k + 1) r
 due_next spans k r due = subst (λ n. IsDue spans n r) (sym next) due
   where

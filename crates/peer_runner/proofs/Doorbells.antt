@@ -17,7 +17,7 @@ use Rattle.shared_words.proofs.Keys.{within}
 use Rattle.shared_words.proofs.Happening.{high_leaves}
 use Rattle.shared_words.proofs.Weights.{weigh_here, weigh_else, weigh_still, weigh_none, tally_zero, tally_grows, rings_accessed, rings_here, rings_looked, rings_cleared, finds_accessed, finds_rang, finds_looked, finds_cleared, strikes_accessed, strikes_rang, strikes_looked, strikes_else, rings_else, rings_off}
 
--- one action more, by which no bit is lost that isn't found
+-- One action more, by which no bit is lost that isn't found.
 doorbells_on : (key : RunSetup) (memory after : ℕ → ℕ) (acc next : ℕ → List (Action (MemoryOp CallAccess))) (p : ℕ) (t : Action (MemoryOp CallAccess)) → p < key.geometry.peers → Appends acc next p t →
     ((target bit : ℕ) → target < key.geometry.peers → rings target bit t ≤ bit_at (after (interrupt_word key target)) bit) →
     ((target bit : ℕ) → target < key.geometry.peers → bit_at (memory (interrupt_word key target)) bit + weigh (finds bit) (acc target) ≤ bit_at (after (interrupt_word key target)) bit + weigh (finds bit) (next target)) →
@@ -38,7 +38,7 @@ doorbells_on key memory after acc next p t p_lt g sets keeps shuts stays was = r
       (λ h. shuts target lt (omega arith));
 }
 
--- a memory operation
+-- A memory operation
 deed_on : (key : RunSetup) (memory after : ℕ → ℕ) (acc next : ℕ → List (Action (MemoryOp CallAccess))) (p : ℕ) (t : MemoryOp CallAccess) → p < key.geometry.peers → Appends acc next p (accessed t) → ((w : ℕ) → word_count key.geometry ≤ w → w < word_count key.geometry + 2 * key.geometry.peers → after w ≡ memory w) →
     Doorbells key memory acc → Doorbells key after next
 deed_on key memory after acc next p t p_lt g still = doorbells_on key memory after acc next p (accessed t) p_lt g

@@ -33,7 +33,7 @@ use Rattle.peer_runner.proofs.Along.{alone_at, noted_written, place_before, Turn
 
 -- Where an offer comes from
 
--- no offer is open whose frame is to be accepted
+-- No offer is open whose frame is to be accepted.
 abbrev OffersNone : Place → Type 0
 OffersNone place = offered_at (settled_place place) ≡ None
 
@@ -69,7 +69,7 @@ words_none number more entry address bytes read (suc words) = refl
 pub none_some : (pending : PendingOffer) → None ≡ Some pending → ⊥
 none_some pending e = cc
 
--- a pending offer of the next place is the pending offer of the place before
+-- A pending offer of the next place is the pending offer of the place before.
 abbrev GoesOn : Place → Place → Type 0
 GoesOn place next = (pending : PendingOffer) → offered_at (settled_place next) ≡ Some pending → offered_at place ≡ Some pending
 
@@ -116,7 +116,7 @@ goes_on config (ReadingFrameWord number more entry address bytes read words) val
 goes_on config (WritingUsedIndex number more) value = on_none (WritingUsedIndex number more) (items_place (number + 1) more) (items_none (number + 1) more)
 goes_on config place value = on_none place (next_place config place value) refl
 
--- How many ids an offer has read
+-- How many ids an offer has read.
 
 none_of : (o : Option PendingOffer) → ((pending : PendingOffer) → o ≡ Some pending → ⊥) → o ≡ None
 none_of None none = refl
@@ -126,7 +126,7 @@ freed_none : (x : ℕ) (place : Place) → offered_at place ≡ None → freed_a
 freed_none x (ReadingUsedId pending freed more) e = absurd (none_some pending (sym e))
 freed_none x place e = refl
 
--- the number of ids read changes at these places alone
+-- The number of ids read changes at these places alone.
 abbrev Counts : Place → ℕ → Type 0
 Counts (ReadingUsedIndex pending freed) n = n ≡ freed
 Counts (ReadingUsedId pending freed more) n = n ≡ freed + 1
@@ -172,7 +172,7 @@ first_freed x config end Stop = refl
 first_freed x config end (Offer frame) = test_same x (in_run end.handshake.phase) (ReadingUsedIndex (pending_of config end frame) end.freed) NotInRun refl refl
 first_freed x config end Poll = test_same x (in_run end.handshake.phase) (ReadingAvailIndex (length end.delivered) (is_last config end.found_none)) NotInRun refl refl
 
--- as it reads them, an offer accepts nothing and writes nothing
+-- As it reads them, an offer accepts nothing and writes nothing.
 abbrev AcceptsNone : List Mark → Type 0
 AcceptsNone marks = (end : End) → (with_marks end marks).accepted ≡ end.accepted
 
@@ -206,7 +206,7 @@ SpelledFrom link_config memory p accepted from = (k : ℕ) → from ≤ k → k 
 pub spelled_same : (link_config : LinkConfig) (memory after : ℕ → ℕ) (p from : ℕ) (accepted : List (List ℕ)) → IsLinkConfig link_config → ((j : ℕ) → j < link_config.words → after (section_of link_config p + j) ≡ memory (section_of link_config p + j)) → SpelledFrom link_config memory p accepted from → SpelledFrom link_config after p accepted from
 spelled_same link_config memory after p from accepted is same s k low high = subst (λ (f : Field → ℕ). Spelled link_config f k (start_in link_config accepted k) (frame_at accepted k)) (λ i field. sym (fields_same link_config memory after p is same field) i) (s k low high)
 
--- those from the ids read on
+-- Those from the ids read on.
 counted_from : (link_config : LinkConfig) (memory : ℕ → ℕ) (p : ℕ) (end : End) (place : Place) (n : ℕ) → Counts place n → EndInvariant link_config memory p end place → SpelledFrom link_config memory p end.accepted (freed_at end.freed place) → SpelledFrom link_config memory p end.accepted n
 counted_from link_config memory p end (ReadingUsedIndex pending freed) n c a s k low high = s k (let f = a.holds.2 in omega arith) high
 counted_from link_config memory p end (ReadingUsedId pending freed more) n c a s k low high = s k (omega arith) high
@@ -218,14 +218,14 @@ counts_open link_config memory p end (ReadingUsedId pending freed more) n c a = 
 counts_open link_config memory p end place n c a = absurd c
 
 module _ (key : RunSetup) (fit : IsFit key) (p : ℕ) (hp : honest_of key p ≡ true) where
-  -- by what the end wrote last
+  -- By what the end wrote last.
   abbrev InFlightAt : End → Place → Type 0
   InFlightAt end place = Opened end.handshake.phase → SpelledFrom (link_config_of key) end.written p end.accepted (freed_at end.freed place)
 
   abbrev InFlight : List (MemoryOp CallAccess) → Type 0
   InFlight l = InFlightAt (derived_state key p l).end (derived_state key p l).place
 
-  -- a call that begins has read no id
+  -- A call that begins has read no id.
   before_call : (memory : ℕ → ℕ) (end : End) (s : DerivedState) (call : Option Call) → s.end ≡ end → Opened end.handshake.phase → EndInvariant (link_config_of key) memory p end (begun_if (config_of (link_config_of key) p) s call).place →
       SpelledFrom (link_config_of key) memory p end.accepted (freed_at end.freed s.place) → SpelledFrom (link_config_of key) memory p end.accepted (freed_at end.freed (begun_if (config_of (link_config_of key) p) s call).place)
   before_call memory end s None e o a was = was

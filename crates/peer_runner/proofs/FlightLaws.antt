@@ -29,8 +29,8 @@ pub freed_below : (link_config : LinkConfig) (memory : ℕ → ℕ) (p : ℕ) (e
 freed_below link_config memory p end (ReadingUsedId pending freed more) a = let h = a.holds.2 in omega arith
 freed_below link_config memory p end place a = omega arith
 
--- an end in the middle of its ids is alone as one that is to read the used index, and has freed
--- what it read
+-- An end in the middle of its ids is alone as one that is to read the used index, and has freed
+-- what it read.
 as_counted : (link_config : LinkConfig) (memory : ℕ → ℕ) (p : ℕ) (end : End) (pending : PendingOffer) (freed more : ℕ) → EndInvariant link_config memory p end (ReadingUsedId pending freed more) → SpelledFrom link_config memory p end.accepted freed → EndInvariant link_config memory p (record end { freed = freed }) (ReadingUsedIndex pending freed)
 as_counted link_config memory p end pending freed more a s = let run = a.holds.0 in let sum = a.holds.2 in let most = a.freed in record {
   state = a.state;

@@ -46,7 +46,7 @@ many_one : (f : Line → Bool) (x : Line) → how_many f (x ∷ []) ≡ one_if (
 unfolding how_many
 many_one f x = omega arith
 
--- a line that is no interrupt
+-- A line that is no interrupt.
 abbrev IsSilent : List Line → Type 0
 IsSilent lines = (how_many is_interrupt lines ≡ 0) × ((v : ℕ) → how_many (is_interrupt_by v) lines ≡ 0)
 
@@ -97,7 +97,7 @@ reset_silent p = (refl, λ v. refl)
 step_silent : (p : ℕ) (first : Bool) (a : Access) (value : ℕ) (marks : List Mark) → IsSilent (lines_of p first a value marks)
 step_silent p first a value marks = silent_if (is_quiet first a marks) (access_lines p a value ++ map (mark_line p) marks) (silent_both (access_lines p a value) (map (mark_line p) marks) (access_silent p a value) (marks_silent p marks))
 
--- A look records the bits that it found
+-- A look records the bits that it found.
 
 bit_heard : (p n found v : ℕ) → how_many (is_interrupt_by v) (interrupt_line p n found) ≡ (if n == v then bit_at found n else 0)
 bit_heard p n found v = let low : bit_at found n < 2 = bit_at-lt found n in dite (ℕ_discrete (bit_at found n) 0)
@@ -177,7 +177,7 @@ blind_clear v access.Nothing found = refl
 seen_look : (v found : ℕ) → weigh {A = MemoryOp ObservedAccess} (finds v) (looked found ∷ []) ≡ bit_at found v
 seen_look v found = weigh_one (finds v) (looked found) ∙ finds_looked (MemoryOp ObservedAccess) v found
 
--- the lines of a turn record at most the interrupts that the turn found
+-- The lines of a turn record at most the interrupts that the turn found.
 record Hears (lines : List Line) (acts : List (Action (MemoryOp ObservedAccess))) : Type 0 where
   each : (v : ℕ) → how_many (is_interrupt_by v) lines ≤ weigh (finds v) acts
   all : how_many is_interrupt lines ≤ tally 64 (λ v. weigh (finds v) acts)
@@ -214,9 +214,9 @@ unfolding lines_of_turns actions_in
 turns_hear p routes [] = silent_hears [] [] silent_none
 turns_hear p routes (turn ∷ turns) = hears_both (lines_in p turn) (lines_of_turns p turns) (acted_in routes turn) (actions_in routes turns) (turn_hears p routes turn) (turns_hear p routes turns)
 
--- The rings of turns, each with its doorbell
+-- The rings of turns, each with its doorbell.
 
--- the access of the step that is to come
+-- The access of the step that is to come.
 abbrev first_access : CallTree → Access
 first_access Ended = access.Nothing
 first_access (Does a marks rest) = a
@@ -237,7 +237,7 @@ takes_by config storm Waits peer after step took = goes_by (opened config peer).
 takes_by config storm (Chooses auto) peer after step took = goes_by (opened config peer).left took.0 step took.1
 
 module _ (routes : List Route) (p target v : ℕ) (intx : Bool) (line_is : (route_to routes target).intx ≡ intx) where
-  -- how often its ring is one of this bit at this target
+  -- How often its ring is one of this bit at this target.
   abbrev ringing_by : Access → ℕ
   ringing_by a = weigh (rings target v) (acted_by routes a 0)
 
@@ -275,7 +275,7 @@ module _ (routes : List Route) (p target v : ℕ) (intx : Bool) (line_is : (rout
   other_rings (Direct b) at ne = ap (λ (x : Bool). one_if (x && (b == v)) + 0) ne
   other_rings (Guarded b) at ne = ap (λ (x : Bool). one_if (x && (b == v)) + 0) ne
 
-  -- a doorbell's ring, and its line
+  -- A doorbell's ring, and its line.
   bell_rings : (at vector : ℕ) → weigh {A = MemoryOp ObservedAccess} (rings target v) (rung_by (doorbell_path_to routes at vector) at) ≤ one_if ((at == target) && (intx || vector == v))
   unfolding doorbell_path_to
   bell_rings at vector = by (at == target) refl
@@ -324,8 +324,8 @@ module _ (routes : List Route) (p target v : ℕ) (intx : Bool) (line_is : (rout
   unfolding weigh rings
   deed_rings d = refl
 
-  -- a turn's rings, and those that are to come, are at most its doorbells and those that were to
-  -- come
+  -- A turn's rings, and those that are to come, are at most its doorbells and those that were to
+  -- come.
   turn_bells : (config : EndConfig) (storm : ℕ → Step) (turn : Turn) (run after : Running) → TakesTurn config storm routes run turn after →
       weigh (rings target v) (acted_in routes turn) + to_come config storm after ≤ how_many (is_bell intx target v) (lines_in p turn) + to_come config storm run
   turn_bells config storm (Looks found) run after took = let none : weigh {A = MemoryOp ObservedAccess} (rings target v) (looked found ∷ []) ≡ 0 = weigh_one (rings target v) (looked found) ∙ rings_looked (MemoryOp ObservedAccess) target v found in
@@ -361,7 +361,7 @@ module _ (routes : List Route) (p target v : ℕ) (intx : Bool) (line_is : (rout
   pub run_bells : (config : EndConfig) (storm : ℕ → Step) (turns : List Turn) (start : Peer) (spans : List ℕ) (after : Running) → TakesTurns config storm routes (comes_to start spans) turns after → weigh (rings target v) (actions_in routes turns) ≤ how_many (is_bell intx target v) (lines_of_turns p turns)
   run_bells config storm turns start spans after took = let most = turns_bells config storm turns (comes_to start spans) after took in omega arith
 
--- Lists are counted as they are shown
+-- Lists are counted as they are shown.
 
 finds_seen : (v : ℕ) (t : Action (MemoryOp CallAccess)) → finds v (seen_by (memory_op_by touch_of) t) ≡ finds v t
 unfolding finds

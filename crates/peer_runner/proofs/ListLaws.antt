@@ -31,7 +31,7 @@ use Rattle.shared_words.proofs.Keys.{same_section, honest_below}
 use Rattle.peer_runner.proofs.Along.{IsQuiet, alone_at, phase_left, place_before, written_after, phase_after, along}
 use Rattle.shared_words.proofs.Happening.{made_in}
 
--- a fold over one memory operation more
+-- A fold over a list with one more memory operation.
 pub fold_more : {A : Type 0} (f : A → MemoryOp CallAccess → A) (a : A) (list : List (MemoryOp CallAccess)) (d : MemoryOp CallAccess) → fold f a (list ++ d ∷ []) ≡ f (fold f a list) d
 fold_more f a list d = fold-append f a list (d ∷ [])
 
@@ -42,7 +42,7 @@ one_in : (a b : MemoryOp CallAccess) → Contains (a ∷ []) b → a ≡ b
 one_in a b (zero, lt, e) = e
 one_in a b (suc k, lt, e) = absurd (omega arith)
 
--- no other memory operation is an access of a call
+-- No other memory operation is an access of a call.
 quiet_called : (d : MemoryOp CallAccess) (t : CallAccess) → IsQuiet d → d ≡ called t → ⊥
 quiet_called (called u) t is e = is
 quiet_called (numbered number) t is e = cc
@@ -55,13 +55,13 @@ reset_called t e = cc
 same_call : {a b : CallAccess} → called a ≡ called b → a ≡ b
 same_call e = cc
 
--- an access that stands in a list that grew by another memory operation stood there before
+-- An access that stands in a list that grew by another memory operation stood there before.
 in_list : (acc next : ℕ → List (MemoryOp CallAccess)) (p q : ℕ) (d e : MemoryOp CallAccess) → Appends acc next q d → Contains (next p) e → Contains (acc p) e ⊎ ((p ≡ q) × (d ≡ e))
 in_list acc next p q d e g c = dite (ℕ_discrete p q)
     (λ i. ⊎_elim (λ h. inl (subst (λ x. Contains (acc x) e) (sym i) h)) (λ h. inr (i, one_in d e h)) (Contains-append_cases (acc q) (d ∷ []) e (subst (λ l. Contains l e) (ap next i ∙ g.here) c)))
     (λ ne. inl (subst (λ l. Contains l e) (g.neighbour_word p ne) c))
 
--- each store of a peer is to a word that it may write
+-- Each store of a peer is to a word that it may write.
 owned_lem : (key : RunSetup) (memory words : ℕ → ℕ) (acc : ℕ → List (MemoryOp CallAccess)) → Made key memory words acc → (p : ℕ) (t : CallAccess) → Contains (acc p) (called t) → IsOwned key p t.access
 owned_lem key memory words acc (made.starts _ _ _ zeros blank empty) p t c = absurd (none_in (called t) (subst (λ l. Contains l (called t)) (empty p) c))
 owned_lem key after words next (made.makes memory _ _ acc _ q u k lt may meets leaves g) p t c = ⊎_elim (owned_lem key memory words acc k p t)
@@ -84,7 +84,7 @@ none_there : (front back : List (MemoryOp CallAccess)) (d : MemoryOp CallAccess)
 none_there [] back d e = cc
 none_there (x ∷ front) back d e = cc
 
--- a memory operation that stands in a list with one more is that one, or stands in the list
+-- A memory operation that stands in a list with one more is that one, or stands in the list.
 in_front : (list : List (MemoryOp CallAccess)) (u : MemoryOp CallAccess) (front back : List (MemoryOp CallAccess)) (d : MemoryOp CallAccess) → list ++ u ∷ [] ≡ front ++ d ∷ back → ((list ≡ front) × (u ≡ d)) ⊎ ((rest : List (MemoryOp CallAccess)) × (list ≡ front ++ d ∷ rest))
 in_front [] u [] back d e = let h : u ≡ d = cc in inl (refl, h)
 in_front [] u (x ∷ front) back d e = let h : [] ≡ front ++ d ∷ back = cc in absurd (none_there front back d h)
@@ -102,14 +102,14 @@ still phase (access.Ring target vector) was none quiet e = none e
 still phase access.Nothing was none quiet e = none e
 
 module _ (key : RunSetup) (fit : IsFit key) (p : ℕ) (hp : honest_of key p ≡ true) where
-  -- what it wrote last
+  -- What it wrote last.
   pub written_is : (memory words : ℕ → ℕ) (acc : ℕ → List (MemoryOp CallAccess)) → Made key memory words acc → (w : ℕ) → (end_by key acc p).written w ≡ last_written (acc p) w
   written_is = along key fit p hp (λ l. (w : ℕ) → (derived_state key p l).end.written w ≡ last_written l w) (λ w. ap (λ (s : DerivedState). s.end.written w) (standing_none key p))
       (λ memory after words acc next t k m here turn was w. written_after key p memory after (acc p) t turn w ∙ (ap (λ n. left_in w n t.access) (was w) ∙ sym (fold_more (λ n (x : MemoryOp CallAccess). left_in w n (access_of x)) 0 (acc p) (called t))))
       (λ list d quiet was w. ap (λ (e : End). e.written w) quiet.end ∙ (was w ∙ sym (fold_more (λ n (x : MemoryOp CallAccess). left_in w n (access_of x)) 0 list d ∙ ap (left_in w (last_written list w)) quiet.access)))
       (λ memory after list reset was w. ap (λ (e : End). e.written w) reset.end ∙ (was w ∙ sym (fold_more (λ n (x : MemoryOp CallAccess). left_in w n (access_of x)) 0 list restarted)))
 
-  -- the State that it wrote last is that of its phase
+  -- The State that it wrote last is that of its phase.
   pub state_is : (memory words : ℕ → ℕ) (acc : ℕ → List (MemoryOp CallAccess)) → Made key memory words acc → state_of (end_by key acc p).handshake.phase ≡ last_state (acc p)
   state_is = along key fit p hp (λ l. state_of (derived_state key p l).end.handshake.phase ≡ last_state l) (ap (λ (s : DerivedState). state_of s.end.handshake.phase) (standing_none key p))
       (λ memory after words acc next t k m here turn was. let left = phase_after key p memory after (acc p) t turn in
@@ -119,7 +119,7 @@ module _ (key : RunSetup) (fit : IsFit key) (p : ℕ) (hp : honest_of key p ≡ 
       (λ list d quiet was. ap (λ (e : End). state_of e.handshake.phase) quiet.end ∙ (was ∙ sym (fold_more (λ n (x : MemoryOp CallAccess). state_left n (access_of x)) 0 list d ∙ ap (state_left (last_state list)) quiet.access)))
       (λ memory after list reset was. ap (λ (e : End). state_of e.handshake.phase) reset.end ∙ sym (fold_more (λ n (x : MemoryOp CallAccess). state_left n (access_of x)) 0 list restarted))
 
-  -- each word of its section, and its state word
+  -- Each word of its section, and its state word.
   pub words_lem : (memory words : ℕ → ℕ) (acc : ℕ → List (MemoryOp CallAccess)) → Made key memory words acc → WordsAreWritten key memory acc p
   words_lem memory words acc m = let alone = alone_at key fit memory words acc m p hp in let start = same_section key p (honest_below key p hp) in record {
     section = λ w has. let j = w - section_start key.geometry p in let low = has.0 in let high = has.1 in let at : w ≡ section_of (link_config_of key) p + j = omega arith in
@@ -127,7 +127,7 @@ module _ (key : RunSetup) (fit : IsFit key) (p : ℕ) (hp : honest_of key p ≡ 
     state = alone.state ∙ state_is memory words acc m;
   }
 
-  -- each access is the next one of its calls
+  -- Each access is the next one of its calls.
   pub calls_lem : (memory words : ℕ → ℕ) (acc : ℕ → List (MemoryOp CallAccess)) → Made key memory words acc → AccessesAreCalls key memory acc p
   calls_lem memory words acc m = record {
     next = along key fit p hp (λ l. (front back : List (MemoryOp CallAccess)) (t : CallAccess) → l ≡ front ++ called t ∷ back → IsNext key p (derived_state key p front) t.begins t.access)
@@ -141,7 +141,7 @@ module _ (key : RunSetup) (fit : IsFit key) (p : ℕ) (hp : honest_of key p ≡ 
         memory words acc m;
   }
 
-  -- it writes nothing in RESET
+  -- It writes nothing in RESET.
   pub reset_lem : (memory words : ℕ → ℕ) (acc : ℕ → List (MemoryOp CallAccess)) → Made key memory words acc → (end_by key acc p).handshake.phase ≡ Reset → has_written (acc p) ≡ false
   reset_lem = along key fit p hp (λ l. (derived_state key p l).end.handshake.phase ≡ Reset → has_written l ≡ false) (λ e. refl)
       (λ memory after words acc next t k m here turn was reset. let phase = (end_by key acc p).handshake.phase in

@@ -26,7 +26,7 @@ none_below : (looks : Option ℕ) → is_below looks 0 ≡ false
 none_below None = refl
 none_below (Some taken) = le-ltb taken 0 (omega arith)
 
--- no look is due where a call is open
+-- No look is due where a call is open.
 pub looks_shut : (config : EndConfig) (own : Route) (r : Runner) → looks_now own (due_of config r) r.looks ≡ true → is_open r.place ≡ false
 looks_shut config own r is = by (is_open r.place) refl
   where
@@ -44,7 +44,7 @@ rings_open routes config RingingOffer list may = refl
 rings_open routes config RingingPoll list may = refl
 rings_open routes config place list may = absurd may
 
--- no ring is to come where no call is open
+-- No ring is to come where no call is open.
 pub still_shut : (key : RunSetup) (me : ℕ) (routes : List Route) (r : Runner) (end : Engine) → RunnerRefines key me routes r end → is_open r.place ≡ false → r.ringing ≡ false
 still_shut key me routes r end s shut = by r.ringing refl
   where
@@ -52,7 +52,7 @@ still_shut key me routes r end s shut = by r.ringing refl
     by true e = absurd (clash (sym shut ∙ rings_open routes (config_in key me) r.place r.actions (s.rings e)))
     by false e = e
 
--- a look records the bits that it found one after another
+-- A look records the bits that it found, one after another.
 pub heard_none : (me found : ℕ) → interrupt_lines 0 me found ≡ []
 unfolding interrupt_lines
 heard_none me found = refl
@@ -62,7 +62,7 @@ unfolding interrupt_lines
 heard_more n me found first was now is more = let next : n + 1 ≡ suc n = omega arith in
     more ∙ (ap (λ ls. ls ++ interrupt_line me n found) is ∙ (append_assoc first (interrupt_lines n me found) (interrupt_line me n found) ∙ sym (ap (λ k. first ++ interrupt_lines k me found) next)))
 
--- if no bit from n on is set, the lines of all bits are the lines of the bits below n
+-- If no bit from n on is set, the lines of all bits are the lines of the bits below n.
 heard_below : (n k me found : ℕ) → found < 2 ^ n → interrupt_lines (n + k) me found ≡ interrupt_lines n me found
 unfolding interrupt_lines
 heard_below n zero me found small = let same : n + 0 ≡ n = omega arith in ap (λ (m : ℕ). interrupt_lines m me found) same

@@ -29,7 +29,7 @@ use Rattle.peer_runner.proofs.Along.{IsQuiet, alone_at, place_before, Turn, alon
 use Rattle.peer_runner.proofs.ListLaws.{fold_more}
 use Rattle.peer_runner.proofs.Flight.{tell_none, none_some, goes_on}
 
--- the frame offered is the next one
+-- The frame offered is the next one.
 number_is : (link_config : LinkConfig) (memory : ℕ → ℕ) (p : ℕ) (end : End) (place : Place) (pending : PendingOffer) → EndInvariant link_config memory p end place → offered_at place ≡ Some pending → pending.number ≡ length end.accepted
 number_is link_config memory p end (ReadingUsedIndex j freed) pending a e = let same : j ≡ pending = cc in ap (λ (x : PendingOffer). x.number) (sym same) ∙ a.holds.1.number
 number_is link_config memory p end (ReadingUsedId j freed more) pending a e = let same : j ≡ pending = cc in ap (λ (x : PendingOffer). x.number) (sym same) ∙ a.holds.1.number
@@ -42,7 +42,7 @@ number_is link_config memory p end (WritingAvailEntry j) pending a e = let same 
 number_is link_config memory p end (WritingAvailIndex j) pending a e = let same : j ≡ pending = cc in ap (λ (x : PendingOffer). x.number) (sym same) ∙ a.holds.1
 number_is link_config memory p end place pending a e = absurd (none_some pending e)
 
--- and its lengths are those of the session
+-- And its lengths are those of the session.
 lengths_are : (link_config : LinkConfig) (memory : ℕ → ℕ) (p : ℕ) (end : End) (place : Place) (pending : PendingOffer) → EndInvariant link_config memory p end place → offered_at place ≡ Some pending → pending.lengths ≡ lengths_of (end.accepted ++ pending.frame ∷ [])
 lengths_are link_config memory p end (ReadingUsedIndex j freed) pending a e = let same : j ≡ pending = cc in subst (λ (x : PendingOffer). x.lengths ≡ lengths_of (end.accepted ++ x.frame ∷ [])) same a.holds.1.lengths
 lengths_are link_config memory p end (ReadingUsedId j freed more) pending a e = let same : j ≡ pending = cc in subst (λ (x : PendingOffer). x.lengths ≡ lengths_of (end.accepted ++ x.frame ∷ [])) same a.holds.1.lengths
@@ -55,7 +55,7 @@ lengths_are link_config memory p end (WritingAvailEntry j) pending a e = let sam
 lengths_are link_config memory p end (WritingAvailIndex j) pending a e = let same : j ≡ pending = cc in subst (λ (x : PendingOffer). x.lengths ≡ lengths_of (end.accepted ++ x.frame ∷ [])) same a.holds.2
 lengths_are link_config memory p end place pending a e = absurd (none_some pending e)
 
--- it still reads the used ring, or has room for its frame
+-- It still reads the used ring, or has room for its frame.
 abbrev IsReading : Place → Type 0
 IsReading (ReadingUsedIndex pending freed) = Unit {0}
 IsReading (ReadingUsedId pending freed more) = Unit {0}
@@ -83,7 +83,7 @@ reading_offers (ReadingUsedIndex pending freed) r = (pending, refl)
 reading_offers (ReadingUsedId pending freed more) r = (pending, refl)
 reading_offers place r = absurd r
 
--- it read before, if it still reads
+-- It read before, if it still reads.
 reading_on : (config : EndConfig) (place : Place) (value : ℕ) → IsReading (settled_place (next_place config place value)) → IsReading place
 unfolding settled_place
 reading_on config (ReadingUsedIndex pending freed) value r = tt
@@ -109,15 +109,15 @@ one_in : (word w : ℕ) → Contains (word ∷ []) w → w ≡ word
 one_in word w (zero, lt, e) = sym e
 one_in word w (suc k, lt, e) = absurd (omega arith)
 
--- the length of its frame, by its number
+-- The length of its frame, by its number.
 long_is : (accepted : List (List ℕ)) (pending : PendingOffer) → pending.number ≡ length accepted → pending.lengths ≡ lengths_of (accepted ++ pending.frame ∷ []) → pending.lengths pending.number ≡ length pending.frame
 long_is accepted pending number lengths = ap (λ (l : ℕ → ℕ). l pending.number) lengths ∙ (ap (lengths_of (accepted ++ pending.frame ∷ [])) number ∙ last_length accepted pending.frame)
 
--- its words are among the bytes that it takes
+-- Its words are among the bytes that it takes.
 word_fits : (sizes : Sizes) (pending : PendingOffer) (at : ℕ) → IsQueue sizes → pending.lengths pending.number ≡ length pending.frame → length pending.frame ≤ sizes.mtu + FRAME_OVERHEAD → at < (length pending.frame + 3) / 4 → at < footprint_of sizes (length pending.frame) / 4
 word_fits sizes pending at queue long most lt = let placed = frames_lem.placed sizes pending.lengths pending.number queue in let holds = subst (λ n. n ≤ sizes.mtu + FRAME_OVERHEAD → 4 * ((n + 3) / 4) ≤ footprint_of sizes n) long placed.holds in let h = holds most in omega arith
 
--- an access to a session word begins no call and stores nothing in the region
+-- An access to a session word begins no call and stores nothing in the region.
 quiet_writes : (was : List ℕ) (d : MemoryOp CallAccess) → IsQuiet d → unless_begun was d ++ words_of (access_of d) ≡ was
 quiet_writes was (called t) is = absurd is
 quiet_writes was restarted is = absurd is
@@ -125,7 +125,7 @@ quiet_writes was (numbered number) is = append-nil was
 quiet_writes was (carried number) is = append-nil was
 
 module _ (key : RunSetup) (fit : IsFit key) (p : ℕ) (hp : honest_of key p ≡ true) where
-  -- the store of an offer, whose frame isn't accepted by it
+  -- The store of an offer, whose frame isn't accepted by it.
   stored_at : (memory : ℕ → ℕ) (end : End) (place : Place) (value : ℕ) (pending : PendingOffer) (w : ℕ) → EndInvariant (link_config_of key) memory p end place → offered_at (settled_place (next_place (config_of (link_config_of key) p) place value)) ≡ Some pending →
       Contains (words_of (access_at (config_of (link_config_of key) p) place)) w → IsOfFrame key p pending w
   unfolding settled_place
@@ -142,7 +142,7 @@ module _ (key : RunSetup) (fit : IsFit key) (p : ℕ) (hp : honest_of key p ≡ 
   stored_at memory end (WritingAvailIndex j) value pending w a e c = absurd (none_some pending (sym (tell_none (config_of (link_config_of key) p) j.number) ∙ e))
   stored_at memory end place value pending w a e c = absurd (none_some pending (goes_on (config_of (link_config_of key) p) place value pending e))
 
-  -- what it had stored as it came to a place
+  -- What it had stored as it came to a place.
   abbrev Had : List ℕ → Place → PendingOffer → Type 0
   Had writes place pending = ((w : ℕ) → Contains writes w → IsOfFrame key p pending w) × (IsReading place → writes ≡ [])
 

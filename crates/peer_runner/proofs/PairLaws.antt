@@ -30,7 +30,7 @@ use Rattle.shared_words.proofs.Making.{reached_by}
 use Rattle.shared_words.proofs.Woken.{never_missed}
 use Rattle.peer_runner.proofs.Along.{whole_at, alone_at}
 
--- Frames in flight of an end that was reset
+-- Frames in flight of an end that was reset.
 
 session_or : (phase : Phase) → InSession phase ⊎ (phase ≢ Run)
 session_or Reset = inr (λ e. cc)
@@ -38,13 +38,13 @@ session_or Init = inr (λ e. cc)
 session_or Ready = inl (inl refl)
 session_or Run = inl (inr refl)
 
--- it is in the middle of no ids
+-- It is in the middle of no ids.
 freed_shut : (link_config : LinkConfig) (memory : ℕ → ℕ) (p : ℕ) (end : End) (place : Place) → PlaceInvariant link_config memory p end place → end.handshake.phase ≢ Run → freed_at end.freed place ≡ end.freed
 freed_shut link_config memory p end (ReadingUsedId pending freed more) h out = absurd (out h.0)
 freed_shut link_config memory p end place h out = refl
 
--- what is sent is spelled in every phase: as of an end in RUN with these counts, whose state word
--- is 3
+-- What is sent is spelled in every phase: as of an end in RUN with these counts, whose state word
+-- is 3.
 sent_spells : (link_config : LinkConfig) (memory : ℕ → ℕ) (p k freed returned : ℕ) (accepted : List (List ℕ)) → IsLinkConfig link_config → p < 2 → OwnSection link_config (fields link_config memory p) accepted freed returned → freed ≤ length accepted → length accepted ≤ freed + limit_of link_config.sizes →
     freed ≤ k → k < length accepted → SectionSpells link_config memory p k (frame_at accepted k)
 sent_spells link_config memory p k freed returned accepted is p2 sent few room low high = let after = put memory p 3 in let start = section_of link_config p in
@@ -80,7 +80,7 @@ module _ (key : RunSetup) (fit : IsFit key) (a : honest_of key 0 ≡ true) (b : 
   pub none_lem : (memory words : ℕ → ℕ) (acc : ℕ → List (MemoryOp CallAccess)) → Made key memory words acc → (p : ℕ) → p < 2 → OtherOpensNone key memory acc p
   none_lem memory words acc m p p2 = (pair_at memory words acc m).cross p p2
 
-  -- as soon as either attends
+  -- As soon as either attends.
   pub pair_lem : (memory words : ℕ → ℕ) (acc : ℕ → List (MemoryOp CallAccess)) → Made key memory words acc → (p : ℕ) → p < 2 → WhereEitherAttends PairKeeps key memory acc p
   pair_lem memory words acc m p p2 attends = let link_config = link_config_of key in let o2 : 1 - p < 2 = omega arith in let end = end_by key acc p in let place = place_by key acc p in let alone = alone_at key fit memory words acc m p (both p p2) in
       let link = (pair_at memory words acc m).link p p2 attends in let flight = flight_lem key fit p (both p p2) memory words acc m in let q = 1 - p in let start = same_section key q o2 in record {
@@ -98,13 +98,13 @@ module _ (key : RunSetup) (fit : IsFit key) (a : honest_of key 0 ≡ true) (b : 
             subst (λ x. memory (x + word_offset key.queue (LayoutUsedId i)) ≡ k % limit_of key.queue) (sym start) (field_read link_config memory q (UsedId i) (memory (section_of link_config q + word_offset key.queue (LayoutUsedId i))) at refl ∙ link.named k low high);
       }
 
-  -- what a call holds
+  -- What a call holds.
   pub sent_lem : (memory words : ℕ → ℕ) (acc : ℕ → List (MemoryOp CallAccess)) → Made key memory words acc → (p : ℕ) → p < 2 → ReadValuesAreAsSent key memory acc p
   sent_lem memory words acc m p p2 = let link_config = link_config_of key in let o2 : 1 - p < 2 = omega arith in let back : 1 - (1 - p) ≡ p = omega arith in let end = end_by key acc p in let place = place_by key acc p in let q = 1 - p in
       let pair = pair_at memory words acc m in as_sent link_config memory p end place (fields link_config memory (1 - q)) (end_by key acc q).accepted (end_by key acc q).returned (alone_at key fit memory words acc m p (both p p2))
       (λ run. subst (λ x. Polls link_config (fields link_config memory (1 - q)) (end_by key acc q).accepted (place_by key acc x)) back (pair.link q o2 (inr (subst (λ x. IsAttached (end_by key acc x) (place_by key acc x)) (sym back) (inl run)))).polls)
       (λ run. (pair.link p p2 (inl (inl run))).returns)
 
--- what one asks for, the other doesn't miss
+-- What one asks for, the other doesn't miss.
 pub woken_lem : (key : RunSetup) → IsFit key → honest_of key 0 ≡ true → honest_of key 1 ≡ true → (memory words : ℕ → ℕ) (acc : ℕ → List (MemoryOp CallAccess)) → Made key memory words acc → (p : ℕ) → p < 2 → AskedIsRung key memory acc p
 woken_lem key fit a b memory words acc m p p2 = λ ev frame asked. never_missed (link_config_of key) (is_ground key fit) ev (honest_of key) a b memory words (λ q. derived_state key q (acc q)) (reached_by key fit memory words acc m) p frame p2 asked

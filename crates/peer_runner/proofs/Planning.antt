@@ -62,7 +62,7 @@ storm_snoc : (p : ℕ) (acts : List Act) (a : Act) → has_storm (acts ++ a ∷ 
 unfolding has_storm
 storm_snoc p acts a = list_any-append (is_storm p) acts (a ∷ []) ∙ ap (λ b. list_any (is_storm p) acts || b) (or_false (is_storm p a))
 
--- Acts that are allowed where they stand
+-- Acts that are allowed where they stand.
 
 goes_on : (b : Bool) (line : ℕ) (rest : Option ℕ) → (if b then Some line else rest) ≡ None → (b ≡ false) × (rest ≡ None)
 goes_on true line rest none = absurd (cc)
@@ -77,7 +77,7 @@ breaks_from (b ∷ acts) before line (suc k) a none at = let g = goes_on (breaks
     ap (λ n. breaks (before ++ take (suc k) (b ∷ acts)) a (drop n (b ∷ acts))) more ∙ (ap (λ l. breaks l a (drop (k + 1) acts)) (sym (append_assoc before (b ∷ []) (take k acts)))
     ∙ breaks_from acts (before ++ b ∷ []) (line + 1) k a g.1 at)
 
--- a turn's peer has what drives it
+-- A turn's peer has what drives it.
 third : (a b c : Bool) → ((a || b) || not c) ≡ false → c ≡ true
 third true b c is = absurd (cc)
 third false true c is = absurd (cc)
@@ -114,9 +114,9 @@ drives_from (a ∷ acts) before line p none has = let g = goes_on (breaks before
 pub has_driver : (w : World) (p : ℕ) → not_running w ≡ None → has_turn w.acts p ≡ true → (has_auto w.acts p || has_storm w.acts p) ≡ true
 has_driver w p running has = drives_from w.acts [] (first_line w) p running has
 
--- The plan of an automatic peer
+-- The plan of an automatic peer.
 
--- an act that says nothing to the peer
+-- An act that says nothing to the peer.
 plan_stays : (mtu p : ℕ) (before : List Act) (a : Act) (plan : Plan) → ((x : Peer) → after_act p x a ≡ x) → is_auto p a ≡ false → gathered p plan a ≡ plan → Gathers mtu p before plan → Gathers mtu p (before ++ a ∷ []) (gathered p plan a)
 plan_stays mtu p before a plan still none same g =
     let has : has_auto (before ++ a ∷ []) p ≡ has_auto before p = auto_snoc p before a ∙ (ap (λ b. has_auto before p || b) none ∙ or_false (has_auto before p)) in
@@ -130,7 +130,7 @@ or_true false = refl
 no_frames : (mtu : ℕ) → All (IsFrame mtu) []
 no_frames mtu = All-from_recursion (IsFrame mtu) [] tt
 
--- it is named as an automatic peer
+-- It is named as an automatic peer.
 plan_named : (mtu p q expected : ℕ) (before : List Act) (plan : Plan) → q ≡ p → (q == p) ≡ true → Gathers mtu p before plan → Gathers mtu p (before ++ act.Auto q expected ∷ []) (gathered p plan (act.Auto q expected))
 plan_named mtu p q expected before plan same is g =
     let a = act.Auto q expected in
@@ -144,7 +144,7 @@ plan_named mtu p q expected before plan same is g =
     named true e = ap (λ (x : Peer). record x { driver = (automatic (fresh_plan expected)).driver }) (g.start e)
     named false e = ap (λ (x : Peer). record x { driver = (automatic (fresh_plan expected)).driver }) (g.none e)
 
--- it is given a frame
+-- It is given a frame.
 plan_given : (mtu p q : ℕ) (frame : List ℕ) (before : List Act) (plan : Plan) → (q == p) ≡ true → has_auto before p ≡ true → IsFrame mtu frame → Gathers mtu p before plan → Gathers mtu p (before ++ act.Offer q frame ∷ []) (gathered p plan (act.Offer q frame))
 plan_given mtu p q frame before plan is auto fits g =
     let a = act.Offer q frame in
@@ -253,7 +253,7 @@ pub seeds_none : (p seed : ℕ) → Seeds p [] seed
 unfolding after_acts has_storm
 seeds_none p seed = record { none = λ e. refl; start = λ e. absurd (cc) }
 
--- one step of a loop over the acts
+-- One step of a loop over the acts.
 pub gathers_at : (w : World) (p i : ℕ) (a : Act) (plan : Plan) → IsWorld w → not_running w ≡ None → is_link w p ≡ true → i < length w.acts → a ≡ get_or w.acts i a → Gathers w.queue.mtu p (take i w.acts) plan → Gathers w.queue.mtu p (take i w.acts ++ a ∷ []) (gathered p plan a)
 gathers_at w p i a plan is running link inside at g = let found = slice_get_read w.acts (length w.acts) i a refl inside at in
     gathers_on w p (take i w.acts) (drop (i + 1) w.acts) a plan link (is.allowed i a found) (breaks_from w.acts [] (first_line w) i a running found) g
@@ -274,7 +274,7 @@ pub spans_at : (acts : List Act) (p i : ℕ) (a : Act) → i < length acts → a
 unfolding spans_of
 spans_at acts p i a inside at = sym (ap (λ l. spans_of l p) (taken_more acts i a inside at) ∙ (flat_map-append (span_in p) (take i acts) (a ∷ []) ∙ ap (λ l. spans_of (take i acts) p ++ l) (append-nil (span_in p a))))
 
--- a peer has a turn line just where it has a span
+-- A peer has a turn line just where it has a span.
 abbrev has_any : List ℕ → Bool
 has_any [] = false
 has_any (span ∷ spans) = true
@@ -306,7 +306,7 @@ some_turns acts p spans are some = has_span acts p ∙ (ap has_any (sym are) ∙
     filled [] some = absurd (clash (sym some))
     filled (span ∷ l) some = refl
 
--- How many turns a peer has: between each two of its turn lines stands a reset of it, which counts
+-- How many turns a peer has: between each two of its turn lines stands a reset of it, which counts.
 
 abbrev resets_in : ℕ → List Act → ℕ
 resets_in p [] = 0
@@ -316,7 +316,7 @@ turn_snoc : (acts : List Act) (a : Act) (p : ℕ) → has_turn (acts ++ a ∷ []
 unfolding has_turn
 turn_snoc acts a p = list_any-append (is_turn_of p) acts (a ∷ []) ∙ ap (λ b. has_turn acts p || b) (or_false (is_turn_of p a))
 
--- a turn line after all resets
+-- A turn line after all resets.
 turned_last : (acts : List Act) (a : Act) (p : ℕ) → is_turn_of p a ≡ true → is_reset_of p a ≡ false → is_reset_last (acts ++ a ∷ []) p ≡ false
 unfolding is_reset_last has_turn
 turned_last [] a p turns resets = ap (λ (b : Bool). (b && true) || false) resets
@@ -330,7 +330,7 @@ turned_last (b ∷ acts) a p turns resets = (λ i. (is_reset_of p b && not ((tur
 turn_is_last : (acts : List Act) (a : Act) (p : ℕ) → is_turn_of p a ≡ true → is_reset_of p a ≡ false → is_turn_last (acts ++ a ∷ []) p ≡ true
 turn_is_last acts a p turns resets = λ i. ((turn_snoc acts a p ∙ (ap (λ x. has_turn acts p || x) turns ∙ or_true (has_turn acts p))) i && not (turned_last acts a p turns resets i))
 
--- an act that is neither
+-- An act that is neither.
 still_last : (acts : List Act) (a : Act) (p : ℕ) → is_turn_of p a ≡ false → is_reset_of p a ≡ false → is_reset_last (acts ++ a ∷ []) p ≡ is_reset_last acts p
 unfolding is_reset_last has_turn
 still_last [] a p turns resets = ap (λ (b : Bool). (b && true) || false) resets
@@ -366,7 +366,7 @@ spans_few (act.Reset q ∷ acts) before line p none = let g = goes_on (breaks be
 spans_few (a ∷ acts) before line p none = let g = goes_on (breaks before a acts) line _ none in
     let rest = spans_few acts (before ++ a ∷ []) (line + 1) p g.1 in let same : one_if (is_turn_last (before ++ a ∷ []) p) ≡ one_if (is_turn_last before p) = ap one_if (last_stays before a p refl refl) in omega arith
 
--- what its spans count is counted by its acts
+-- The spans of a peer count the turns of its acts.
 span_cost : (p : ℕ) (a : Act) → sum (span_in p a) + one_if (is_reset_of p a) ≤ cost a
 span_cost p (act.Turn q steps) = elim (q == p) as (λ b. sum (if b then steps ∷ [] else []) + 0 ≤ steps) [ true ↦ omega arith | false ↦ omega arith ]
 span_cost p (act.Reset q) = let one = one_most (q == p) in omega arith
@@ -388,7 +388,7 @@ no_any : (f : Act → Bool) (acts : List Act) → ((k : ℕ) (a : Act) → slice
 no_any f [] none = refl
 no_any f (a ∷ acts) none = λ i. (none 0 a refl i || no_any f acts (λ k b at. none (suc k) b at) i)
 
--- no storm is one of an honest end, and no automatic peer is hostile
+-- No storm is one of an honest end, and no automatic peer is hostile.
 storm_of : (w : World) (p : ℕ) (before : List Act) (a : Act) → is_link w p ≡ true → IsAllowed w before a → is_storm p a ≡ false
 storm_of w p before (act.Storm q seed) link allowed = by_test (q == p)
     (λ is. absurd (apart p w.geometry.peers (slice_index_or w.honest p false) link (subst (λ k. is_hostile w k ≡ true) (eqb-true q p is) allowed.peer)))

@@ -23,7 +23,7 @@ use Rattle.peer_runner.specs.Drives.{starting, MayDrive, IsPlan, Did, RanIf, Ran
 pub plan_may : (world : World) (key : RunSetup) (me : ℕ) (plan : PeerPlan) → IsPlan world me plan → IsMadeFor world key → MayDrive key plan.peer plan.driver
 plan_may world key me plan is made = subst (λ p. MayDrive key p plan.driver) (sym is.peer) (is.driver.1 key made)
 
--- a peer that was driven
+-- A peer that was driven
 pub ran_one : (world : World) (key : RunSetup) (me : ℕ) (plan : PeerPlan) (list : List (Action (MemoryOp CallAccess))) (trace : OwnTrace) (traces : List OwnTrace) → IsPlan world me plan → traces ≡ trace ∷ [] →
     (did : Did key plan.routes.items plan.peer (starting plan.driver) plan.spans list) × IsTraceOf plan.peer (all_turns plan.spans) did.turns did.after (part_of trace) → RanOne world key me list traces
 ran_one world key me plan list trace traces is one did =
@@ -35,7 +35,7 @@ ran_one world key me plan list trace traces is one did =
 pub ran_none : (world : World) (key : RunSetup) (me : ℕ) (traces : List OwnTrace) → has_turn world.acts me ≡ false → traces ≡ [] → RanOne world key me [] traces
 ran_none world key me traces none empty = subst (λ (b : Bool). RanIf b world key me [] traces) (sym none) (refl, empty)
 
--- no peer, and one
+-- No peer, and one.
 pub range_none : (world : World) (key : RunSetup) (from : ℕ) (traces : List OwnTrace) → traces ≡ [] → RanAll world key from [] traces
 unfolding RanAll
 range_none world key from traces empty = empty
@@ -44,7 +44,7 @@ pub range_one : (world : World) (key : RunSetup) (from : ℕ) (list : List (Acti
 unfolding RanAll
 range_one world key from list traces ran = (traces, [], sym (append-nil traces), ran, refl)
 
--- the peers of two ranges of which one begins where the other ends
+-- The peers of two ranges of which one begins where the other ends.
 pub range_append : (world : World) (key : RunSetup) (from : ℕ) (lists more : List (List (Action (MemoryOp CallAccess)))) (traces others : List OwnTrace) → RanAll world key from lists traces → RanAll world key (from + length lists) more others → RanAll world key from (lists ++ more) (traces ++ others)
 unfolding RanAll
 range_append world key from [] more traces others none ran = let at : from + 0 ≡ from = omega arith in
@@ -57,11 +57,11 @@ range_append world key from (list ∷ lists) more traces others one ran = let at
   range_append world key (suc from) lists more one.1 others one.4 (subst (λ f. RanAll world key f more others) at ran),
 )
 
--- the pass of a range
+-- The pass of a range.
 pub range_pass : (h : PassView) (from : ℕ) (lists : List (List (Action (MemoryOp CallAccess)))) → h.from ≡ from → h.lists ≡ lists → h ≡ held h.table_id from lists
 range_pass h from lists one other = λ k. record { table_id = h.table_id; from = one k; lists = other k }
 
--- the two halves of a pass without actions
+-- The two halves of a pass without actions.
 take_same : {A : Type 0} (n m : ℕ) (a : A) → n ≤ m → take n (replicate m a) ≡ replicate n a
 take_same zero m a le = refl
 take_same (suc n) zero a le = absurd (omega arith)

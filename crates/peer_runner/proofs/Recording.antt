@@ -73,7 +73,7 @@ own_append world key made acc from list mine rest here ran all = by (has_turn wo
         subst (λ ts. AllByRecursion P (map part_of (ts ++ rest))) (sym r.1) (subst (λ l. IsOwnRecord world (shown l) (part_of t)) (sym spot) own, all)
     by false r = subst (λ ts. AllByRecursion P (map part_of (ts ++ rest))) (sym r.1) all
 
--- by the lists of a range of peers
+-- By the lists of a range of peers.
 own_each : (world : World) (key : RunSetup) → IsMadeFor world key → (acc : ℕ → List (Action (MemoryOp CallAccess))) (from : ℕ) (lists : List (List (Action (MemoryOp CallAccess)))) (traces : List OwnTrace) → ((k : ℕ) → k < length lists → acc (from + k) ≡ get_or lists k []) → RanAll world key from lists traces →
     AllByRecursion (λ (part : Part). IsOwnRecord world (shown (acc part.peer)) part) (map part_of traces)
 unfolding RanAll
@@ -103,7 +103,7 @@ peers_in world key from (list ∷ lists) traces ran = ap (λ ts. peers_of (map p
 pub peers_are : (world : World) (key : RunSetup) (lists : List (List (Action (MemoryOp CallAccess)))) (traces : List OwnTrace) (parts : List Part) → length lists ≡ world.geometry.peers → parts ≡ map part_of traces → RanAll world key 0 lists traces → peers_of parts ≡ running_peers world
 peers_are world key lists traces parts size is ran = ap peers_of is ∙ (peers_in world key 0 lists traces ran ∙ ap (λ n. filter (has_turn world.acts) (range_with_len 0 n)) size)
 
--- a peer that doesn't run has no access
+-- A peer that doesn't run has no access.
 idle_at : (world : World) (key : RunSetup) (from : ℕ) (lists : List (List (Action (MemoryOp CallAccess)))) (traces : List OwnTrace) (k : ℕ) → RanAll world key from lists traces → has_turn world.acts (from + k) ≡ false → get_or lists k [] ≡ []
 unfolding RanAll
 idle_at world key from [] traces k none off = refl
@@ -131,12 +131,12 @@ lines_here part p is = lines_one part p ∙ ap (λ (b : Bool). if b then part.li
 lines_beside : (part : Part) (p : ℕ) → part.peer ≢ p → lines_by (part ∷ []) p ≡ []
 lines_beside part p isnt = lines_one part p ∙ ap (λ (b : Bool). if b then part.lines else []) (ne_eqb part.peer p isnt)
 
--- what a list and the lines of its peer say of it, where it is honest
+-- What a list and the lines of its peer say of it, where it is honest.
 record Says (key : RunSetup) (p : ℕ) (list : List (Action (MemoryOp CallAccess))) (lines : List Line) : Type 0 where
   told : ReaderMatches (derived_state key p (accesses_in list)) (reader_of_lines (event_word (config_in key p)) lines)
   refused : NeverMarked key p (accesses_in list) → list_any refuses lines ≡ false
 
--- a peer without lines stands where it began
+-- A peer without lines stands where it began.
 nothing_told : (event : ℕ) → reader_of_lines event [] ≡ initial_reader
 unfolding reader_after_lines
 nothing_told event = refl
@@ -161,7 +161,7 @@ own_says world key p list mine true honest r = let t : OwnTrace = r.0 in let did
 own_says world key p list mine false honest r = let lines : lines_by (map part_of mine) p ≡ [] = ap (λ ts. lines_by (map part_of ts) p) r.1 ∙ lines_none p in
     subst (λ l. Says key p l (lines_by (map part_of mine) p)) (sym r.0) (subst (Says key p []) (sym lines) (says_none key p))
 
--- peers from one on have no lines of an earlier one
+-- Peers from one on have no lines of an earlier one.
 lines_past : (world : World) (key : RunSetup) (p from : ℕ) (lists : List (List (Action (MemoryOp CallAccess)))) (traces : List OwnTrace) → p < from → RanAll world key from lists traces → lines_by (map part_of traces) p ≡ []
 unfolding RanAll
 lines_past world key p from [] traces lt none = ap (λ ts. lines_by (map part_of ts) p) none ∙ lines_none p
@@ -189,14 +189,14 @@ both_honest key a b (suc (suc p)) lt = absurd (omega arith)
 says_of : (world : World) (key : RunSetup) (lists : List (List (Action (MemoryOp CallAccess)))) (traces : List OwnTrace) → 2 ≤ length lists → RanAll world key 0 lists traces → (p : ℕ) → p < 2 → honest_of key p ≡ true → Says key p (list_of lists p) (lines_by (map part_of traces) p)
 says_of world key lists traces two ran p p2 honest = let e : 0 + p ≡ p = omega arith in subst (λ q. Says key q (get_or lists p []) (lines_by (map part_of traces) q)) e (says_at world key 0 p lists traces (omega arith) (ap (honest_of key) e ∙ honest) ran)
 
--- the own event word by the scenario and by the key that was made for it
+-- The own event word by the scenario and by the key that was made for it.
 event_is : (world : World) (key : RunSetup) → IsMadeFor world key → (p : ℕ) → event_word (config_in key p) ≡ event_word (config_of world p)
 event_is world key made p = ap event_word (same_who world key p made)
 
 reader_matches_in : (world : World) (key : RunSetup) (parts : List Part) → IsMadeFor world key → (p : ℕ) (list : List (Action (MemoryOp CallAccess))) → Says key p list (lines_by parts p) → ReaderMatches (derived_state key p (accesses_in list)) (reader_of_part world parts p)
 reader_matches_in world key parts made p list says = subst (λ event. ReaderMatches (derived_state key p (accesses_in list)) (reader_of_lines event (lines_by parts p))) (event_is world key made p) says.told
 
--- what the lines record of two sides is what their lists leave
+-- What the lines record of two sides is what their lists leave.
 delivers_by : (one other : RecordReader) (s o : DerivedState) → ReaderMatches s one → ReaderMatches o other → DeliversInOrder (own_side s.end) (own_side o.end) s.numbers.log o.numbers.log → DeliversInOrder (side_in one) (side_in other) one.log other.log
 delivers_by one other s o mine theirs d = subst (λ (x : Side). DeliversInOrder x (side_in other) one.log other.log) (sym mine.side) (subst (λ (x : Side). DeliversInOrder (own_side s.end) x one.log other.log) (sym theirs.side)
     (subst (λ (l : Log). DeliversInOrder (own_side s.end) (own_side o.end) l other.log) (sym mine.log) (subst (λ (l : Log). DeliversInOrder (own_side s.end) (own_side o.end) s.numbers.log l) (sym theirs.log) d)))
@@ -216,14 +216,14 @@ wakes world key lists traces made two a b ran none p frame p2 asked =
     λ q q2. reader_matches_in world key (map part_of traces) made q (list_of lists q) (says_of world key lists traces two ran q q2 (both_honest key a b q q2)) in
     subst (λ l. ¬ Contains l frame) (sym (says (1 - p) (omega arith)).missed) (none p frame p2 (sym (says p p2).asked ∙ asked))
 
--- beside a hostile peer
+-- Beside a hostile peer.
 carries : (world : World) (key : RunSetup) (lists : List (List (Action (MemoryOp CallAccess)))) (traces : List OwnTrace) → IsMadeFor world key → 2 ≤ length lists → RanAll world key 0 lists traces → AllIsLearned key (list_of lists) → CarryNone world (map part_of traces)
 carries world key lists traces made two ran told p p2 one other = let honest = made.honest p ∙ one in
     subst (λ (l : Log). CarriesNone l) (sym (reader_matches_in world key (map part_of traces) made p _ (says_of world key lists traces two ran p p2 honest)).log) (told.neighbour_word p p2 honest (made.honest (1 - p) ∙ other))
 
 -- Interrupts that came
 
--- what a list and the lines of its peer say of them
+-- What a list and the lines of its peer say of them.
 record Hears (list : List (Action (MemoryOp CallAccess))) (lines : List Line) : Type 0 where
   each : (v : ℕ) → how_many (is_interrupt_by v) lines ≤ weigh (finds v) list
   all : how_many is_interrupt lines ≤ tally 64 (λ v. weigh (finds v) list)
@@ -263,7 +263,7 @@ hears_at world key from (suc k) (list ∷ lists) traces lt ran = let e : suc fro
     subst (Hears (get_or lists k [])) (sym (ap (λ ts. lines_by (map part_of ts) p) ran.2 ∙ (ap (λ ps. lines_by ps p) (map-append part_of ran.0 ran.1) ∙ (lines_both (map part_of ran.0) (map part_of ran.1) p
     ∙ ap (λ l. l ++ lines_by (map part_of ran.1) p) (one_lines world key p from list ran.0 (has_turn world.acts from) ran.3 (λ e. omega arith)))))) rest
 
--- the rings of a list are at most the doorbells of its lines
+-- The rings of a list are at most the doorbells of its lines.
 own_bells : (world : World) (key : RunSetup) (p target v : ℕ) (list : List (Action (MemoryOp CallAccess))) (mine : List OwnTrace) (b : Bool) → target < world.geometry.peers → RanIf b world key p list mine →
     weigh (rings target v) list ≤ bells_in (is_intx world.wiring) target v (map part_of mine)
 own_bells world key p target v list mine true lt r = let t : OwnTrace = r.0 in let tells = own_tells world key p list mine r in
@@ -299,7 +299,7 @@ are_heard world key lists traces made size ran rung = record {
     hears : (p : ℕ) → p < world.geometry.peers → Hears (list_of lists p) (lines_by (map part_of traces) p)
     hears p lt = let e : 0 + p ≡ p = omega arith in subst (λ q. Hears (list_of lists p) (lines_by (map part_of traces) q)) e (hears_at world key 0 p lists traces (omega arith) ran)
 
--- the whole run
+-- The whole run.
 pub is_run : (world : World) (key : RunSetup) (h : PassView) (lists : List (List (Action (MemoryOp CallAccess)))) (traces : List OwnTrace) (parts : List Part) → IsMadeFor world key → 2 ≤ length lists → length lists ≡ world.geometry.peers → h.lists ≡ lists → parts ≡ map part_of traces →
     RanAll world key 0 lists traces → AllIsLearned key (list_of lists) → IsRunOf world h parts
 is_run world key h lists traces parts made two size here is ran told = record {
@@ -313,7 +313,7 @@ is_run world key h lists traces parts made two size here is ran told = record {
   woken = λ ev one other. let a = made.honest 0 ∙ one in let b = made.honest 1 ∙ other in subst (AreWoken world) (sym is) (wakes world key lists traces made two a b ran (told.woken (ap has_events made.queue ∙ ev) a b));
 }
 
--- the lists of the pass at the end
+-- The lists of the pass at the end.
 pub whole_lists : (id : TableId) (old rest low all : PassView) (lists : List (List (Action (MemoryOp CallAccess)))) → old.from ≡ 0 → rest ≡ lower_pass 0 old → low ≡ held id 0 lists → all ≡ join_passes rest low → all.lists ≡ lists
 whole_lists id old rest low all lists from rest_is low_is is =
     ap (λ (h : PassView). h.lists) is ∙ ((λ i. (rest_is i).lists ++ (low_is i).lists) ∙ (let z : 0 - old.from ≡ 0 = omega arith in ap (λ k. take k old.lists ++ lists) z))

@@ -28,7 +28,7 @@ abbrev refused_on : Mark → Bool
 refused_on (mark.Refuse refused) = true
 refused_on _ = false
 
--- an end that isn't marked after these marks wasn't before, and they have no refusal
+-- An end that isn't marked after these marks wasn't before, and they have no refusal.
 marks_clear : (end : End) (marks : List Mark) → (with_marks end marks).handshake.mark ≡ false → (end.handshake.mark ≡ false) × (list_any refused_on marks ≡ false)
 marks_clear end [] is = (is, refl)
 marks_clear end (mark.Refuse refused ∷ marks) is = let h : true ≡ false = (marks_clear (with_mark end (mark.Refuse refused)) marks is).0 in absurd (clash (sym h))
@@ -88,7 +88,7 @@ step_clear config storm quiet (Storms x) peer after step turn is = ap (λ (s : S
 step_clear config storm quiet Waits peer after step turn is = (marks_clear (with_access (opened config peer).end step.access) step.marks (ap (λ (q : Peer). q.end.handshake.mark) (sym turn.2) ∙ is)).1
 step_clear config storm quiet (Chooses auto) peer after step turn is = (marks_clear (with_access (opened config peer).end step.access) step.marks (ap (λ (q : Peer). q.end.handshake.mark) (sym turn.2) ∙ is)).1
 
--- a turn that leaves no mark records no refusal
+-- A turn that leaves no mark records no refusal.
 turn_clear : (config : EndConfig) (storm : ℕ → Step) → ((x : ℕ) → (storm x).marks ≡ []) → (routes : List Route) (p : ℕ) (turn : Turn) (run after : Running) → TakesTurn config storm routes run turn after → IsClear after.peer → list_any refuses (lines_in p turn) ≡ false
 turn_clear config storm quiet routes p (Looks found) run after took is = heard_refuses 64 p found
 turn_clear config storm quiet routes p (Makes first step) run after took is = step_refuses p first step (step_clear config storm quiet run.peer.driver run.peer took.1.0 step took.1.1.takes (subst (λ (r : Running). IsClear r.peer) took.1.4 is))
@@ -109,12 +109,12 @@ turn_clear config storm quiet routes p (Enters step opened other) run after took
     ∙ (λ i. (access_refuses p step.access step.value i || (refused_lines p step.marks ∙ step_clear config storm quiet run.peer.driver run.peer next.0 step next.1.step_is.takes (subst (λ (r : Running). IsClear r.peer) next.2 is)) i))
 turn_clear config storm quiet routes p Restarts run after took is = refl
 
--- the lines before any turn record no refusal
+-- The lines before any turn record no refusal.
 pub none_refused : (key : RunSetup) (p : ℕ) (list : List (MemoryOp CallAccess)) → NeverMarked key p list → list_any refuses (lines_of_turns p []) ≡ false
 unfolding lines_of_turns
 none_refused key p list never = refl
 
--- one turn more, which did this besides
+-- One turn more, which did this besides.
 pub refused_more : (key : RunSetup) (config : EndConfig) (storm : ℕ → Step) → ((x : ℕ) → (storm x).marks ≡ []) → (routes : List Route) (p : ℕ) (turns : List Turn) (turn : Turn) (run after : Running) (list next deeds : List (MemoryOp CallAccess)) → next ≡ list ++ deeds →
     TakesTurn config storm routes run turn after → (derived_state key p next).end ≡ after.peer.end → (NeverMarked key p list → list_any refuses (lines_of_turns p turns) ≡ false) →
     NeverMarked key p next → list_any refuses (lines_of_turns p (turns ++ turn ∷ [])) ≡ false
@@ -125,4 +125,4 @@ refused_more key config storm quiet routes p turns turn run after list next deed
     ap (list_any refuses) (flat_map-append (lines_in p) turns (turn ∷ [])) ∙ (list_any-append refuses (lines_of_turns p turns) (lines_in p turn ++ [])
     ∙ (λ i. (before i || (ap (list_any refuses) (append-nil (lines_in p turn)) ∙ here) i)))
 
--- The marks along every list that was made
+-- The marks along every list that was made.

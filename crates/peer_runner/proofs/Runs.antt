@@ -88,7 +88,7 @@ pub told_snoc : (me : ℕ) (turns : List Turn) (turn : Turn) → lines_of_turns 
 unfolding lines_of_turns
 told_snoc me turns turn = flat_map-append (lines_in me) turns (turn ∷ []) ∙ ap (λ l. flat_map (lines_in me) turns ++ l) (append-nil (lines_in me turn))
 
--- Lines of a peer are its own
+-- Lines of a peer are its own.
 
 pub all_append : (f : Line → Bool) (xs ys : List Line) → list_all f xs ≡ true → list_all f ys ≡ true → list_all f (xs ++ ys) ≡ true
 all_append f [] ys one other = other
@@ -141,7 +141,7 @@ marks_own : (me : ℕ) (marks : List Mark) → HaveFrames (map (mark_line me) ma
 marks_own me [] has = refl
 marks_own me (m ∷ marks) has = mark_then me m (map (mark_line me) marks) (has_frame (mark_line me m)) refl has (marks_own me marks)
 
--- the bits that a look found
+-- The bits that a look found.
 interrupt_own : (me bit found : ℕ) → AreOwn me (interrupt_line me bit found)
 interrupt_own me bit found = elim (bit_at found bit == 0) as (λ b. AreOwn me (if b then [] else line.Interrupt me bit ∷ [])) [ true ↦ refl | false ↦ mine_and me true refl ]
 
@@ -161,7 +161,7 @@ made_own me first step has = go (is_quiet first step.access step.marks)
     go true = refl
     go false = all_append (is_own me) (access_lines me step.access step.value) (map (mark_line me) step.marks) (access_own me step.access step.value) (marks_own me step.marks has)
 
--- a State step with 3 records its session too
+-- A State step with 3 records its session too.
 entered_own : (me : ℕ) (first : Bool) (opened other : ℕ) (step : Step) (b : Bool) → HaveFrames (map (mark_line me) step.marks) → AreOwn me (lines_in me (if b then Enters step opened other else Makes first step))
 entered_own me first opened other step true has = all_append (is_own me) (access_lines me step.access step.value) (line.Session me opened other ∷ map (mark_line me) step.marks) (access_own me step.access step.value)
     (mine_and me (list_all (is_own me) (map (mark_line me) step.marks)) (marks_own me step.marks has))
@@ -194,9 +194,9 @@ met_own me number Others = refl
 pub restart_own : (me : ℕ) → AreOwn me (lines_in me Restarts)
 restart_own me = mine_and me true refl
 
--- A turn of the runner is a turn of its peer
+-- A turn of the runner is a turn of its peer.
 
--- a call goes on at an open place, and so it hasn't ended there
+-- A call goes on at an open place, and so it hasn't ended there.
 goes_on : (tree new : CallTree) (step : Step) (config : EndConfig) (peer : Peer) → Goes tree step new → (opened_by config peer tree [] ≡ peer) × (has_ended tree ≡ false)
 goes_on Ended new step config peer goes = absurd goes
 goes_on (Does a marks rest) new step config peer goes = (refl, refl)
@@ -211,7 +211,7 @@ first_open config end calls.Poll = elim (calls.in_run end.handshake.phase) as (�
 abbrev peer_at : End → CallTree → Auto → Peer
 peer_at end left auto = record { end = end; left = left; waiting = []; driver = Chooses auto }
 
--- the call of a choice is opened
+-- The call of a choice is opened.
 with_is : PlacesFollowTrees → (config : EndConfig) (end : End) (auto : Auto) (c : automatic.Choice) → is_end c ≡ false →
     (with_choice config (peer_at end Ended auto) auto c ≡ peer_at end (remaining config (place_for config end Closed (call_chosen (Some c)))) (round_on auto (Some c))) × (is_open (place_for config end Closed (call_chosen (Some c))) ≡ true)
 with_is follow config end auto automatic.ChoosesTick goes = (ap (λ t. peer_at end t (round_on auto (Some automatic.ChoosesTick))) (sym (follow.begins config end calls.Tick)), refl)
@@ -222,7 +222,7 @@ with_is follow config end auto automatic.IsFinished goes = absurd (cc)
 choice_in : Runner → automatic.Choice
 choice_in r = choice_of r.end.handshake.phase r.auto.round r.auto.frames r.auto.delivered r.auto.expected
 
--- the call of the turn is open
+-- The call of the turn is open.
 pub turn_opens : PlacesFollowTrees → (config : EndConfig) (r : Runner) → has_finished r ≡ false →
     (opened config (peer_of config r) ≡ peer_at r.end (remaining config (place_in config r)) (round_on r.auto (chosen r))) × (is_open (place_in config r) ≡ true)
 unfolding choice_in
@@ -249,7 +249,7 @@ step_takes follow routes config storm r done goes = let value = value_done done 
   ap (λ (x : Peer). stepped x (step_at config place value) left) (sym opens.0),
 )
 
--- no call is open of the own record where none is
+-- No call is open of the own record where none is.
 first_place_is : PlacesFollowTrees → (config : EndConfig) (r : Runner) → has_ended (remaining config r.place) ≡ is_first r
 first_place_is follow config r = by (is_open r.place) refl
   where
@@ -257,7 +257,7 @@ first_place_is follow config r = by (is_open r.place) refl
     by true is = (goes_on (remaining config r.place) _ _ config (peer_of config r) (follow.comes config r.place 0 is)).1 ∙ sym (ap not is)
     by false is = ap (λ (p : Place). has_ended (remaining config p)) (shut r.place is) ∙ sym (ap not is)
 
--- a look comes next where the code says so
+-- A look comes next where the code says so.
 due_tree : (config : EndConfig) (end : End) (tree : CallTree) (auto : Auto) → looks_due config end tree (Chooses auto) ≡ (if has_ended tree then (if sleeps config end auto then 64 else 1) else 0)
 due_tree config end Ended auto = refl
 due_tree config end (Does a marks rest) auto = refl
@@ -274,7 +274,7 @@ due_place follow config r = due_tree config r.end (remaining config r.place) r.a
 pub looks_same : PlacesFollowTrees → (config : EndConfig) (own : Route) (r : Runner) → looks_next config own (running_of config r) ≡ looks_now own (due_of config r) r.looks
 looks_same follow config own r = ap (λ (n : ℕ). own.enabled && is_below r.looks n) (due_place follow config r)
 
--- a step opens a session where the numbers say so
+-- A step opens a session where the numbers say so.
 opened_on : (n : Numbers) (end : End) (a : Access) → (numbers_after n end a).log.opened ≡ n.log.opened + opens a
 opened_on n end (access.Read word) = omega arith
 opened_on n end (access.Write word value) = omega arith
@@ -308,7 +308,7 @@ cleared_same routes config r found = by (is_set found)
     by true = refl
     by false = steps_same routes config r (Cleared found)
 
--- what a State step sets
+-- What a State step sets.
 sets_is : (state : ℕ) (auto : Auto) (a : Access) → sets state (Chooses auto) a ≡ true → a ≡ access.State state
 sets_is state auto (access.Read word) is = absurd (clash is)
 sets_is state auto (access.Write word value) is = absurd (clash is)
@@ -332,8 +332,8 @@ steps_to follow routes config storm r done ringing guarded now goes rings guards
   takes = step_takes follow routes config storm r done goes;
 }
 
--- a step that is no doorbell at a peer in one-shot mode: the State step with 3, which bears its
--- numbers, or another
+-- A step that is no doorbell at a peer in one-shot mode: the State step with 3, which bears its
+-- numbers, or another.
 step_takes_turn : PlacesFollowTrees → (routes : List Route) (config : EndConfig) (storm : ℕ → Step) (r : Runner) (value : ℕ) → IsNoLook config routes r → has_finished r ≡ false → r.ringing ≡ false →
     is_guarded (doorbell_path_in routes (access_at config (place_in config r))) ≡ false → IsEntering config r value ⊎ IsMaking config r value → TakesTurn config storm routes (running_of config r) (turn_on config r (Stepped value)) (running_of config (stepped_on routes config r (Stepped value)))
 step_takes_turn follow routes config storm r value now goes rings guards (inl e) = let step = step_of_turn config r (Stepped value) in let next = peer_of config (stepped_on routes config r (Stepped value)) in
@@ -371,14 +371,14 @@ turn_takes follow routes config storm r (Cleared found) met due now goes is =
 turn_takes follow routes config storm r Rung met due now goes is =
     (now.left, (peer_of config (stepped_on routes config r Rung), steps_to follow routes config storm r Rung true true now goes is.0 is.1, steps_same routes config r Rung))
 
--- A turn at a session word: the State step with 2 or with 3 comes next
+-- A turn at a session word: the State step with 2 or with 3 comes next.
 
--- an open call goes on
+-- An open call goes on.
 pub goes_open : (r : Runner) → is_open r.place ≡ true → (has_finished r ≡ false) × (chosen r ≡ None)
 unfolding choice_in
 goes_open r is = let none : chosen r ≡ None = ap (λ (b : Bool). if b then None else Some (choice_in r)) is in (ap finishes none, none)
 
--- no ring is to come there
+-- No ring is to come there.
 still_set : (key : RunSetup) (me : ℕ) (routes : List Route) (r : Runner) (end : Engine) (state : ℕ) → RunnerRefines key me routes r end → r.place ≡ WritingState state → r.ringing ≡ false
 still_set key me routes r end state refines place = by r.ringing refl
   where
@@ -429,7 +429,7 @@ restarts_same config r = λ i. record {
   spans = later r.spans;
 }
 
--- What a turn does to the words
+-- What a turn does to the words.
 
 rung_shown : (doorbell_path : DoorbellPath) (target : ℕ) → shown (rung_by doorbell_path target) ≡ rung_by doorbell_path target
 rung_shown Silent target = refl
@@ -485,7 +485,7 @@ actions_on routes list turns call first opened met a done marks made = shown_on 
 
 -- How many turns are left
 
--- a turn of the span is one of all, and so is a reset
+-- A turn of the span is one of all, and so is a reset.
 pub all_spent : (spans : List ℕ) → has_turn_left spans ≡ true → all_turns spans ≡ all_turns (spent spans) + 1
 all_spent [] left = absurd (clash left)
 all_spent (zero ∷ spans) left = absurd (clash left)
@@ -497,7 +497,7 @@ all_later (zero ∷ []) is = absurd is
 all_later (zero ∷ next ∷ spans) is = let all = sum_by-cons (λ (x : ℕ). x) zero (next ∷ spans) in omega arith
 all_later (suc n ∷ spans) is = absurd is
 
--- a step opens one session at most
+-- A step opens one session at most.
 opens_one : (a : Access) → opens a ≤ 1
 opens_one (access.Read word) = omega arith
 opens_one (access.Write word value) = omega arith
@@ -505,9 +505,9 @@ opens_one (access.State state) = elim (state == 2) as (λ b. (if b then 1 else 0
 opens_one (access.Ring target vector) = omega arith
 opens_one access.Nothing = omega arith
 
--- What holds of the turns so far
+-- What holds of the turns so far.
 
--- how the runner goes in a turn: its actions and its turns, and what is left
+-- How the runner goes in a turn: its actions and its turns, and what is left.
 record TurnsTo (key : RunSetup) (me : ℕ) (routes : List Route) (r next : Runner) : Type 0 where
   acts : List (Action (MemoryOp CallAccess))
   turn : Turn
@@ -543,7 +543,7 @@ far_on key me routes plan spans r next g far = let config = config_in key me in 
   told = subst (λ ls. Told next (reader_of_lines (event_word (config_in key me)) ls)) (sym lines) (subst (Told next) (sym (tells_both (event_word (config_in key me)) initial_reader (lines_of_turns me r.turns) (lines_in me g.turn))) g.tells);
 }
 
--- whether the step is held or goes on
+-- Whether the step is held or goes on.
 by_hold : (routes : List Route) (config : EndConfig) (r : Runner) (done : Done) (P : Runner → Type 0) → P (held_on routes config r done) → P (stepped_on routes config r done) → P (turned routes config r done)
 by_hold routes config r done P held on = elim (awaits_ring done) as (λ b. P (if b then held_on routes config r done else stepped_on routes config r done)) [ true ↦ held | false ↦ on ]
 
@@ -560,7 +560,7 @@ turned_opens : (routes : List Route) (config : EndConfig) (r : Runner) (done : D
 turned_opens routes config r done = by_hold routes config r done (λ next. next.numbers.log.opened ≤ r.numbers.log.opened + 1) (omega arith)
     (let is = opened_on r.numbers r.end (access_at config (place_in config r)) in let most = opens_one (access_at config (place_in config r)) in omega arith)
 
--- each turn goes so
+-- Each turn goes so.
 goes_so : PlacesFollowTrees → (key : RunSetup) (me : ℕ) (routes : List Route) (r next : Runner) (end : Engine) → RunnerRefines key me routes r end → Told r (reader_of_lines (event_word (config_in key me)) (lines_of_turns me r.turns)) → GoesOn (config_in key me) routes r next → TurnsTo key me routes r next
 goes_so follow key me routes r next end refines told (by_look found left now) = let config = config_in key me in record {
   acts = looked found ∷ [];
@@ -603,7 +603,7 @@ goes_so follow key me routes r next end refines told (by_reset over goes) = let 
   takes = (over, sym (finished_same follow config r) ∙ goes, restarts_same config r);
 }
 
--- wherever the runner comes
+-- Wherever the runner comes.
 pub far_of : PlacesFollowTrees → (key : RunSetup) (me : ℕ) (routes : List Route) (plan : Plan) (spans : List ℕ) (r : Runner) → Trajectory key me routes plan spans r → Far key me routes plan spans r
 far_of follow key me routes plan spans r starts = far_first key me routes plan spans
 far_of follow key me routes plan spans r (follows before next end comes refines on) = let far = far_of follow key me routes plan spans before comes in
@@ -611,7 +611,7 @@ far_of follow key me routes plan spans r (follows before next end comes refines 
 
 -- How many turns are taken
 
--- they are as many as all turns but those that are left, and one at least for each session
+-- They are as many as all turns but those that are left, and one at least for each session.
 pub record IsCounted (spans : List ℕ) (r : Runner) : Type 0 where
   pub count : length r.turns + all_turns r.spans ≡ all_turns spans
   pub opened : r.numbers.log.opened ≤ length r.turns
@@ -649,11 +649,11 @@ ends_where None frames (Some c) is = absurd is
 ends_where (Some answer) frames None is = absurd is
 ends_where (Some answer) frames (Some c) is = ends_choice answer frames c is
 
--- a call is open once the call chosen is opened, where the runner isn't finished
+-- A call is open once the call chosen is opened, where the runner isn't finished.
 pub opened_busy : (answer : Option Choice) (r : Runner) (frames : List (List ℕ)) (end : Engine) → Matches answer frames (chosen r) → has_finished r ≡ false → is_busy end ≡ not (is_end_choice answer) → is_busy end ≡ true
 opened_busy answer r frames end matches goes opens = opens ∙ ap not (sym (ends_where answer frames (chosen r) matches) ∙ goes)
 
--- at the start
+-- At the start.
 pub there_first : (key : RunSetup) (me : ℕ) (routes : List Route) (pass : PassView) (plan : Plan) (spans : List ℕ) (end : Engine) → pass.from ≡ me → pass.lists ≡ [] ∷ [] → MayBeAuto key me plan end →
     IsThere key me routes (initial_runner plan.frames plan.expected spans) pass end
 there_first key me routes pass plan spans end from lists may = record {
@@ -680,7 +680,7 @@ plan_first plan is = record {
 pub lent : (h : PassView) (me : ℕ) (l : List (Action (MemoryOp CallAccess))) → h.from ≡ me → h.lists ≡ l ∷ [] → h ≡ held h.table_id me (l ∷ [])
 lent h me l from lists = λ k. record { table_id = h.table_id; from = from k; lists = lists k }
 
--- if no memory operation left the peer with the mark of a refusal, its lines record no refusal
+-- If no memory operation left the peer with the mark of a refusal, its lines record no refusal.
 pub refused_of : PlacesFollowTrees → (key : RunSetup) (me : ℕ) (routes : List Route) (plan : Plan) (spans : List ℕ) (r : Runner) (end : Engine) → Trajectory key me routes plan spans r → RunnerRefines key me routes r end →
     NeverMarked key me (accesses_in r.actions) → list_any refuses (lines_of_turns me r.turns) ≡ false
 refused_of follow key me routes plan spans r end starts refines = none_refused key me _
@@ -703,7 +703,7 @@ did key me routes plan spans r end far refines refused = record {
   };
 }
 
--- an error says nothing of an answer
+-- An error says nothing of an answer.
 pub err_free : {A : Type 0} → (P : A → Type 0) (r : Result A NoMemory) → IsErr r → IfOk r P
 err_free P (Ok x) is = absurd (cc)
 err_free P (Err e) is = tt

@@ -23,12 +23,12 @@ use Rattle.shared_words.proofs.Besides.{hostile_none}
 use Rattle.shared_words.proofs.Keys.{is_ground, honest_below}
 use Rattle.shared_words.proofs.Happening.{made_in}
 
--- The word of an honest end, whatever the other stores
+-- The word of an honest end, whatever the other stores.
 
 abbrev HasWord : DerivedState → ℕ → Type 0
 HasWord s word = WordIs s.end s.numbers word
 
--- one end that comes to stand otherwise
+-- One end that comes to stand otherwise.
 word_on : (st next : ℕ → DerivedState) (words now : ℕ → ℕ) (p : ℕ) (s : DerivedState) (q : ℕ) → OnlyComes st next p s → (p ≡ q → HasWord s (now p)) → (now q ≡ words q ⊎ (q ≡ p)) → HasWord (st q) (words q) → HasWord (next q) (now q)
 word_on st next words now p s q only new same was = dite (ℕ_discrete q p)
     (λ e. subst (λ (x : DerivedState). HasWord x (now q)) (sym (ap next e ∙ only.here)) (subst (λ x. HasWord s (now x)) (sym e) (new (sym e))))
@@ -53,7 +53,7 @@ module _ (link_config : LinkConfig) (is : IsLinkConfig link_config) (honest : �
   word_at memory words next (reaches.loads _ _ st _ p k p2 hp at only) q q2 hq = let was = word_at memory words st k in word_on st next words words p _ q only (λ e. was p p2 hp) (inl refl) (was q q2 hq)
   word_at after words st (reaches.others memory _ _ _ k untouched) q q2 hq = word_at memory words st k q q2 hq
 
--- in READY and RUN none is stored that wasn't opened
+-- In READY and RUN none is stored that wasn't opened.
 opened_at : (s : DerivedState) (word : ℕ) → HasWord s word → InSession s.end.handshake.phase → word ≡ s.numbers.log.opened
 opened_at s word w open' = ⊎_elim (λ h. h.1) (λ h. let low = h.2 in ⊎_elim (λ e. let two = ap state_of e in absurd (omega arith)) (λ e. let three = ap state_of e in absurd (omega arith)) open') w
 

@@ -38,7 +38,7 @@ use Rattle.shared_words.proofs.Keys.{clash}
 use Rattle.peer_runner.proofs.Turning.{made_held, done_one}
 use Rattle.peer_runner.proofs.Runs.{takes_none, takes_snoc, actions_none, actions_on, shown_on, told_none, told_snoc, all_append, turn_own, restart_own, all_spent, all_later, err_free}
 
--- a step that was drawn records its access and nothing else, and its ring adds no line
+-- A step that was drawn records its access and nothing else, and its ring adds no line.
 plain_lines : (p : ℕ) (a : Access) → lines_of p true a 0 [] ≡ access_lines p a 0
 plain_lines p (access.Read word) = refl
 plain_lines p (access.Write word written) = refl
@@ -65,7 +65,7 @@ drawn_told p step a done is = sym (ap (λ (s : Step). lines_in p (turn_of true 0
 pub drawn_access : (step : Step) (a : Access) → step ≡ step_of a 0 [] → step.access ≡ a
 drawn_access step a is = ap (λ (s : Step). s.access) is
 
--- the storm after a turn
+-- The storm after a turn.
 pub storm_after_turn : (storm ahead new : Storm) (done : Done) → ahead ≡ record storm { at = storm_after storm.at } → new ≡ (if awaits_ring done then storm else ahead) → new ≡ record storm { at = storm_on storm.at done }
 storm_after_turn storm ahead new done gone is = is ∙ by (awaits_ring done)
   where
@@ -78,11 +78,11 @@ storm_after_turn storm ahead new done gone is = is ∙ by (awaits_ring done)
 abbrev pub blowing : (x : ℕ) (ringing : Bool) (opened : ℕ) (spans : List ℕ) → Running
 blowing x ringing opened spans = record { peer = storming x; looks = Some 0; ringing = ringing; opened = opened; met = None; spans = spans }
 
--- no look comes before a step of it
+-- No look comes before a step of it.
 quiet_first : (config : EndConfig) (own : Route) (x : ℕ) (ringing : Bool) (opened : ℕ) (spans : List ℕ) → looks_next config own (blowing x ringing opened spans) ≡ false
 quiet_first config own x ringing opened spans = elim own.enabled as (λ b. (b && is_below (Some 0) 0) ≡ false) [ true ↦ refl | false ↦ refl ]
 
--- how many sessions its State steps opened
+-- How many sessions its State steps opened.
 opened_done : (opened : ℕ) (a : Access) → Done → ℕ
 opened_done opened a done = if awaits_ring done then opened else opened + opens a
 
@@ -101,7 +101,7 @@ storm_takes key routes p x ringing opened spans (Cleared found) left is =
 storm_takes key routes p x ringing opened spans Rung left is =
     (left, (storming (storm_after x), record { first = quiet_first (config_in key p) (route_to routes p) x ringing opened spans; rings = is.0; guards = is.1; takes = (refl, refl) }, refl))
 
--- a reset drops the ring that is to come, and the storm goes on with its next step
+-- A reset drops the ring that is to come, and the storm goes on with its next step.
 abbrev pub storm_cut : (ringing : Bool) → ℕ → ℕ
 storm_cut ringing x = if ringing then storm_after x else x
 
@@ -109,7 +109,7 @@ restart_blows : (x : ℕ) (ringing : Bool) (opened : ℕ) (spans : List ℕ) →
 restart_blows x true opened spans = refl
 restart_blows x false opened spans = refl
 
--- what holds of the turns so far, from the seed on
+-- What holds of the turns so far, from the seed on.
 pub record Blown (key : RunSetup) (routes : List Route) (p seed : ℕ) (spans : List ℕ) (at : ℕ) (ringing : Bool) (left : List ℕ) (list : List (Action (MemoryOp CallAccess))) (turns : List Turn) : Type 0 where
   pub opened : ℕ
   pub takes : TakesTurns (config_in key p) (storm_in key p) routes (comes_to (storming seed) spans) turns (blowing at ringing opened left)
@@ -161,7 +161,7 @@ blown_cut key routes p seed spans at ringing left list turns over b = record {
 
 -- The code's storm
 
--- the pass after a turn
+-- The pass after a turn.
 blown_pass : (key : RunSetup) (routes : List Route) (p q at : ℕ) (done : Done) (id : TableId) (old new : PassView) (list : List (Action (MemoryOp CallAccess))) → q ≡ p → new ≡ made old (done_of routes None (storm_in key q at).access done) → old ≡ held id p (list ∷ []) →
     new ≡ held id p ((list ++ done_of routes None (storm_in key p at).access done) ∷ [])
 blown_pass key routes p q at done id old new list same is was = let acts = done_of routes None (storm_in key p at).access done in
@@ -170,7 +170,7 @@ blown_pass key routes p q at done id old new list same is was = let acts = done_
 blown_storm : (first old new : Storm) (at : ℕ) → new ≡ record old { at = at } → old ≡ record first { at = old.at } → new ≡ record first { at = new.at }
 blown_storm first old new at is was = is ∙ (ap (λ (s : Storm). record s { at = at }) was ∙ ap (λ x. record first { at = x }) (sym (ap (λ (s : Storm). s.at) is)))
 
--- the storm that is driven, with its turns and lines; and this holds of the spans that are left
+-- The storm that is driven, with its turns and lines; and this holds of the spans that are left.
 pub record StormAt (id : TableId) (key : RunSetup) (routes : List Route) (first : Storm) (spans : List ℕ) (P : List ℕ → Type 0) (pass : PassView) (storm : Storm) (ringing : Bool) (turns : ℕ) (lines : List Line) : Type 0 where
   pub list : List (Action (MemoryOp CallAccess))
   pub taken : List Turn
@@ -255,7 +255,7 @@ module _ (id : TableId) (key : RunSetup) (routes : List Route) (first : Storm) (
     told = e ∙ at.told;
   }
 
-  -- what a turn asks
+  -- What a turn asks.
   pub storm_seated : (P : List ℕ → Type 0) (words : TableId) (start pass : PassView) (storm : Storm) (ringing : Bool) (turns : ℕ) (lines : List Line) → IsOf words key start → start.table_id ≡ id → start.from ≡ first.peer → start.lists ≡ [] ∷ [] → StormAt id key routes first spans P pass storm ringing turns lines →
       IsOf words key pass × (pass.from ≡ storm.peer) × (0 < length pass.lists)
   storm_seated P words start pass storm ringing turns lines of same from lists at = (
@@ -270,16 +270,16 @@ module _ (id : TableId) (key : RunSetup) (routes : List Route) (first : Storm) (
   pub storm_hostile : (P : List ℕ → Type 0) (pass : PassView) (storm : Storm) (ringing : Bool) (turns : ℕ) (lines : List Line) → honest_of key first.peer ≡ false → StormAt id key routes first spans P pass storm ringing turns lines → honest_of key storm.peer ≡ false
   storm_hostile P pass storm ringing turns lines is at = ap (honest_of key) (ap (λ (s : Storm). s.peer) at.storm_is) ∙ is
 
-  -- a ring that is to come may be made by the pass
+  -- A ring that is to come may be made by the pass.
   pub storm_rings : (P : List ℕ → Type 0) (pass : PassView) (storm : Storm) (ringing : Bool) (turns : ℕ) (lines : List Line) → StormAt id key routes first spans P pass storm ringing turns lines → ringing ≡ true → MayRingBy routes (storm_in key storm.peer storm.at).access (front pass.lists)
   storm_rings P pass storm ringing turns lines at is = subst (λ k. MayRingBy routes (storm_in key k storm.at).access (front pass.lists)) (sym (ap (λ (s : Storm). s.peer) at.storm_is))
       (subst (λ (h : PassView). MayRingBy routes (storm_in key first.peer storm.at).access (front h.lists)) (sym at.pass_is) (at.blown.rings is))
 
-  -- its turns are few
+  -- Its turns are few.
   pub storm_few : (P : List ℕ → Type 0) (pass : PassView) (storm : Storm) (ringing : Bool) (turns : ℕ) (lines : List Line) → StormAt id key routes first spans P pass storm ringing turns lines → turns ≤ all_turns spans
   storm_few P pass storm ringing turns lines at = let count = at.blown.count in let is = at.turns_are in omega arith
 
-  -- a step
+  -- A step
   pub storm_steps : (k n : ℕ) (pass pass' : PassView) (storm storm' : Storm) (ringing ringing' : Bool) (turns : ℕ) (lines : List Line) (done : Done) (at : StormAt id key routes first spans (LeftIn spans k n) pass storm ringing turns lines) → n < slice_index spans k →
       IsDone ringing (is_guarded (doorbell_path_in routes (storm_in key storm.peer storm.at).access)) done → value_done done ≡ 0 → pass' ≡ made pass (done_of routes None (storm_in key storm.peer storm.at).access done) → storm' ≡ record storm { at = storm_on storm.at done } →
       ringing' ≡ awaits_ring done → (awaits_ring done ≡ true → MayRingBy routes (storm_in key storm.peer storm.at).access (front pass'.lists)) →
@@ -301,7 +301,7 @@ module _ (id : TableId) (key : RunSetup) (routes : List Route) (first : Storm) (
         told = ap (λ q. lines ++ lines_in q (turn_of true 0 None (storm_in key q storm.at) done)) same ∙ (ap (λ ls. ls ++ lines_in p turn) at.told ∙ sym (told_snoc p at.taken turn));
       }
 
-  -- a reset
+  -- A reset
   pub storm_restarts : (k : ℕ) (pass pass' : PassView) (storm storm' : Storm) (ringing ringing' : Bool) (turns : ℕ) (lines : List Line) (at : StormAt id key routes first spans (LeftAt spans k) pass storm ringing turns lines) → 0 < k → k < length spans →
       pass' ≡ added pass (accessed restarted) → storm' ≡ record storm { at = storm_cut ringing storm.at } → ringing' ≡ false →
       StormAt id key routes first spans (LeftIn spans k 0) pass' storm' ringing' (turns + 1) (lines ++ line.Reset storm.peer ∷ [])
@@ -319,7 +319,7 @@ module _ (id : TableId) (key : RunSetup) (routes : List Route) (first : Storm) (
         told = ap (λ q. lines ++ line.Reset q ∷ []) (ap (λ (s : Storm). s.peer) at.storm_is) ∙ (ap (λ ls. ls ++ lines_in p Restarts) at.told ∙ sym (told_snoc p at.taken Restarts));
       }
 
-  -- what was done, as it is driven
+  -- What was done, as it is driven.
   abbrev storm_did : (P : List ℕ → Type 0) (pass : PassView) (storm : Storm) (ringing : Bool) (turns : ℕ) (lines : List Line) → honest_of key first.peer ≡ false → (at : StormAt id key routes first spans P pass storm ringing turns lines) → Did key routes first.peer (storming first.at) spans at.list
   storm_did P pass storm ringing turns lines hostile at = record {
     turns = at.taken;

@@ -49,7 +49,7 @@ unfolding reader_after_lines
 tells_both event t [] ys = refl
 tells_both event t (x ∷ xs) ys = tells_both event (reader_after_line event t x) xs ys
 
--- What the lines record of an end and of its sessions
+-- What the lines record of an end and of its sessions.
 record Keeps (t : RecordReader) (end : End) (own : Log) : Type 0 where
   state : t.state ≡ state_of end.handshake.phase
   accepted : t.accepted ≡ end.accepted
@@ -61,13 +61,13 @@ side_kept k = λ i. record initial_side { state = k.state i; accepted = k.accept
 
 -- The lines of marks
 
--- the lines record the frames of the marks, and what is asked for after them
+-- The lines record the frames of the marks, and what is asked for after them.
 record Counts (t u : RecordReader) (request : DoorbellRequest) (marks : List Mark) : Type 0 where
   kept : (end : End) (log : Log) → Keeps t end log → Keeps u (with_marks end marks) log
   asked : u.asked ≡ request
   missed : u.missed ≡ t.missed
 
--- a quiet call records no frame
+-- A quiet call records no frame.
 nothing_counts : (t : RecordReader) (marks : List Mark) → finds_nothing marks ≡ true → Counts t t t.asked marks
 nothing_counts t (Saw value ∷ Over ∷ []) is = record { kept = λ end log k. k; asked = refl; missed = refl }
 nothing_counts t (Look zero ∷ mark.Done ∷ []) is = record { kept = λ end log k. record { state = k.state; accepted = k.accepted; delivered = k.delivered; log = k.log }; asked = refl; missed = refl }
@@ -133,17 +133,17 @@ plain p event t (m ∷ marks) is = let rest = no_look p event (record t { asked 
 abbrev wake_of : RecordReader → Wake
 wake_of t = record { asked = t.asked; missed = t.missed }
 
--- what is asked for and missed after the step
+-- What is asked for and missed after the step.
 abbrev woken : ℕ → RecordReader → Access → List Mark → Wake
 woken event t a marks = wake_after event (accepted_last t.log t.accepted) (delivered_next t.log t.delivered) (wake_of t) a marks
 
--- the lines record what the step leaves of an end with these numbers
+-- The lines record what the step leaves of an end with these numbers.
 record Steps (event : ℕ) (n : Numbers) (t u : RecordReader) (a : Access) (marks : List Mark) : Type 0 where
   kept : (end : End) → Keeps t end n.log → Keeps u (with_marks (with_access end a) marks) (numbers_after n end a).log
   asked : u.asked ≡ (woken event t a marks).asked
   missed : u.missed ≡ (woken event t a marks).missed
 
--- the access of a step to a word that is no State
+-- The access of a step to a word that is no State.
 abbrev IsWord : Access → Type 0
 IsWord (access.Read word) = Unit {0}
 IsWord (access.Write word written) = Unit {0}
@@ -175,7 +175,7 @@ counts_steps event n t u asked a marks word_is is same c = record {
 counts_both : (t s u : RecordReader) (first then' : DoorbellRequest) (marks : List Mark) → Counts t s first [] → Counts s u then' marks → Counts t u then' marks
 counts_both t s u first then' marks c d = record { kept = λ end log k. d.kept end log (c.kept end log k); asked = d.asked; missed = d.missed ∙ c.missed }
 
--- the access of a quiet call is a read, its first one
+-- The access of a quiet call is a read, its first one.
 quiet_is : (first : Bool) (event : ℕ) (t : RecordReader) (a : Access) (marks : List Mark) → is_quiet first a marks ≡ true → (first ≡ true) × (request_after_access event t.asked a ≡ t.asked)
 quiet_is true event t (access.Read word) marks is = (refl, refl)
 quiet_is false event t (access.Read word) marks is = absurd (clash is)
@@ -206,7 +206,7 @@ plain_step p event first n t a v marks word_is is free = by (is_quiet first a ma
 abbrev PlaceAsks : DoorbellRequest → Place → Type 0
 PlaceAsks a place = AsksAt (λ taken. Unit {0}) a place
 
--- the same in a turn, which may be the first of a call
+-- The same in a turn, which may be the first of a call.
 abbrev TurnAsks : (first : Bool) → DoorbellRequest → Place → Type 0
 TurnAsks first a place = (first ≡ true → a ≢ Written) × PlaceAsks a place
 
@@ -225,7 +225,7 @@ look_free next Nowhere ne = refl
 look_free next Written ne = absurd (ne refl)
 look_free next (At frame) ne = refl
 
--- the marks of a look: the lines record the marks, or the call is quiet
+-- The marks of a look: the lines record the marks, or the call is quiet.
 quiet_look : (p event : ℕ) (n : Numbers) (t : RecordReader) (word v : ℕ) → t.asked ≢ Written → Steps event n t (reader_after_lines event t (lines_of p true (access.Read word) v (Look 0 ∷ mark.Done ∷ []))) (access.Read word) (Look 0 ∷ mark.Done ∷ [])
 unfolding reader_after_lines
 quiet_look p event n t word v ne = record { kept = λ end k. record { state = k.state; accepted = k.accepted; delivered = k.delivered; log = k.log }; asked = sym (look_free (delivered_next t.log t.delivered) t.asked ne); missed = refl }
@@ -248,7 +248,7 @@ look_step p event first n t word v zero value false true free = one_look p event
 look_step p event first n t word v (suc d) value last true free = subst (λ (b : Bool). Steps event n t (reader_after_lines event t (lines_of p first (access.Read word) v (if b then empty_marks last else Look (suc d) ∷ []))) (access.Read word) (if b then empty_marks last else Look (suc d) ∷ [])) (sym (more_than d)) (one_look p event first n t word v (suc d))
 look_step p event first n t word v d value last false free = plain_step p event first n t (access.Read word) v (refusal field_name.AvailIndex value) tt tt free
 
--- The lines of the read of an event
+-- The lines of the read of an event.
 
 event_step : (p event : ℕ) (first b : Bool) (n : Numbers) (t : RecordReader) (word v : ℕ) → Steps event n t (reader_after_lines event t (lines_of p first (access.Read word) v (if b then [] else Over ∷ []))) (access.Read word) (if b then [] else Over ∷ [])
 unfolding reader_after_lines
@@ -257,9 +257,9 @@ event_step p event false true n t word v = record { kept = λ end k. record { st
 event_step p event true false n t word v = record { kept = λ end k. record { state = k.state; accepted = k.accepted; delivered = k.delivered; log = k.log }; asked = refl; missed = refl }
 event_step p event false false n t word v = record { kept = λ end k. record { state = k.state; accepted = k.accepted; delivered = k.delivered; log = k.log }; asked = refl; missed = refl }
 
--- The lines of a State step
+-- The lines of a State step.
 
--- the other's sessions matter to one with 3 alone
+-- The other's sessions matter to one with 3 alone.
 others_free : (log one other : Log) (side : Side) (state : ℕ) → (state == 3) ≡ false → log_after log one side (Wrote state) ≡ log_after log other side (Wrote state)
 others_free log one other side state never = let carried : (if state == 3 then one.opened else log.carried) ≡ (if state == 3 then other.opened else log.carried) =
     ap (λ (b : Bool). if b then one.opened else log.carried) never ∙ sym (ap (λ (b : Bool). if b then other.opened else log.carried) never) in
@@ -278,7 +278,7 @@ state_step p event first n t state v never = record {
   missed = refl;
 }
 
--- the State step with 3 is recorded with the number that was loaded
+-- The State step with 3 is recorded with the number that was loaded.
 enter_step : (p event opened other : ℕ) (n : Numbers) (t : RecordReader) → n.loaded ≡ Some other → Steps event n t (reader_after_lines event t (line.State p 3 ∷ line.Session p opened other ∷ line.Over p ∷ [])) (access.State 3) (Over ∷ [])
 unfolding reader_after_lines
 enter_step p event opened other n t loaded = record {
@@ -292,7 +292,7 @@ enter_step p event opened other n t loaded = record {
   missed = refl;
 }
 
--- the steps that touch no word
+-- The steps that touch no word.
 still_step : (p event : ℕ) (first : Bool) (n : Numbers) (t : RecordReader) (config : EndConfig) (v value : ℕ) (place : Place) → touches (access_at config place) ≡ false → PlaceAsks t.asked place → Steps event n t (reader_after_lines event t (lines_of p first (access_at config place) v (marks_at config place value))) (access_at config place) (marks_at config place value)
 unfolding reader_after_lines
 still_step p event first n t config v value Closed still free = record { kept = λ end k. record { state = k.state; accepted = k.accepted; delivered = k.delivered; log = k.log }; asked = refl; missed = refl }
@@ -301,7 +301,7 @@ still_step p event first n t config v value RingingOffer still free = record { k
 still_step p event first n t config v value RingingPoll still free = record { kept = λ end k. record { state = k.state; accepted = k.accepted; delivered = k.delivered; log = k.log }; asked = lapsed_free t.asked free; missed = refl }
 still_step p event first n t config v value place still free = absurd (clash (sym still))
 
--- a step of a turn that is no State step with 3
+-- A step of a turn that is no State step with 3.
 told_step : (p event : ℕ) (config : EndConfig) (first : Bool) (n : Numbers) (t : RecordReader) (v value : ℕ) (place : Place) → TurnAsks first t.asked place → ((state : ℕ) → access_at config place ≡ access.State state → (state == 3) ≡ false) →
     Steps event n t (reader_after_lines event t (lines_of p first (access_at config place) v (marks_at config place value))) (access_at config place) (marks_at config place value)
 told_step p event config first n t v value (ReadingAvailIndex taken last) asks never = look_step p event first n t _ v (published_by taken value) (high_half value) last (is_avail_index config.sizes (taken % 65536) (high_half value)) asks.0
@@ -314,7 +314,7 @@ told_step p event config first n t v value RingingOffer asks never = still_step 
 told_step p event config first n t v value RingingPoll asks never = still_step p event first n t config v value RingingPoll refl asks.1
 told_step p event config first n t v value place asks never = plain_step p event first n t (access_at config place) v (marks_at config place value) tt (plain_marks config place value refl (λ e. cc)) asks.0
 
--- The lines of a doorbell that takes two turns
+-- The lines of a doorbell that takes two turns.
 
 cleared_step : (p event : ℕ) (config : EndConfig) (routes : List Route) (n : Numbers) (t : RecordReader) (v value : ℕ) (place : Place) → PlaceAsks t.asked place → is_guarded (doorbell_path_in routes (access_at config place)) ≡ true →
     Steps event n t (reader_after_lines event t (access_lines p (access_at config place) v ++ map (mark_line p) (marks_at config place value))) (access_at config place) (marks_at config place value)
@@ -341,7 +341,7 @@ held_counts p event config routes t v RingingOffer guarded = (record { kept = λ
 held_counts p event config routes t v RingingPoll guarded = (record { kept = λ end log k. record { state = k.state; accepted = k.accepted; delivered = k.delivered; log = k.log }; asked = refl; missed = refl }, refl)
 held_counts p event config routes t v place guarded = absurd (clash guarded)
 
--- and those of a look
+-- And those of a look.
 bit_counts : (p event bit found : ℕ) (t : RecordReader) → Counts t (reader_after_lines event t (interrupt_line p bit found)) t.asked [] × (t.read ≡ false → (reader_after_lines event t (interrupt_line p bit found)).read ≡ false)
 unfolding reader_after_lines
 bit_counts p event bit found t = by (bit_at found bit == 0)
@@ -385,13 +385,13 @@ pub looked_told : (p event found : ℕ) (r : Runner) (t : RecordReader) → Told
 looked_told p event found r t told = let c = heard_counts 64 p event found t in let one = c.0 in let k = one.kept r.end r.numbers.log (keeps r t told) in
     record { side = side_kept k; log = k.log; asked = one.asked ∙ told.asked; missed = one.missed ∙ told.missed; quiet = λ e. c.1 (told.quiet e); place = told.place }
 
--- a turn at a session word records no line
+-- A turn at a session word records no line.
 pub met_told : (p event number : ℕ) (word : SessionWord) (r : Runner) (t : RecordReader) → Told r t → Told (met_on word r number) (reader_after_lines event t (lines_in p (turn_met word number)))
 unfolding reader_after_lines
 met_told p event number Own r t told = record { side = told.side; log = told.log; asked = told.asked; missed = told.missed; quiet = told.quiet; place = told.place }
 met_told p event number Others r t told = record { side = told.side; log = told.log; asked = told.asked; missed = told.missed; quiet = told.quiet; place = told.place }
 
--- the line of a reset
+-- The line of a reset.
 pub restarted_told : (p event : ℕ) (r : Runner) (t : RecordReader) → Told r t → Told (restarted_on r) (reader_after_lines event t (lines_in p Restarts))
 unfolding reader_after_lines
 restarted_told p event r t told = record {
@@ -403,7 +403,7 @@ restarted_told p event r t told = record {
   place = lapsed_not r.wake.asked;
 }
 
--- after a step
+-- After a step.
 place_after : (config : EndConfig) (r : Runner) (value : ℕ) → PlaceAsks r.wake.asked (place_in config r) →
     PlaceAsks (wake_on config r.end r.numbers.log r.wake (access_at config (place_in config r)) (marks_at config (place_in config r) value)).asked (next_place config (place_in config r) value)
 place_after config r value h = asks_on config (λ taken. Unit {0}) (event_word config) (accepted_last r.numbers.log r.end.accepted) (delivered_next r.numbers.log r.end.delivered) value r.wake (λ taken. Unit {0}) (place_in config r) (λ taken at. tt) h
@@ -431,7 +431,7 @@ module _ (routes : List Route) (config : EndConfig) (r : Runner) (done : Done) (
   asks : TurnAsks (is_first r) t.asked (place_in config r)
   asks = subst (λ (a : DoorbellRequest). TurnAsks (is_first r) a (place_in config r)) (sym told.asked) (turn_asks config r told.place)
 
-  -- a step with its access, which is the State step with 3 or another one
+  -- A step with its access, which is the State step with 3 or another one.
   enters_told : (value : ℕ) → IsEntering config r value → Steps event r.numbers t (reader_after_lines event t (lines_on config r (Stepped value))) (access_at config (place_in config r)) (marks_at config (place_in config r) value)
   enters_told value e = let after = λ (turn : Turn). reader_after_lines event t (lines_in config.me turn) in
       subst (λ (turn : Turn). Steps event r.numbers t (after turn) (access_at config (place_in config r)) (marks_at config (place_in config r) value)) (sym e.turn)

@@ -60,7 +60,7 @@ pub shut : (place : Place) → is_open place ≡ false → place ≡ Closed
 shut Closed is = refl
 shut place is = absurd (cc)
 
--- the reported call is the chosen call
+-- The reported call is the chosen call.
 same_call : (answer : Choice) (frames : List (List ℕ)) (c : automatic.Choice) → IsChoice answer frames c → call_of answer frames ≡ call_chosen (Some c)
 same_call Tick frames c is = sym (ap (λ (x : automatic.Choice). call_chosen (Some x)) is)
 same_call Offer [] c is = absurd is
@@ -74,17 +74,17 @@ told_call None frames (Some c) is = absurd is
 told_call (Some answer) frames None is = absurd is
 told_call (Some answer) frames (Some c) is = same_call answer frames c is
 
--- a choice is made where no call is open
+-- A choice is made where no call is open.
 chosen_where : (b : Bool) (c : automatic.Choice) (answer : Choice) (frames : List (List ℕ)) → Matches (Some answer) frames (if b then None else Some c) → (b ≡ false) × IsChoice answer frames c
 chosen_where true c answer frames is = absurd is
 chosen_where false c answer frames is = (refl, is)
 
--- the call chosen is opened at the runner's place
+-- The call chosen is opened at the runner's place.
 pub opened_in : (config : EndConfig) (r : Runner) (answer : Option Choice) (frames : List (List ℕ)) (end : Engine) → Matches answer frames (chosen r) →
     RefinesAt end config r.end (place_for config r.end r.place (call_chosen_by answer frames)) → RefinesAt end config r.end (place_in config r)
 opened_in config r answer frames end is = subst (λ (c : Option Call). RefinesAt end config r.end (place_for config r.end r.place c)) (told_call answer frames (chosen r) is)
 
--- what is known of a choice of the code's peer at the runner's place: the end stays as it is
+-- What is known of a choice of the code's peer at the runner's place: the end stays as it is.
 pub record Chose (r : Runner) (old new : AutoEndpoint) (answer : Option Choice) : Type 0 where
   pub end : new.end ≡ old.end
   pub matches : Matches answer new.auto.frames (chosen r)
@@ -122,7 +122,7 @@ chose config r old new answer refines planned chooses is =
           (subst (IsPlanOf (record (old.auto) { round = round_since answer old.auto.round })) (rounds_same r.auto answer old.auto.frames (chosen r) matches) plan);
     }
 
--- an access to a word is made at a place that is not left by a doorbell
+-- An access to a word is made at a place that is not left by a doorbell.
 unsettled : (config : EndConfig) (place : Place) → touches (access_at config place) ≡ true → settled_place place ≡ place
 unfolding settled_place
 unsettled config NotInRun is = absurd (cc)
@@ -130,7 +130,7 @@ unsettled config RingingOffer is = absurd (cc)
 unsettled config RingingPoll is = absurd (cc)
 unsettled config place is = refl
 
--- the other steps leave the end and its numbers, and their call is closed
+-- The other steps leave the end and its numbers, and their call is closed.
 pub record Untouching (config : EndConfig) (end : End) (place : Place) (value : ℕ) : Type 0 where
   pub end_is : end_after end (step_at config place value) ≡ end
   pub next : next_place config place value ≡ Closed
@@ -177,7 +177,7 @@ round_frames auto (Some (automatic.ChoosesOffer frame)) = refl
 round_frames auto (Some automatic.ChoosesPoll) = refl
 round_frames auto (Some automatic.IsFinished) = refl
 
--- a frame that was chosen may be offered
+-- A frame that was chosen may be offered.
 may_open : (mtu : ℕ) (answer : Choice) (frames : List (List ℕ)) (c : automatic.Choice) → All (IsFrame mtu) frames → IsChoice answer frames c → MayOpen mtu answer frames
 may_open mtu Tick frames c are is = tt
 may_open mtu Offer [] c are is = absurd is
@@ -190,7 +190,7 @@ may_open_if mtu None frames c are is = tt
 may_open_if mtu (Some answer) frames None are is = absurd is
 may_open_if mtu (Some answer) frames (Some c) are is = may_open mtu answer frames c are is
 
--- the reported call begins if no call is open, and is no Stop
+-- The reported call begins if no call is open, and is no Stop.
 may_offer : (key : RunSetup) (frame : List ℕ) → IsFrame key.queue.mtu frame → IsOffered (link_config_of key) frame
 may_offer key frame f = record { least = f.0; most = f.1; bytes = f.2 }
 
@@ -205,7 +205,7 @@ begins_if : (key : RunSetup) (r : Runner) (s : DerivedState) (answer : Option Ch
 begins_if key r s None frames are is closed = tt
 begins_if key r s (Some answer) frames are is closed = begins_told key s answer frames are (closed (shut r.place (chosen_where (is_open r.place) _ answer frames is).0))
 
--- the place of the access is the same for the derived state, if the place is settled
+-- The place of the access is the same for the derived state, if the place is settled.
 same_place : (config : EndConfig) (r : Runner) (call : Option Call) → (call ≡ None → settled_place r.place ≡ r.place) → (begun_if config (derived_state_of r) call).place ≡ place_for config r.end r.place call
 same_place config r None is = is refl
 same_place config r (Some call) is = refl
@@ -214,14 +214,14 @@ at_none : (config : EndConfig) (end : End) (place : Place) (call : Option Call) 
 at_none config end place None is = refl
 at_none config end place (Some call) is = absurd (cc)
 
--- the place of an access to a word, for the derived state
+-- The place of an access to a word, for the derived state.
 settled_same : (config : EndConfig) (r : Runner) → touches (access_at config (place_in config r)) ≡ true → (begun_if config (derived_state_of r) (call_chosen (chosen r))).place ≡ place_in config r
 settled_same config r touch = same_place config r (call_chosen (chosen r)) (λ none. let here : place_in config r ≡ r.place = at_none config r.end r.place (call_chosen (chosen r)) none in unsettled config r.place (subst (λ (p : Place). touches (access_at config p) ≡ true) here touch))
 
--- The number that is met for a State step
+-- The number that is met for a State step.
 
--- at the place of a turn that meets none: for the step with 2 the session word is stored, and for
--- the one with 3 the number that was loaded is met
+-- At the place of such a turn no number is due: before the step with 2 the session word is stored,
+-- and before the step with 3 the other's number is loaded.
 pub record IsMet (place : Place) (met : Option ℕ) (numbers : Numbers) : Type 0 where
   pub two : place ≡ WritingState 2 → (met ≢ None) × (numbers.stored ≡ true)
   pub three : place ≡ WritingState 3 → (other : ℕ) × (met ≡ Some other) × (numbers.loaded ≡ Some other)
@@ -243,7 +243,7 @@ is_met r has due = record {
     some_none : (number : ℕ) → Some number ≡ None → ⊥
     some_none number e = cc
 
--- no call begins at a State step with 2 or 3
+-- No call begins at a State step with 2 or 3.
 first_met : (config : EndConfig) (end : End) (call : Call) (met : Option ℕ) (n : Numbers) → IsMet (first_place config end call) met n
 first_met config end calls.Tick met n = record { two = λ e. absurd (cc); three = λ e. absurd (cc) }
 first_met config end calls.Stop met n = record { two = λ e. absurd (cc); three = λ e. absurd (cc) }
@@ -265,7 +265,7 @@ numbered_at config (WritingState state) met n is = (λ e. (is.two (ap WritingSta
 numbered_at config Refusing met n is = (λ e. absurd (cc), λ e. absurd (cc))
 numbered_at config place met n is = tt
 
--- the access to a word is the next one of the peer
+-- The access to a word is the next one of the peer.
 pub is_next : (key : RunSetup) (me : ℕ) (r : Runner) (answer : Option Choice) (frames : List (List ℕ)) (a : Access) → Frames key frames → Matches answer frames (chosen r) → derived_state key me (accesses_in r.actions) ≡ derived_state_of r → HasMet r → due_word r.place r.met ≡ None →
     is_open (place_in (config_in key me) r) ≡ true → a ≡ access_at (config_in key me) (place_in (config_in key me) r) → touches a ≡ true → IsNext key me (derived_state key me (accesses_in r.actions)) (call_chosen_by answer frames) a
 is_next key me r answer frames a are is refines has due opens at touching = let config = config_in key me in
@@ -279,7 +279,7 @@ is_next key me r answer frames a are is refines has due opens at touching = let 
       numbered = subst (IsNumbered r.numbers) (sym at) (numbered_at config (place_in config r) r.met r.numbers (met_in config r has due));
     })
 
--- the call that is chosen offers a frame that may be offered
+-- The call that is chosen offers a frame that may be offered.
 abbrev Fits : ℕ → calls.Call → Type 0
 Fits mtu (calls.Offer frame) = IsFrame mtu frame
 Fits mtu call = Unit {0}
@@ -288,7 +288,7 @@ abbrev FitsIf : ℕ → Option calls.Call → Type 0
 FitsIf mtu None = Unit {0}
 FitsIf mtu (Some call) = Fits mtu call
 
--- an access in reach may be made
+-- An access in reach may be made.
 pub may_make : (key : RunSetup) (me : ℕ) (e : Engine) (end : End) (place : Place) (a : Access) → IsFit key → me < 2 → RefinesAt e (config_in key me) end place → IsPermittedAccess e.config a → MayMake key me a
 may_make key me e end place a fit me2 refines reach = in_reach a (subst (λ (w : EndConfig). IsPermittedAccess w a) (sym refines.made) reach)
   where
@@ -319,7 +319,7 @@ touched routes call (access.State state) value is = refl
 touched routes call (access.Ring target vector) value is = absurd (cc)
 touched routes call access.Nothing value is = absurd (cc)
 
--- a doorbell makes no access to the region
+-- A doorbell makes no access to the region.
 rung_none : (doorbell_path : DoorbellPath) (target : ℕ) → accesses_in {A = MemoryOp CallAccess} (rung_by doorbell_path target) ≡ []
 unfolding accesses_in
 rung_none Silent target = refl
@@ -346,7 +346,7 @@ not_touched routes call a (Stepped value) is = taken_none routes call a value is
 not_touched routes call a (Cleared found) is = cleared_none a found
 not_touched routes call a Rung is = taken_none routes call a 0 is
 
--- a doorbell alone is done in two turns
+-- A doorbell alone is done in two turns.
 guarded_still : (routes : List Route) (a : Access) → is_guarded (doorbell_path_in routes a) ≡ true → touches a ≡ false
 guarded_still routes (access.Read word) is = absurd (cc)
 guarded_still routes (access.Write word written) is = absurd (cc)
@@ -364,7 +364,7 @@ held_guards ringing guarded (Stepped value) is held = absurd (clash held)
 held_guards ringing guarded (Cleared found) is held = is.1
 held_guards ringing guarded Rung is held = absurd (clash held)
 
--- where the place in a turn is settled as closed, so was the one before
+-- If the place of a turn is settled as closed, so was the place before.
 settled_before : (config : EndConfig) (r : Runner) (b : Bool) → is_open r.place ≡ b → settled_place (place_in config r) ≡ Closed → settled_place r.place ≡ Closed
 settled_before config r false is closed = ap settled_place (shut r.place is) ∙ settled_closed
 settled_before config r true is closed =
@@ -375,7 +375,7 @@ by_touch : {P : Type 0} → (b : Bool) → (b ≡ true → P) → (b ≡ false �
 by_touch true f g = f refl
 by_touch false f g = g refl
 
--- the marks of a doorbell stand at the end of its step
+-- The marks of a doorbell stand at the end of its step.
 cleared_marks : (step : Step) (found : ℕ) → awaits_ring (Cleared found) ≡ false → marks_of (Clears step found) ≡ step.marks
 cleared_marks step found is = ap (λ (b : Bool). if b then [] else step.marks) is
 
@@ -388,7 +388,7 @@ value_in config r done = step_at config (place_in config r) (value_done done)
 abbrev at : End → Place → Numbers → Wake → DerivedState
 at end place numbers wake = record { end = end; place = place; numbers = numbers; wake = wake }
 
--- the derived state after the turn
+-- The derived state after the turn.
 begun_at : (config : EndConfig) (r : Runner) (call : Option Call) (place : Place) → (begun_if config (derived_state_of r) call).place ≡ place → begun_if config (derived_state_of r) call ≡ at r.end place r.numbers r.wake
 begun_at config r None place is = ap (λ (p : Place). at r.end p r.numbers r.wake) is
 begun_at config r (Some call) place is = ap (λ (p : Place). at r.end p r.numbers r.wake) is
@@ -398,18 +398,18 @@ after_touch : (routes : List Route) (config : EndConfig) (r : Runner) (value : �
 after_touch routes config r value touch = let place = place_in config r in let here = begun_at config r (call_chosen (chosen r)) place (settled_same config r touch) in
     ap (λ (s : DerivedState). settled (moved config s value)) here
 
--- an access to the region leads the peer where the turn does
+-- An access to the region leads the peer where the turn does.
 stands_touched : (key : RunSetup) (me : ℕ) (routes : List Route) (value : ℕ) (r : Runner) → honest_of key me ≡ true → touches (access_at (config_in key me) (place_in (config_in key me) r)) ≡ true → derived_state key me (accesses_in r.actions) ≡ derived_state_of r →
     derived_state key me (accesses_in (stepped_on routes (config_in key me) r (Stepped value)).actions) ≡ derived_state_of (stepped_on routes (config_in key me) r (Stepped value))
 stands_touched key me routes value r hp touch refines = let config = config_in key me in let a = access_at config (place_in config r) in let call = call_chosen (chosen r) in
     ap (λ l. derived_state key me (accesses_in (r.actions ++ l))) (touched routes call a value touch) ∙ (ap (derived_state key me) (accesses_snoc r.actions (accessed (called (taken call a value)))) ∙ (standing_snoc key me (accesses_in r.actions) (called (taken call a value))
     ∙ (stand_honest key me (derived_state key me (accesses_in r.actions)) (called (taken call a value)) hp ∙ (ap (λ (s : DerivedState). after_access config s (taken call a value)) refines ∙ after_touch routes config r value touch))))
 
--- what is no access to the region leaves it
+-- What is no access to the region leaves it.
 stays_standing : (key : RunSetup) (me : ℕ) (r : Runner) (acts : List (Action (MemoryOp CallAccess))) → accesses_in acts ≡ [] → derived_state key me (accesses_in r.actions) ≡ derived_state_of r → derived_state key me (accesses_in (r.actions ++ acts)) ≡ derived_state_of r
 stays_standing key me r acts none refines = ap (derived_state key me) (accesses_both r.actions acts ∙ (ap (λ l. accesses_in r.actions ++ l) none ∙ append-nil (accesses_in r.actions))) ∙ refines
 
--- the longer list leaves the peer where the turn does
+-- The longer list leaves the peer where the turn does.
 stands_stepped : (key : RunSetup) (me : ℕ) (routes : List Route) (ringing : Bool) (done : Done) (r : Runner) → honest_of key me ≡ true → is_open (place_in (config_in key me) r) ≡ true → IsDone ringing (is_guarded (doorbell_path_in routes (access_at (config_in key me) (place_in (config_in key me) r)))) done →
     awaits_ring done ≡ false → derived_state key me (accesses_in r.actions) ≡ derived_state_of r → derived_state key me (accesses_in (stepped_on routes (config_in key me) r done).actions) ≡ derived_state_of (stepped_on routes (config_in key me) r done)
 stands_stepped key me routes ringing done r hp opens is goes refines = let config = config_in key me in let a = access_at config (place_in config r) in let call = call_chosen (chosen r) in let place = place_in config r in
@@ -432,7 +432,7 @@ stands_looked key me r found refines = stays_standing key me r (looked found ∷
     looked_none : (found : ℕ) → accesses_in {A = MemoryOp CallAccess} (looked found ∷ []) ≡ []
     looked_none found = accesses_snoc [] (looked found) ∙ ap (λ l. l ++ []) accesses_none
 
--- what a peer does besides its calls leaves it where the runner is
+-- What a peer does besides its calls leaves it where the runner is.
 stands_snoc : (key : RunSetup) (me : ℕ) (r : Runner) (d : MemoryOp CallAccess) → honest_of key me ≡ true → derived_state key me (accesses_in r.actions) ≡ derived_state_of r → derived_state key me (accesses_in (r.actions ++ accessed d ∷ [])) ≡ after_memory_op (config_in key me) (derived_state_of r) d
 stands_snoc key me r d hp refines = ap (derived_state key me) (accesses_snoc r.actions (accessed d)) ∙ (standing_snoc key me (accesses_in r.actions) d
     ∙ (stand_honest key me (derived_state key me (accesses_in r.actions)) d hp ∙ ap (λ (s : DerivedState). after_memory_op (config_in key me) s d) refines))
@@ -487,7 +487,7 @@ made_id h (t ∷ acts) = refl
 pub made_held : (h : PassView) (l acts : List (Action (MemoryOp CallAccess))) → length acts ≤ 1 → h.lists ≡ l ∷ [] → made h acts ≡ held h.table_id h.from ((l ++ acts) ∷ [])
 made_held h l acts one is = λ i. record { table_id = made_id h acts i; from = made_from h acts i; lists = made_lists h l acts one is i }
 
--- the frames of the place in a turn
+-- The frames of the place in a turn.
 call_bytes : (config : EndConfig) (end : End) (call : calls.Call) (mtu : ℕ) → config.sizes.mtu ≡ mtu → Fits mtu call → HasFrames (first_place config end call)
 call_bytes config end calls.Tick mtu same fits = first_frames config end calls.Tick tt
 call_bytes config end calls.Stop mtu same fits = first_frames config end calls.Stop tt
@@ -509,7 +509,7 @@ place_bytes : (config : EndConfig) (end : End) (place : Place) (call : Option Ca
 place_bytes config end place None fits has = has
 place_bytes config end place (Some call) fits has = call_bytes config end call config.sizes.mtu refl fits
 
--- the frames of the place in a turn have their bytes
+-- The frames of the place in a turn have their bytes.
 pub bytes_in : (key : RunSetup) (me : ℕ) (routes : List Route) (r : Runner) (answer : Option Choice) (old : PassView) (p : AutoPeer) → Turns key me routes r answer old p → HasFrames (place_in (config_in key me) r)
 bytes_in key me routes r answer old p turns = let plan = p.driven.auto in
     let frames : Frames key (round_on r.auto (chosen r)).frames = subst (Frames key) (sym (round_frames r.auto (chosen r))) turns.there.refines.frames in
@@ -517,7 +517,7 @@ bytes_in key me routes r answer old p turns = let plan = p.driven.auto in
     let fits : FitsIf key.queue.mtu (call_chosen (chosen r)) = subst (FitsIf key.queue.mtu) (told_call answer plan.frames (chosen r) turns.matches) (fits_told key.queue.mtu answer plan.frames planned) in
     place_bytes (config_in key me) r.end r.place (call_chosen (chosen r)) fits turns.there.refines.bytes
 
--- Where a doorbell is to be done in two turns, its call is open
+-- Where a doorbell is to be done in two turns, its call is open.
 
 first_silent : (routes : List Route) (config : EndConfig) (end : End) (call : Call) → is_guarded (doorbell_path_in routes (access_at config (first_place config end call))) ≡ false
 first_silent routes config end calls.Tick = refl
@@ -541,7 +541,7 @@ none_chosen routes config r goes guarded = chosen_silent routes config r (chosen
 pub same_open : (config : EndConfig) (r : Runner) → chosen r ≡ None → place_in config r ≡ r.place
 same_open config r none = ap (λ (c : Option automatic.Choice). place_for config r.end r.place (call_chosen c)) none
 
--- a ring that is to come may be made at the place of the turn
+-- A ring that is to come may be made at the place of the turn.
 pub may_come : (key : RunSetup) (me : ℕ) (routes : List Route) (ringing : Bool) (r : Runner) (end : Engine) (a : Access) → RunnerRefines key me routes r end → r.ringing ≡ ringing → a ≡ access_at (config_in key me) (place_in (config_in key me) r) → ringing ≡ true → MayRingBy routes a r.actions
 may_come key me routes ringing r end a s same at is = let config = config_in key me in let may : MayRingBy routes (access_at config r.place) r.actions = s.rings (same ∙ is) in
     subst (λ (x : Access). MayRingBy routes x r.actions) (ap (access_at config) (sym (same_open config r (opened_none r (rings_open config r.place r.actions may)))) ∙ sym at) may
@@ -554,19 +554,19 @@ may_come key me routes ringing r end a s same at is = let config = config_in key
     opened_none : (r : Runner) → is_open r.place ≡ true → chosen r ≡ None
     opened_none r open_is = ap (λ (b : Bool). if b then None else Some (choice_of r.end.handshake.phase r.auto.round r.auto.frames r.auto.delivered r.auto.expected)) open_is
 
--- the list of the pass after a turn
+-- The list of the pass after a turn.
 list_after : (old pass : PassView) (l acts : List (Action (MemoryOp CallAccess))) → length acts ≤ 1 → pass ≡ made old acts → old.lists ≡ l ∷ [] → pass.lists ≡ (l ++ acts) ∷ []
 list_after old pass l acts one is was = ap (λ (h : PassView). h.lists) is ∙ made_lists old l acts one was
 
--- where nothing is met, nothing is to come of it
+-- Where nothing is met, nothing is to come of it.
 none_met : (r : Runner) → r.met ≡ None → HasMet r
 none_met r none = record { stored = λ number at is. none_some number (sym none ∙ is); loaded = λ number at is. none_some number (sym none ∙ is) }
   where
     none_some : {P : Type 0} → (number : ℕ) → None ≡ Some number → P
     none_some number e = absurd (cc)
 
--- a turn that was taken to the end of its step: its call was opened, the step was done and taken,
--- and its notes were counted
+-- A turn that is taken to the end of its step: its call was opened, its step was done and taken,
+-- and its notes were counted.
 pub turn_taken : (key : RunSetup) (me : ℕ) (routes : List Route) (done : Done) (r : Runner) (answer : Option Choice) (old pass : PassView) (p : AutoPeer) (new : Plan) (e1 e2 : Engine) (a : Access) (notes : List Note) → honest_of key me ≡ true →
     Turns key me routes r answer old p → RefinesAt e1 (config_in key me) r.end (place_in (config_in key me) r) → is_open (place_in (config_in key me) r) ≡ true → a ≡ access_at (config_in key me) (place_in (config_in key me) r) →
     IsDone p.ringing (is_guarded (doorbell_path_in routes a)) done → awaits_ring done ≡ false → pass ≡ made old (done_of routes (call_chosen_by answer p.driven.auto.frames) a done) → Takes e1 (value_done done) notes e2 →
@@ -591,7 +591,7 @@ turn_taken key me routes done r answer old pass p new e1 e2 a notes hp turns ref
       subst (λ ms. IsPlanOf new (counted_all (round_on r.auto (chosen r)) ms)) marked (counts (round_on r.auto (chosen r)) (offered e1) (delivered e2) turns.is.planned),
     )
 
--- a turn in which the clear of a doorbell found the bit
+-- A turn in which the clear of a doorbell found the bit.
 pub turn_held : (key : RunSetup) (me : ℕ) (routes : List Route) (done : Done) (r : Runner) (answer : Option Choice) (old pass : PassView) (p : AutoPeer) (e1 : Engine) (a : Access) →
     Turns key me routes r answer old p → RefinesAt e1 (config_in key me) r.end (place_in (config_in key me) r) → a ≡ access_at (config_in key me) (place_in (config_in key me) r) →
     IsDone p.ringing (is_guarded (doorbell_path_in routes a)) done → awaits_ring done ≡ true → pass ≡ made old (done_of routes (call_chosen_by answer p.driven.auto.frames) a done) → MayRingBy routes a (front pass.lists) →
@@ -617,7 +617,7 @@ turn_held key me routes done r answer old pass p e1 a turns refines at is_done h
       subst (λ (c : Option automatic.Choice). IsPlanOf p.driven.auto (round_on r.auto c)) none turns.is.planned,
     )
 
--- a look
+-- A look
 pub turn_looked : (key : RunSetup) (me : ℕ) (routes : List Route) (r : Runner) (old pass : PassView) (end : Engine) (found : ℕ) → pass ≡ added old (looked found) → IsThere key me routes r old end → r.ringing ≡ false → IsThere key me routes (looked_on r found) pass end
 turn_looked key me routes r old pass end found is there still = record {
   refines = record {
@@ -632,7 +632,7 @@ turn_looked key me routes r old pass end found is there still = record {
   lists = list_after old pass r.actions (looked found ∷ []) (omega arith) is there.lists;
 }
 
--- A turn at a session word
+-- A turn at a session word.
 
 word_by : (state : ℕ) (word : SessionWord) (b c : Bool) → (state == 2) ≡ b → (state == 3) ≡ c → (if b then Some Own else if c then Some Others else None) ≡ Some word → state ≡ state_for word
 word_by state Own true c two three is = eqb-true state 2 two
@@ -650,7 +650,7 @@ met_before word place None is = refl
 met_before word (WritingState state) (Some number) is = absurd (cc)
 met_before word place (Some number) is = absurd (cc)
 
--- where its list leaves the peer as the pass has it
+-- Where its list leaves the peer as the pass has it.
 stance_in : (key : RunSetup) (me : ℕ) (routes : List Route) (r : Runner) (old : PassView) (end : Engine) → IsThere key me routes r old end → derived_state key me (accesses_in (front old.lists)) ≡ derived_state_of r
 stance_in key me routes r old end there = ap (λ ls. derived_state key me (accesses_in (front ls))) there.lists ∙ there.refines.derived_state
 
@@ -661,7 +661,7 @@ meets_at key me routes r old end word there due = ap (λ (s : DerivedState). s.p
 pub opened_at : (key : RunSetup) (me : ℕ) (routes : List Route) (r : Runner) (old : PassView) (end : Engine) → IsThere key me routes r old end → r.numbers.log.opened ≡ (derived_state key me (accesses_in (front old.lists))).numbers.log.opened
 opened_at key me routes r old end there = ap (λ (s : DerivedState). s.numbers.log.opened) (sym (stance_in key me routes r old end there))
 
--- what was met is what its session word holds, or what it loaded
+-- What was met is what its session word holds, or what it loaded.
 met_has : (word : SessionWord) (r : Runner) (number : ℕ) → r.place ≡ WritingState (state_for word) → HasMet (met_on word r number)
 met_has Own r number place = record { stored = λ n at is. refl; loaded = λ n at is. absurd (two_three (sym place ∙ at)) }
   where
@@ -709,7 +709,7 @@ plan_cut plan r is = record { frames = is.frames; expected = is.expected; delive
 
 -- The lines of a turn
 
--- the line of an access takes its value from a read alone
+-- The line of an access takes its value from a read alone.
 given_line : (me : ℕ) (a : Access) (value : ℕ) → access_lines me a value ≡ access_lines me a (value_given a value)
 given_line me (access.Read word) value = refl
 given_line me (access.Write word written) value = refl
@@ -717,12 +717,12 @@ given_line me (access.State state) value = refl
 given_line me (access.Ring target vector) value = refl
 given_line me access.Nothing value = refl
 
--- a choice is made before the first step of a call
+-- A choice is made before the first step of a call.
 pub first_is : (choice : Option Choice) (busy : Bool) (r : Runner) → Closes choice busy → busy ≡ is_open r.place → is_some choice ≡ is_first r
 first_is None busy r closes same = ap not (sym closes ∙ same)
 first_is (Some answer) busy r closes same = ap not (sym closes ∙ same)
 
--- the recorded lines are the lines of the turn
+-- The recorded lines are the lines of the turn.
 step_told : (me : ℕ) (first : Bool) (opened : ℕ) (met : Option ℕ) (a : Access) (value : ℕ) (marks : List Mark) → stepped_lines me first opened met a value marks ≡ lines_in me (stepped_turn first opened met (step_of a value marks) a)
 step_told me first opened None (access.Read word) value marks = refl
 step_told me first opened (Some other) (access.Read word) value marks = refl
@@ -755,7 +755,7 @@ pub lines_held : (config : EndConfig) (r : Runner) (done : Done) (a : Access) �
 lines_held config r done a held at = let place = place_in config r in ap (λ (x : Access). access_lines config.me x 0) at ∙ (given_line config.me (access_at config place) 0
     ∙ (ap (λ n. access_lines config.me (access_at config place) (value_given (access_at config place) n)) (sym (held_value done held)) ∙ sym (held_line config.me (is_first r) r.numbers.log.opened r.met (value_in config r done) done held)))
 
--- Which turn a step is: the State step with 3, which bears the numbers of its session, or another
+-- Which turn a step is: the State step with 3, which bears the numbers of its session, or another.
 
 pub record IsEntering (config : EndConfig) (r : Runner) (value : ℕ) : Type 0 where
   pub other : ℕ
@@ -769,7 +769,7 @@ pub record IsMaking (config : EndConfig) (r : Runner) (value : ℕ) : Type 0 whe
   pub never : (state : ℕ) → access_at config (place_in config r) ≡ access.State state → (state == 3) ≡ false
   pub met : access_at config (place_in config r) ≡ access.State 2 → r.met ≢ None
 
--- a State step is that of its place, or the one of a refusal
+-- A State step is that of its place, or the one of a refusal.
 state_at : (config : EndConfig) (place : Place) (state : ℕ) → access_at config place ≡ access.State state → (place ≡ WritingState state) ⊎ (state ≡ 0)
 state_at config (WritingState value) state e = inl (ap WritingState (same e))
   where
@@ -818,14 +818,14 @@ stepped_kind config r value has due = let is = met_in config r has due in ⊎_el
       met = λ e. ⊎_elim (λ at. (is.two at).0) (λ none. absurd (omega arith)) (state_at config (place_in config r) 2 e);
     }
 
--- the runner after a turn, as it was held or not
+-- The runner after a turn, as it was held or not.
 pub turned_held : (routes : List Route) (config : EndConfig) (r : Runner) (done : Done) → awaits_ring done ≡ true → turned routes config r done ≡ held_on routes config r done
 turned_held routes config r done is = ap (λ (b : Bool). if b then held_on routes config r done else stepped_on routes config r done) is
 
 pub turned_stepped : (routes : List Route) (config : EndConfig) (r : Runner) (done : Done) → awaits_ring done ≡ false → turned routes config r done ≡ stepped_on routes config r done
 turned_stepped routes config r done is = ap (λ (b : Bool). if b then held_on routes config r done else stepped_on routes config r done) is
 
--- a State step with 2 opens a session
+-- A State step with 2 opens a session.
 pub opened_on : (n : Numbers) (end : End) (a : Access) → n.log.opened + opens a ≡ (numbers_after n end a).log.opened
 opened_on n end (access.State state) = elim (state == 2) as (λ b. n.log.opened + (if b then 1 else 0) ≡ (if b then n.log.opened + 1 else n.log.opened)) [ true ↦ refl | false ↦ omega arith ]
 opened_on n end (access.Read word) = omega arith
@@ -833,7 +833,7 @@ opened_on n end (access.Write word written) = omega arith
 opened_on n end (access.Ring target vector) = omega arith
 opened_on n end access.Nothing = omega arith
 
--- the same of the runner as it is turned
+-- The same of the runner as it is turned.
 module _ (key : RunSetup) (me : ℕ) (routes : List Route) (done : Done) (r : Runner) (answer : Option Choice) (old pass : PassView) (p : AutoPeer) (e1 : Engine) (a : Access) (turns : Turns key me routes r answer old p)
     (refines : RefinesAt e1 (config_in key me) r.end (place_in (config_in key me) r)) (at_is : a ≡ access_at (config_in key me) (place_in (config_in key me) r)) (is_done : IsDone p.ringing (is_guarded (doorbell_path_in routes a)) done) (is : pass ≡ made old (done_of routes (call_chosen_by answer p.driven.auto.frames) a done)) where
   pub done_there : IsDone p.ringing (is_guarded (doorbell_path_in routes (access_at (config_in key me) (place_in (config_in key me) r)))) done

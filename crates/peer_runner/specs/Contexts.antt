@@ -27,89 +27,90 @@ use Rattle.peer_runner.specs.Turns.{all_turns, has_turn_left, spent, later, line
 use Rattle.peer_runner.specs.Runners.{Runner, has_finished, place_in, turned, Turns}
 use Rattle.peer_runner.specs.Trajectories.{IsOnTrajectory, WentTo}
 
--- the run setup of the words that the peer shares
+-- The run setup of the words that the peer shares.
 abbrev pub setup_of : PeerContext → RunSetup
 setup_of context = context.words.now.shared.key
 
--- the peer's end, as the call grammar sees it
+-- The peer's end, as the call grammar sees it.
 abbrev pub end_config : PeerContext → EndConfig
 end_config context = config_in (setup_of context) context.me
 
--- the peer is an honest one of the link
+-- The peer is an honest one of the link.
 abbrev pub IsHonest : PeerContext → Type 0
 IsHonest context = (context.me < 2) × (honest_of (setup_of context) context.me ≡ true)
 
--- the routes are those with which the words were made
+-- The routes are those with which the words were made.
 abbrev pub HasRoutes : PeerContext → Type 0
 HasRoutes context = AreRoutes (setup_of context) context.routes.now
 
--- the pass is of the words, and the peer is its first one
+-- The pass is of the words, and the peer is its first one.
 abbrev pub IsSeated : PeerContext → PassView → Type 0
 IsSeated context pass = IsFirstIn context.words.now.shared.table_id (setup_of context) context.me pass
 
--- where the list that the pass has of the peer leaves it
+-- Where the list that the pass has of the peer leaves it.
 abbrev pub state_of : PeerContext → PassView → DerivedState
 state_of context pass = state_in (setup_of context) context.me pass
 
--- by that list the peer's next access is this one, which begins such a call, or is a step of the
--- open one
+-- By that list the peer's next access is this one. It begins this call, or is a step of the open
+-- one.
 abbrev pub IsNextOf : PeerContext → PassView → Option Call → Access → Type 0
 IsNextOf context pass begins a = IsNextIn (setup_of context) context.me pass begins a
 
--- Of a place at which the endpoint is, with what the automatic peer has to do there, this holds
+-- The condition holds of the place of the endpoint and of the work left to the automatic peer
+-- there.
 abbrev pub AtItsPlace : Engine → Plan → (EndConfig → End → Place → Auto → Type 0) → Type 0
 AtItsPlace end plan Holds = (config : EndConfig) (at : End) (place : Place) (auto : Auto) →
     RefinesAt end config at place → IsPlanOf plan auto → Holds config at place auto
 
 -- The trajectory of the peer
 
--- with this plan and these spans the peer and its pass are where the runner came
+-- With this plan and these spans, the peer and its pass refine a state of the runner.
 abbrev pub IsOn : PeerContext → Plan → List ℕ → Runner → PassView → AutoPeer → Type 0
 IsOn context plan spans r pass peer =
     IsOnTrajectory context.words.now.shared.table_id (setup_of context) context.me context.routes.now plan spans r pass peer
 
--- the lines are those of the turns that the runner took
+-- The lines are those of the turns that the runner took.
 abbrev pub Records : PeerContext → Runner → List Line → Type 0
 Records context r lines = lines ≡ lines_of_turns context.me r.turns
 
--- before a turn: the peer is on its trajectory, and a turn of its span is left
+-- Before a turn: the peer is on its trajectory, and a turn of its span is left.
 abbrev pub IsBeforeTurn : PeerContext → PassView → AutoPeer → Type 0
 IsBeforeTurn context pass peer = (plan : Plan) × (spans : List ℕ) × (r : Runner) × (all_turns spans < 2 ^ 32) ×
     IsOn context plan spans r pass peer × (has_turn_left r.spans ≡ true)
 
--- after a turn from r: the peer went on and recorded it; or it is finished, and where it was
+-- After a turn from r: the peer took the turn and recorded it, or it is finished and unchanged.
 abbrev pub TookTurn : PeerContext → Plan → List ℕ → Runner → PassView → AutoPeer → List Line → Result Bool NoMemory → Type 0
 TookTurn context plan spans r pass peer lines result = (next : Runner) × IsOn context plan spans next pass peer ×
     IfOk result (λ went. Records context next lines × WentTo (spent r.spans) r next went)
 
--- after a reset at r, or none where the peer is finished
+-- After a reset at r. A finished peer isn't reset.
 abbrev pub WasReset : PeerContext → Plan → List ℕ → Runner → PassView → AutoPeer → List Line → Result Bool NoMemory → Type 0
 WasReset context plan spans r pass peer lines result = (next : Runner) × IsOn context plan spans next pass peer ×
     IfOk result (λ went. Records context next lines × WentTo (later r.spans) r next went × (has_finished r ≡ not went))
 
--- before a span of `span` turns: the peer is on its trajectory, `turns` is the number of turns that
--- it took, and `lines` are the lines of these turns
+-- Before a span of `span` turns: the peer is on its trajectory, `turns` is the number of turns that
+-- it took, and `lines` are the lines of these turns.
 abbrev pub IsBeforeSpan : PeerContext → ℕ → PassView → AutoPeer → ℕ → List Line → Type 0
 IsBeforeSpan context span pass peer turns lines = (plan : Plan) × (spans : List ℕ) × (r : Runner) × (rest : List ℕ) ×
     (all_turns spans < 2 ^ 32) × IsOn context plan spans r pass peer × (r.spans ≡ span ∷ rest) ×
     (turns ≡ length r.turns) × Records context r lines
 
--- after a span: its turns are counted and recorded, and none is left of it, unless the peer is
--- finished
+-- After a span: its turns are counted and recorded, and none is left of it, unless the peer is
+-- finished.
 abbrev pub TookSpan : {A : Type 0} → PeerContext → Plan → List ℕ → List ℕ → PassView → AutoPeer → ℕ → List Line → Result A NoMemory → Type 0
 TookSpan context plan spans rest pass peer turns lines result = (next : Runner) × IsOn context plan spans next pass peer ×
     IfOk result (λ _. Records context next lines × (turns ≡ length next.turns) × (has_finished next ≡ false → next.spans ≡ 0 ∷ rest))
 
--- A turn that is no look and meets no number
+-- Turns without a look and without a session word.
 
--- it is to come at r, for which this was chosen
+-- Such a turn is next at r, and the call was chosen for it.
 abbrev pub IsStepDue : PeerContext → Runner → Option Choice → PassView → AutoPeer → Type 0
 IsStepDue context r choice pass peer = Turns (setup_of context) context.me context.routes.now r choice pass peer
 
--- the runner after it
+-- The runner after such a turn.
 abbrev pub after_step : PeerContext → Runner → Done → Runner
 after_step context r done = turned context.routes.now (end_config context) r done
 
--- the doorbell of the step is at a peer in one-shot mode
+-- The doorbell of the step is to a peer in one-shot mode.
 abbrev pub is_guarded_at : PeerContext → Runner → Bool
 is_guarded_at context r = is_guarded (doorbell_path_in context.routes.now (access_at (end_config context) (place_in (end_config context) r)))

@@ -9,8 +9,8 @@ use Rattle.peer_runner.specs.declared.doorbell_paths.DoorbellPath.TheVariants.{S
 use Rattle.shared_words.specs.Actions.{Action, rang}
 use Rattle.shared_words.specs.PeerRoutes.{route_to}
 
--- a doorbell touches no word where no interrupt would come; it sets its bit at once; or, at a peer
--- in one-shot mode, it clears Interrupt Control first
+-- A doorbell touches no word if no interrupt would be delivered. Otherwise it sets its bit at once.
+-- For a peer in one-shot mode it clears Interrupt Control first.
 abbrev pub doorbell_path_by : (one_shot : Bool) → Option ℕ → DoorbellPath
 doorbell_path_by one_shot None = Silent
 doorbell_path_by true (Some bit) = Guarded bit
@@ -27,7 +27,7 @@ abbrev pub doorbell_path_in : List Route → Access → DoorbellPath
 doorbell_path_in routes (access.Ring target vector) = doorbell_path_to routes target vector
 doorbell_path_in routes other = Silent
 
--- the ring of a doorbell
+-- The ring of a doorbell.
 abbrev pub rung_by : {A : Type 0} → DoorbellPath → (target : ℕ) → List (Action A)
 rung_by Silent target = []
 rung_by (Direct bit) target = rang target bit ∷ []

@@ -34,15 +34,15 @@ use Rattle.peer_runner.specs.RunningRecord.{refuses, reader_of_lines, ReaderMatc
 use Rattle.peer_runner.specs.OwnRecord.{IsTraceOf, after_acts, start_of, spans_of}
 use Rattle.peer_runner.specs.Runners.{IsFrame, start_auto, awaits_ring}
 
--- the steps of a storm in a region of these sizes
+-- The steps of a storm in a region of these sizes.
 abbrev pub storm_in : RunSetup → ℕ → ℕ → Step
 storm_in key p x = storm_step (world_in key) p x
 
--- where its generator is after a turn: it stays until the step is done
+-- The generator of the storm after a turn: it stays until the step is done.
 abbrev pub storm_on : ℕ → Done → ℕ
 storm_on x done = if awaits_ring done then x else storm_after x
 
--- where a peer begins: as an automatic peer with a plan, or as a storm whose generator is at x
+-- The start of a peer: an automatic peer with a plan, or a storm whose generator is at x.
 abbrev pub automatic : Plan → Peer
 automatic plan = record at_start { driver = Chooses (start_auto plan.frames plan.expected) }
 
@@ -53,8 +53,8 @@ abbrev pub starting : Driver → Peer
 starting (Auto plan end) = automatic plan
 starting (Storm seed geometry queue) = storming seed
 
--- an automatic peer at its start, whose frames may be offered, is driven at an honest end of the
--- link, which is at its start; a storm is driven at a hostile peer
+-- An automatic peer is driven at an honest end of the link. Both are at their start, and its frames
+-- may be offered. A storm is driven at a hostile peer.
 pub record MayBeAuto (key : RunSetup) (p : ℕ) (plan : Plan) (end : Engine) : Type 0 where
   pub link : p < 2
   pub honest : honest_of key p ≡ true
@@ -66,9 +66,9 @@ abbrev pub MayDrive : RunSetup → ℕ → Driver → Type 0
 MayDrive key p (Auto plan end) = MayBeAuto key p plan end
 MayDrive key p (Storm seed geometry queue) = (p < key.geometry.peers) × (honest_of key p ≡ false) × (geometry ≡ key.geometry) × (queue ≡ key.queue)
 
--- The list `list` leaves an honest peer where the turns `taken` did, and a reader of the lines of
--- these turns agrees with the list. If the peer never bore the mark of a refusal, the lines have no
--- refusal
+-- The list `list` leaves an honest peer in its state after the turns `taken`, and a reader of the
+-- lines of these turns agrees with the list. If the peer never bore the mark of a refusal, the
+-- lines have no refusal.
 pub record IsLeft (key : RunSetup) (p : ℕ) (list : List (Action (MemoryOp CallAccess))) (taken : List Turn) (after : Peer) : Type 0 where
   pub end : (derived_state key p (accesses_in list)).end ≡ after.end
   pub told : ReaderMatches (derived_state key p (accesses_in list)) (reader_of_lines (event_word (config_in key p)) (lines_of_turns p taken))
@@ -76,7 +76,7 @@ pub record IsLeft (key : RunSetup) (p : ℕ) (list : List (Action (MemoryOp Call
 
 -- In a scenario
 
--- what drives the peer of a scenario, and its spans
+-- The driver of a peer of the scenario, and its spans.
 abbrev pub IsDriver : World → ℕ → Driver → Type 0
 IsDriver world p driver = (starting driver ≡ start_of world.acts p) × ((key : RunSetup) → IsMadeFor world key → MayDrive key p driver)
 
@@ -92,7 +92,7 @@ abbrev pub IsPlanFor : World → ℕ → Option PeerPlan → Type 0
 IsPlanFor world p None = has_turn world.acts p ≡ false
 IsPlanFor world p (Some plan) = IsPlan world p plan
 
--- what an act adds to the plan of peer p, and to the seed of its storm
+-- The change that an act makes to the plan of peer p, and to the seed of its storm.
 abbrev pub gathered : ℕ → Plan → Act → Plan
 gathered p plan (act.Auto q expected) = if q == p then fresh_plan expected else plan
 gathered p plan (act.Offer q frame) = if q == p then record plan { frames = plan.frames ++ frame ∷ [] } else plan
@@ -102,21 +102,21 @@ abbrev pub seeded : ℕ → ℕ → Act → ℕ
 seeded p seed (act.Storm q x) = if q == p then x else seed
 seeded p seed _ = seed
 
--- the plan of these acts, once they name an automatic peer
+-- The plan of these acts, once they name an automatic peer.
 pub record Gathers (mtu p : ℕ) (acts : List Act) (plan : Plan) : Type 0 where
   pub none : has_auto acts p ≡ false → after_acts p at_start acts ≡ at_start
   pub start : has_auto acts p ≡ true → after_acts p at_start acts ≡ automatic plan
   pub fresh : plan ≡ record (fresh_plan plan.expected) { frames = plan.frames }
   pub frames : All (IsFrame mtu) plan.frames
 
--- the seed of these acts, once they name a storm
+-- The seed of these acts, once they name a storm.
 pub record Seeds (p : ℕ) (acts : List Act) (seed : ℕ) : Type 0 where
   pub none : has_storm acts p ≡ false → after_acts p at_start acts ≡ at_start
   pub start : has_storm acts p ≡ true → after_acts p at_start acts ≡ storming seed
 
 -- What was done
 
--- the peer took these turns of its spans, and did this to the words
+-- The peer took these turns of its spans, and made these actions on the words.
 pub record Did (key : RunSetup) (routes : List Route) (p : ℕ) (start : Peer) (spans : List ℕ) (list : List (Action (MemoryOp CallAccess))) : Type 0 where
   pub turns : List Turn
   pub after : Running
@@ -124,18 +124,18 @@ pub record Did (key : RunSetup) (routes : List Route) (p : ℕ) (start : Peer) (
   pub made : shown list ≡ actions_in routes turns
   pub left : honest_of key p ≡ true → IsLeft key p list turns after.peer
 
--- it took at most all turns of its spans, and its trace records the turns if memory was enough
+-- It took at most all turns of its spans. Its trace records the turns if memory was enough.
 abbrev pub Drove : RunSetup → List Route → (p : ℕ) → (spans : List ℕ) → Peer → List (Action (MemoryOp CallAccess)) → Result OwnTrace NoMemory → Type 0
 Drove key routes p spans start list answer = (did : Did key routes p start spans list) × (length did.turns ≤ all_turns spans)
     × IfOk answer (λ (t : OwnTrace). IsTraceOf p (all_turns spans) did.turns did.after (part_of t))
 
--- it did so by a pass that had it alone, with an empty list
+-- It did so by a pass of this peer alone, with an empty list.
 abbrev pub DroveBy : RunSetup → List Route → (p : ℕ) → (spans : List ℕ) → Peer → (old new : PassView) → Result OwnTrace NoMemory → Type 0
 DroveBy key routes p spans start old new answer =
     (list : List (Action (MemoryOp CallAccess))) × (new ≡ held old.table_id p (list ∷ [])) × Drove key routes p spans start list answer
 
--- a peer of a scenario did this to the words, and these are the traces of it: one, or none where it
--- has no turns
+-- A peer of a scenario did this to the words. Its traces are these: one, or none if it has no
+-- turns.
 abbrev pub HasRun : World → RunSetup → ℕ → List (Action (MemoryOp CallAccess)) → List OwnTrace → Type 0
 HasRun world key p list traces =
     (t : OwnTrace) × (traces ≡ t ∷ []) × (routes : List Route) × AreRoutesOf world routes ×
@@ -149,13 +149,13 @@ RanIf false world key p list traces = (list ≡ []) × (traces ≡ [])
 abbrev pub RanOne : World → RunSetup → ℕ → List (Action (MemoryOp CallAccess)) → List OwnTrace → Type 0
 RanOne world key p list traces = RanIf (has_turn world.acts p) world key p list traces
 
--- and so the peers from p on
+-- The same of the peers from p on.
 unfoldable pub RanAll : World → RunSetup → ℕ → List (List (Action (MemoryOp CallAccess))) → List OwnTrace → Type 0
 RanAll world key p [] traces = traces ≡ []
 RanAll world key p (list ∷ lists) traces =
     (mine rest : List OwnTrace) × (traces ≡ mine ++ rest) × RanOne world key p list mine × RanAll world key (suc p) lists rest
 
--- both answers are Ok, with such values
+-- Both answers are Ok, with such values.
 abbrev pub BothOk : {A B E : Type 0} → Result A E → Result B E → (A → B → Type 0) → Type 0
 BothOk (Ok one) (Ok two) P = P one two
 BothOk one two P = ⊥

@@ -17,8 +17,8 @@ use Rattle.shared_words.specs.Actions.{Action}
 use Rattle.shared_words.specs.PeerRoutes.{AreRoutesOf}
 use Rattle.peer_runner.specs.Turns.{Turn, Running, comes_to, all_turns, TakesTurns, is_finished, actions_in, lines_of_turns}
 
--- the trace of these turns, which led the peer there: it took all of its turns, or fewer and is
--- finished
+-- The trace of these turns, after which the peer is there: it took all of its turns, or fewer and
+-- is finished.
 pub record IsTraceOf (p turns : ℕ) (taken : List Turn) (after : Running) (part : Part) : Type 0 where
   pub peer : part.peer ≡ p
   pub lines : part.lines ≡ lines_of_turns p taken
@@ -29,7 +29,7 @@ pub record IsTraceOf (p turns : ℕ) (taken : List Turn) (after : Running) (part
 
 -- In a scenario
 
--- the peer `p`, which was `peer`, after an act that comes before its turns
+-- The peer `p`, which was `peer`, after an act that precedes its turns.
 abbrev pub after_act : ℕ → Peer → Act → Peer
 after_act p peer (act.Auto q expected) = if q == p then automated peer expected else peer
 after_act p peer (act.Offer q frame) = if q == p then with_call peer (Offer frame) else peer
@@ -40,7 +40,7 @@ unfoldable pub after_acts : ℕ → Peer → List Act → Peer
 after_acts p peer [] = peer
 after_acts p peer (a ∷ acts) = after_acts p (after_act p peer a) acts
 
--- the peer before its turns, and its spans: how many turns each of its lines gives it
+-- The peer before its turns, and its spans: the number of turns that each of its lines gives.
 abbrev pub start_of : List Act → ℕ → Peer
 start_of acts p = after_acts p at_start acts
 
@@ -51,8 +51,8 @@ span_in p _ = []
 unfoldable pub spans_of : List Act → ℕ → List ℕ
 spans_of acts p = flat_map (span_in p) acts
 
--- the part of a running record that a peer of the scenario has with these actions, by the routes of
--- the peers
+-- The part of a running record that a peer of the scenario has with these actions, by the routes of
+-- the peers.
 pub record IsOwnRecord (world : World) (actions : List (Action (MemoryOp ObservedAccess))) (part : Part) : Type 0 where
   pub routes : List Route
   pub routed : AreRoutesOf world routes

@@ -1,5 +1,5 @@
--- An automatic peer between two turns, as the code steps it: its place in the open call, where the
--- own record has what is left of it.
+-- An automatic peer between two turns, as the code steps it. A runner has its place in the open
+-- call. The own record has the rest of the call instead.
 use Rattle.std.specs.Prelude.{ℕ, ◌≡◌, ◌+◌, ◌<◌, ◌≤◌, ◌==◌, ◌&&◌, not, Bool, true, false, if◌then◌else◌, Option, Some, None, All, List, [], ◌∷◌, ◌++◌, length, map}
 use Rattle.split_ring.specs.declared.sizes.TheConstants.{FRAME_OVERHEAD, SHORTEST_FRAME}
 use Rattle.split_ring.specs.declared.steps.Access.{Access}
@@ -42,7 +42,7 @@ use Rattle.peer_runner.specs.declared.notes.RecordedStep.{RecordedStep}
 use Rattle.peer_runner.specs.declared.doorbell_paths.Done.TheVariants.{Stepped, Cleared, Rung}
 use Rattle.doorbell_irq.specs.declared.route.Route.{Route}
 
--- a frame that may be offered: 14 to MTU + 18 bytes
+-- A frame that may be offered: 14 to MTU + 18 bytes.
 abbrev pub IsFrame : ℕ → List ℕ → Type 0
 IsFrame mtu frame = (SHORTEST_FRAME ≤ length frame) × (length frame ≤ mtu + FRAME_OVERHEAD) × All (λ byte. byte < 256) frame
 
@@ -89,14 +89,14 @@ initial_runner frames expected spans = record {
   wake = at_rest;
 }
 
--- the peer of the own record
+-- The peer of the own record that the runner represents.
 abbrev pub peer_of : EndConfig → Runner → Peer
 peer_of config r = record { end = r.end; left = remaining config r.place; waiting = []; driver = Chooses r.auto }
 
 abbrev pub running_of : EndConfig → Runner → Running
 running_of config r = record { peer = peer_of config r; looks = r.looks; ringing = r.ringing; opened = r.numbers.log.opened; met = r.met; spans = r.spans }
 
--- What it chooses where no call is open
+-- The choice if no call is open.
 
 abbrev pub choice_at : End → Place → Auto → Option automatic.Choice
 choice_at end place auto = if is_open place then None else Some (choice_of end.handshake.phase auto.round auto.frames auto.delivered auto.expected)
@@ -125,7 +125,7 @@ finishes (Some c) = is_end c
 abbrev pub has_finished : Runner → Bool
 has_finished r = finishes (chosen r)
 
--- the place of its next step
+-- The place of its next step.
 abbrev pub place_in : EndConfig → Runner → Place
 place_in config r = place_for config r.end r.place (call_chosen (chosen r))
 
@@ -145,20 +145,20 @@ taken_of routes begins (access.State state) value = accessed (called (taken begi
 taken_of routes begins (access.Ring target vector) value = rung_by (doorbell_path_to routes target vector) target
 taken_of routes begins access.Nothing value = []
 
--- it reads a word of the region, or writes one of its own
+-- The access reads a word of the region, or writes one of the peer's own.
 abbrev pub MayMake : RunSetup → ℕ → Access → Type 0
 MayMake key me (access.Read word) = word < word_count key.geometry
 MayMake key me (access.Write word value) = MayWrite key.geometry me word
 MayMake key me other = Unit {0}
 
--- the pass with these actions more, of which there is one at most
+-- The pass with these further actions, at most one.
 abbrev pub made : PassView → List (Action (MemoryOp CallAccess)) → PassView
 made h [] = h
 made h (t ∷ more) = added h t
 
--- What is done of a step in a turn
+-- The part of a step that is done in a turn.
 
--- the value that a read gave
+-- The value that a read returned.
 abbrev pub value_done : Done → ℕ
 value_done (Stepped value) = value
 value_done other = 0
@@ -168,7 +168,7 @@ done_of routes begins a (Stepped value) = taken_of routes begins a value
 done_of routes begins a (Cleared found) = cleared_by a found
 done_of routes begins a Rung = taken_of routes begins a 0
 
--- a State step with 3 bears the number of sessions opened and the number that was loaded
+-- A State step with 3 has the number of sessions opened and the number that was loaded.
 abbrev pub stepped_turn : (first : Bool) → (opened : ℕ) → (met : Option ℕ) → Step → Access → Turn
 stepped_turn first opened (Some other) step (access.State state) = if state == 3 then Enters step opened other else Makes first step
 stepped_turn first opened met step _ = Makes first step
@@ -178,15 +178,15 @@ turn_of first opened met step (Stepped value) = stepped_turn first opened met st
 turn_of first opened met step (Cleared found) = Clears step found
 turn_of first opened met step Rung = Rings step
 
--- a clear is done first of a doorbell at a peer in one-shot mode, and then, where it found the bit,
--- the ring
+-- A doorbell to a peer in one-shot mode begins with a clear. The ring follows if the clear found
+-- the bit set.
 abbrev pub IsDone : (ringing guarded : Bool) → Done → Type 0
 IsDone ringing guarded (Stepped value) = (ringing ≡ false) × (guarded ≡ false)
 IsDone ringing guarded (Cleared found) = (ringing ≡ false) × (guarded ≡ true)
 IsDone ringing guarded Rung = (ringing ≡ true) × (guarded ≡ true)
 
 -- The lines of a turn, with these marks. If a State step with 3 met a number, the line of the
--- session, with `opened` and this number, follows the line of the step
+-- session, with `opened` and this number, follows the line of the step.
 abbrev pub session_lines : ℕ → (opened : ℕ) → (met : Option ℕ) → Access → List Line
 session_lines p opened (Some other) (access.State state) = if state == 3 then line.Session p opened other ∷ [] else []
 session_lines p opened met _ = []
@@ -200,7 +200,7 @@ done_lines p first opened met a (Stepped value) marks = stepped_lines p first op
 done_lines p first opened met a (Cleared found) marks = access_lines p a 0 ++ map (mark_line p) marks
 done_lines p first opened met a Rung marks = map (mark_line p) marks
 
--- the same, by what the code keeps of the step, and by the endpoint's notes of it
+-- The same, by the state that the code keeps of the step and by the endpoint's notes.
 abbrev pub lines_stepped : ℕ → RecordedStep → ℕ → List Mark → List Line
 lines_stepped p step value marks = stepped_lines p step.first step.opened step.met step.access value marks
 
@@ -210,17 +210,17 @@ lines_done p step done marks = done_lines p step.first step.opened step.met step
 abbrev pub marks_of_notes : Engine → List Note → List Mark
 marks_of_notes end notes = marks_between (offered end) (delivered end) notes
 
--- and of a step without marks, whose access is no read
+-- The same for a step without marks whose access is no read.
 abbrev pub drawn_lines : ℕ → Access → Done → List Line
 drawn_lines p a Rung = []
 drawn_lines p a other = access_lines p a 0
 
--- it was a clear that found the bit, and so the ring is to come
+-- The action was a clear that found the bit set, so the ring is next.
 abbrev pub awaits_ring : Done → Bool
 awaits_ring (Cleared found) = is_set found
 awaits_ring other = false
 
--- the ring of this doorbell may be made
+-- The ring of this doorbell may be made.
 abbrev pub MayRingBy : List Route → Access → List (Action (MemoryOp CallAccess)) → Type 0
 MayRingBy routes (access.Ring target vector) list = (is_guarded (doorbell_path_to routes target vector) ≡ true) × MayRing target list
 MayRingBy routes other list = ⊥
@@ -229,7 +229,7 @@ MayRingBy routes other list = ⊥
 
 -- The number of looks due: none in an open call, 64 if the peer sleeps, otherwise 1. With `looks`
 -- taken and `due` due, the peer looks first if its interrupts are enabled and `looks` is below
--- `due`
+-- `due`.
 abbrev pub due_at : EndConfig → End → Place → Auto → ℕ
 due_at config end place auto = if is_open place then 0 else if sleeps config end auto then 64 else 1
 
@@ -247,11 +247,11 @@ looked_on r found = record r {
   turns = r.turns ++ Looks found ∷ [];
 }
 
--- It meets a number for the State step to come, which is the next one: it stores the number of the
--- session that it opens, or loads the other's
+-- The runner after a turn at a session word, for the State step that follows. It stores the number
+-- of the session that it opens, or loads the other's.
 
--- the session word that it comes to before the State step with 2, or with 3, where it has met no
--- number for it yet
+-- The session word that is due before the State step with 2 or 3, if no number is stored or loaded
+-- for that step yet.
 abbrev pub due_word : Place → Option ℕ → Option SessionWord
 due_word (WritingState state) None = if state == 2 then Some Own else if state == 3 then Some Others else None
 due_word place met = None
@@ -281,7 +281,7 @@ met_on word r number = record r {
   turns = r.turns ++ turn_met word number ∷ [];
 }
 
--- it is reset
+-- The runner after a reset.
 abbrev pub restarted_on : Runner → Runner
 restarted_on r = record {
   end = after_reset r.end;
@@ -297,15 +297,15 @@ restarted_on r = record {
   wake = record (r.wake) { asked = lapsed r.wake.asked };
 }
 
--- its step is the first of a call
+-- Its step is the first of a call.
 abbrev pub is_first : Runner → Bool
 is_first r = not (is_open r.place)
 
--- the turn of a step
+-- The turn of a step.
 abbrev pub turn_on : EndConfig → Runner → Done → Turn
 turn_on config r done = turn_of (is_first r) r.numbers.log.opened r.met (step_at config (place_in config r) (value_done done)) done
 
--- the step goes on, or is held for its ring
+-- The runner after a step, or with the step held for its ring.
 abbrev pub held_on : List Route → EndConfig → Runner → Done → Runner
 held_on routes config r done = record r {
   looks = Some 0;
@@ -337,21 +337,21 @@ stepped_on routes config r done = record {
 abbrev pub turned : List Route → EndConfig → Runner → Done → Runner
 turned routes config r done = if awaits_ring done then held_on routes config r done else stepped_on routes config r done
 
--- the lines of the turn
+-- The lines of the turn.
 abbrev pub lines_on : EndConfig → Runner → Done → List Line
 lines_on config r done = lines_in config.me (turn_on config r done)
 
--- where its list leaves the runner
+-- The derived state of the runner, by its list.
 abbrev pub derived_state_of : Runner → DerivedState
 derived_state_of r = record { end = r.end; place = settled_place r.place; numbers = r.numbers; wake = r.wake }
 
--- what it met is what its session word holds, or what it loaded
+-- The number for the next State step is the one in its session word, or the one that it loaded.
 pub record HasMet (r : Runner) : Type 0 where
   pub stored : (number : ℕ) → r.place ≡ WritingState 2 → r.met ≡ Some number → r.numbers.stored ≡ true
   pub loaded : (number : ℕ) → r.place ≡ WritingState 3 → r.met ≡ Some number → r.numbers.loaded ≡ Some number
 
--- the endpoint stands where the runner is, its list leaves it there, its frames may be offered, and
--- a ring that is to come may be made
+-- The endpoint refines the runner, and so does its list. Its frames may be offered, and a ring that
+-- is next may be made.
 pub record RunnerRefines (key : RunSetup) (me : ℕ) (routes : List Route) (r : Runner) (end : Engine) : Type 0 where
   pub refines : RefinesAt end (config_in key me) r.end r.place
   pub derived_state : derived_state key me (accesses_in r.actions) ≡ derived_state_of r
@@ -360,13 +360,13 @@ pub record RunnerRefines (key : RunSetup) (me : ℕ) (routes : List Route) (r : 
   pub rings : r.ringing ≡ true → MayRingBy routes (access_at (config_in key me) r.place) r.actions
   pub met : HasMet r
 
--- the pass is that of this peer alone, with its list
+-- The pass is of this peer alone, with its list.
 pub record IsThere (key : RunSetup) (me : ℕ) (routes : List Route) (r : Runner) (pass : PassView) (end : Engine) : Type 0 where
   pub refines : RunnerRefines key me routes r end
   pub from : pass.from ≡ me
   pub lists : pass.lists ≡ r.actions ∷ []
 
--- the code's peer is that of the runner
+-- The code's peer refines the runner.
 pub record IsAutoPeer (auto_peer : AutoPeer) (r : Runner) : Type 0 where
   pub planned : IsPlanOf auto_peer.driven.auto r.auto
   pub looks : auto_peer.looks ≡ r.looks
@@ -374,8 +374,8 @@ pub record IsAutoPeer (auto_peer : AutoPeer) (r : Runner) : Type 0 where
   pub opened : auto_peer.opened ≡ r.numbers.log.opened
   pub met : auto_peer.met ≡ r.met
 
--- a turn is to come that is no look and meets no number, for which this was chosen, with which the
--- round went on
+-- The next turn is neither a look nor at a session word. The call was chosen for it, and the round
+-- is the one after that choice.
 pub record Turns (key : RunSetup) (me : ℕ) (routes : List Route) (r : Runner) (choice : Option Choice) (pass : PassView) (auto_peer : AutoPeer) : Type 0 where
   pub there : IsThere key me routes r pass auto_peer.driven.end
   pub is : IsAutoPeer auto_peer (record r { auto = round_on r.auto (chosen r) })

@@ -31,7 +31,7 @@ use Rattle.shared_words.specs.Rules.{region, session_words, accesses_by, Memory,
 use Rattle.peer_runner.specs.ListSays.{last_written, last_state, has_written, call_writes}
 
 -- The end and the place in which its list leaves a peer, and how many frames it has freed: one more
--- with each id that it read
+-- with each id that it read.
 
 abbrev pub end_by : RunSetup → (ℕ → List (MemoryOp CallAccess)) → ℕ → End
 end_by key acc p = (derived_state key p (acc p)).end
@@ -42,18 +42,18 @@ place_by key acc p = (derived_state key p (acc p)).place
 abbrev pub freed_by : RunSetup → (ℕ → List (MemoryOp CallAccess)) → ℕ → ℕ
 freed_by key acc p = freed_at (end_by key acc p).freed (place_by key acc p)
 
--- a session is open
+-- A session is open
 abbrev pub InSession : Phase → Type 0
 InSession phase = (phase ≡ Ready) ⊎ (phase ≡ Run)
 
--- the words of its section, counted from its first one
+-- The words of its section, counted from its first one.
 abbrev pub section_words : RunSetup → (ℕ → ℕ) → ℕ → ℕ → ℕ
 section_words key memory p w = memory (section_start key.geometry p + w)
 
 -- A part holds in each state of the table that the rule keeps: of each honest link peer
 -- (`OfEachHonest`), or of each of the two if both are honest (`OfTwoHonest`). By
 -- `WhereEitherAttends`, a part holds as soon as either attends to the other's session, in RUN or
--- about to set it
+-- about to set it.
 
 abbrev pub OfEachHonest : (RunSetup → (ℕ → ℕ) → (ℕ → List (MemoryOp CallAccess)) → ℕ → Type 0) → Type 0
 OfEachHonest Part = (key : RunSetup) (s : State ℕ View) (kept : TableInvariant key s) (p : ℕ) → honest_of key p ≡ true →
@@ -69,18 +69,18 @@ WhereEitherAttends Part key memory acc p = EitherIsAttached (end_by key acc) (pl
 
 -- Of all peers
 
--- the words of the region and of the sessions are what the memory operations of the lists, one
--- after another in some order, made of them
+-- The memory operations of the lists, in some order, made the words of the region and of the
+-- sessions.
 abbrev pub WordsAreMade : Type 0
 WordsAreMade = (key : RunSetup) (s : State ℕ View) (kept : TableInvariant key s) →
     Made key (region key s.words) (session_words key s.words) (accesses_by kept.acc)
 
--- all words, those for interrupts too, are what the actions of the lists, one after another in some
--- order, made of those at the start
+-- The actions of the lists, in some order, made all words from those at the start, interrupt words
+-- included.
 abbrev pub AllWordsAreMade : Type 0
 AllWordsAreMade = (key : RunSetup) (s : State ℕ View) (kept : TableInvariant key s) → Happened key (λ w. slice_index s.words w) kept.acc
 
--- each store in a list is to a word that its peer may write
+-- Each store of a list is to a word that its peer may write.
 abbrev pub StoresAreOwned : Type 0
 StoresAreOwned = (key : RunSetup) (s : State ℕ View) (kept : TableInvariant key s) (p : ℕ) (t : CallAccess) →
     Contains (accesses_by kept.acc p) (called t) → IsOwned key p t.access
@@ -88,25 +88,24 @@ StoresAreOwned = (key : RunSetup) (s : State ℕ View) (kept : TableInvariant ke
 -- Of each peer and each bit: the looks that found the bit, plus one if it is set now, are at most
 -- the rings that set it. Of each peer's Interrupt Control: its bit, plus the number of clears that
 -- found it set, equals the bit before any action. At a one-shot peer each ring comes after such a
--- clear of the same list
+-- clear of the same list.
 abbrev pub InterruptsAreRung : Type 0
 InterruptsAreRung = (key : RunSetup) (s : State ℕ View) (kept : TableInvariant key s) → Interrupts key (λ w. slice_index s.words w) kept.acc
 
--- where a bit was rung it is set until its target finds it, and Interrupt Control that was cleared
--- stays so
+-- A bit that was rung is set until its target finds it. Interrupt Control that was cleared stays
+-- clear.
 abbrev pub DoorbellsStand : Type 0
 DoorbellsStand = (key : RunSetup) (s : State ℕ View) (kept : TableInvariant key s) → Doorbells key (λ w. slice_index s.words w) kept.acc
 
 -- Of each honest link peer
 
--- each access in its list is the next one of its calls, where the accesses before it had left the
--- peer
+-- Each access of its list is the next one of its calls, by the accesses before it.
 pub record AccessesAreCalls (key : RunSetup) (memory : ℕ → ℕ) (acc : ℕ → List (MemoryOp CallAccess)) (p : ℕ) : Type 0 where
   pub next : (front back : List (MemoryOp CallAccess)) (t : CallAccess) → acc p ≡ front ++ called t ∷ back →
       IsNext key p (derived_state key p front) t.begins t.access
 
--- each word of its section, and its state word, is what its list wrote last, or 0; a reset writes 0
--- in its state word
+-- Each word of its section, and its State word, has the value that its list wrote last, or 0. A
+-- reset writes State 0.
 pub record WordsAreWritten (key : RunSetup) (memory : ℕ → ℕ) (acc : ℕ → List (MemoryOp CallAccess)) (p : ℕ) : Type 0 where
   pub section : (w : ℕ) → InSection key.geometry p w → memory w ≡ last_written (acc p) w
   pub state : memory p ≡ last_state (acc p)
@@ -114,7 +113,7 @@ pub record WordsAreWritten (key : RunSetup) (memory : ℕ → ℕ) (acc : ℕ �
 -- In RESET it wrote no word after its last write of State, or its last reset. While a tick clears
 -- its section it is in INIT, and the words that were cleared, from the first on, are 0; as the tick
 -- is about to set READY, all of them are. In READY the section is 0, and nothing is listed or
--- counted
+-- counted.
 pub record PhasesShow (key : RunSetup) (memory : ℕ → ℕ) (acc : ℕ → List (MemoryOp CallAccess)) (p : ℕ) : Type 0 where
   pub reset : (end_by key acc p).handshake.phase ≡ Reset → has_written (acc p) ≡ false
   pub clears : (at more state : ℕ) → place_by key acc p ≡ Clearing at more state → ((end_by key acc p).handshake.phase ≡ Init) ×
@@ -125,8 +124,8 @@ pub record PhasesShow (key : RunSetup) (memory : ℕ → ℕ) (acc : ℕ → Lis
   pub empty : (end_by key acc p).handshake.phase ≡ Ready →
       ((end_by key acc p).accepted ≡ []) × ((end_by key acc p).freed ≡ 0) × ((end_by key acc p).delivered ≡ []) × ((end_by key acc p).returned ≡ 0)
 
--- no more frames are in flight than may be; and in a session each of them is spelled, in the
--- descriptor of its number and from the byte at which it starts
+-- At most the limit of frames is in flight. In a session each of them is spelled, in the descriptor
+-- of its number and from its first byte on.
 pub record FlightIsSpelled (key : RunSetup) (memory : ℕ → ℕ) (acc : ℕ → List (MemoryOp CallAccess)) (p : ℕ) : Type 0 where
   pub least : freed_by key acc p ≤ length (end_by key acc p).accepted
   pub most : length (end_by key acc p).accepted ≤ freed_by key acc p + limit_of key.queue
@@ -135,7 +134,7 @@ pub record FlightIsSpelled (key : RunSetup) (memory : ℕ → ℕ) (acc : ℕ �
   pub own_place : (k : ℕ) → InSession (end_by key acc p).handshake.phase → freed_by key acc p ≤ k → k < length (end_by key acc p).accepted →
       address_at key.queue (section_words key memory p) (k % limit_of key.queue) ≡ start_of key.queue (lengths_of (end_by key acc p).accepted) k
 
--- an offer is open whose frame isn't accepted yet
+-- An offer is open whose frame isn't accepted yet.
 abbrev pub offered_at : Place → Option PendingOffer
 offered_at (ReadingUsedIndex pending freed) = Some pending
 offered_at (ReadingUsedId pending freed more) = Some pending
@@ -148,12 +147,12 @@ offered_at (WritingAvailEntry pending) = Some pending
 offered_at (WritingAvailIndex pending) = Some pending
 offered_at place = None
 
--- the word is one of the `count` words from word `first` on
+-- The word is one of the `count` words from word `first` on.
 abbrev pub IsAmong : (first count : ℕ) → ℕ → Type 0
 IsAmong first count w = (first ≤ w) × (w < first + count)
 
--- the word `w` is one of the words of the pending offer's frame, of the descriptor of its number or
--- of its available entry
+-- The word `w` is one of the words of the pending offer's frame, of the descriptor of its number or
+-- of its available entry.
 abbrev pub IsOfFrame : RunSetup → ℕ → PendingOffer → ℕ → Type 0
 IsOfFrame key p pending w =
     IsAmong (section_start key.geometry p + start_of key.queue pending.lengths pending.number / 4) (footprint_of key.queue (length pending.frame) / 4) w ⊎
@@ -162,7 +161,7 @@ IsOfFrame key p pending w =
 
 -- An open offer is of the frame after those accepted. It has stored in the bytes that this frame
 -- takes, in the descriptor and in the entry of its number alone. As soon as it has stored anything,
--- no frame in flight has that descriptor or any of those bytes
+-- no frame in flight has that descriptor or any of those bytes.
 pub record OfferStores (key : RunSetup) (acc : ℕ → List (MemoryOp CallAccess)) (p : ℕ) (pending : PendingOffer) : Type 0 where
   pub number : pending.number ≡ length (end_by key acc p).accepted
   pub lengths : pending.lengths ≡ lengths_of ((end_by key acc p).accepted ++ pending.frame ∷ [])
@@ -176,15 +175,15 @@ pub record OfferStores (key : RunSetup) (acc : ℕ → List (MemoryOp CallAccess
 abbrev pub OpenOfferStores : RunSetup → (ℕ → ℕ) → (ℕ → List (MemoryOp CallAccess)) → ℕ → Type 0
 OpenOfferStores key memory acc p = (pending : PendingOffer) → offered_at (place_by key acc p) ≡ Some pending → OfferStores key acc p pending
 
--- the index that an open poll has read represents `count` frames: no fewer than were delivered, and
--- at most the queue size more
+-- The index that an open poll has read represents `count` frames: at least those delivered, and at
+-- most the queue size more.
 abbrev pub IsPublished : Sizes → End → ℕ → Type 0
 IsPublished q end count = (length end.delivered ≤ count) × (count ≤ length end.delivered + size_of q)
 
 -- The values that an open call has read and holds are within their ranges. In an offer it is the
 -- used index: the frames that are freed once the ids left are read are at most those accepted. In a
 -- poll the values are the available index, the entry, the address, the length, and the words read
--- so far, fewer than the frame's
+-- so far, fewer than the frame's.
 abbrev pub IsInRange : Sizes → End → Place → Type 0
 IsInRange q end (ReadingUsedId pending freed more) = freed + suc more ≤ length end.accepted
 IsInRange q end (ReadingAvailEntry number more) = IsPublished q end (number + suc more)
@@ -203,12 +202,12 @@ IsInRange q end place = Unit {0}
 abbrev pub ReadValuesAreInRange : RunSetup → (ℕ → ℕ) → (ℕ → List (MemoryOp CallAccess)) → ℕ → Type 0
 ReadValuesAreInRange key memory acc p = IsInRange key.queue (end_by key acc p) (place_by key acc p)
 
--- its sessions by their numbers
+-- Its sessions by their numbers.
 abbrev pub numbers_by : RunSetup → (ℕ → List (MemoryOp CallAccess)) → ℕ → Numbers
 numbers_by key acc p = (derived_state key p (acc p)).numbers
 
--- Its session word is the number of sessions that it opened, or one more, which it stored since,
--- and then it is in RESET or INIT; so in READY and RUN it is the number opened
+-- Its session word is the number of sessions that it opened, or one more that it stored since. In
+-- the latter case it is in RESET or INIT, so in READY and RUN the word is the number opened.
 pub record SessionWordIs (key : RunSetup) (words : ℕ → ℕ) (acc : ℕ → List (MemoryOp CallAccess)) (p : ℕ) : Type 0 where
   pub word : WordIs (end_by key acc p) (numbers_by key acc p) (words p)
   pub opened : InSession (end_by key acc p).handshake.phase → words p ≡ (numbers_by key acc p).log.opened
@@ -217,7 +216,7 @@ abbrev pub SessionWordsAreNumbers : Type 0
 SessionWordsAreNumbers = (key : RunSetup) (s : State ℕ View) (kept : TableInvariant key s) (p : ℕ) → honest_of key p ≡ true →
     SessionWordIs key (session_words key s.words) (accesses_by kept.acc) p
 
--- the session word of a hostile link peer stays 0
+-- The session word of a hostile link peer stays 0.
 abbrev pub HostileSessionsAreNone : Type 0
 HostileSessionsAreNone = (key : RunSetup) (s : State ℕ View) (kept : TableInvariant key s) (p : ℕ) → p < 2 → honest_of key p ≡ false →
     session_words key s.words p ≡ 0
@@ -227,27 +226,26 @@ HostileSessionsAreNone = (key : RunSetup) (s : State ℕ View) (kept : TableInva
 -- The sessions of each that reached RUN carry numbers of the other's sessions, which rise. While a
 -- peer is in RUN, the number is that of the session which the other opened last. Each peer
 -- delivered a beginning of what was accepted in the session that it carries. Before it attends
--- again, the other has opened a later one
+-- again, the other has opened a later one.
 abbrev pub SessionsArePaired : Type 0
 SessionsArePaired = (key : RunSetup) (s : State ℕ View) (kept : TableInvariant key s) (p : ℕ) → honest_of key 0 ≡ true → honest_of key 1 ≡ true → p < 2 →
     IsPaired (end_by key (accesses_by kept.acc) p) (end_by key (accesses_by kept.acc) (1 - p)) (place_by key (accesses_by kept.acc) p)
     (place_by key (accesses_by kept.acc) (1 - p)) (numbers_by key (accesses_by kept.acc) p) (numbers_by key (accesses_by kept.acc) (1 - p))
     (session_words key s.words p)
 
--- neither is at a refusal or bears its mark
+-- Neither is refusing or has the mark of a refusal.
 pub record NeverRefuses (key : RunSetup) (memory : ℕ → ℕ) (acc : ℕ → List (MemoryOp CallAccess)) (p : ℕ) : Type 0 where
   pub place : place_by key acc p ≢ Refusing
   pub mark : (end_by key acc p).handshake.mark ≡ false
 
--- while one attends to the other's session, in RUN or about to set it, the other isn't in INIT, nor
--- about to set it
+-- While one is attached, in RUN or about to set it, the other isn't in INIT, nor about to set INIT.
 abbrev pub OtherOpensNone : RunSetup → (ℕ → ℕ) → (ℕ → List (MemoryOp CallAccess)) → ℕ → Type 0
 OtherOpensNone key memory acc p = IsAttached (end_by key acc p) (place_by key acc p) → OpensNone (end_by key acc (1 - p)) (place_by key acc (1 - p))
 
 -- The frames freed are at most those returned, these at most those delivered, and these at most
 -- those accepted. The frames in flight are at most the limit. The frames delivered are the first
 -- ones accepted. Each frame from those freed on is spelled. The used elements from those freed to
--- those returned name the descriptors in order
+-- those returned name the descriptors in order.
 pub record PairKeeps (key : RunSetup) (memory : ℕ → ℕ) (acc : ℕ → List (MemoryOp CallAccess)) (p : ℕ) : Type 0 where
   pub returned : freed_by key acc p ≤ (end_by key acc (1 - p)).returned
   pub delivered : (end_by key acc (1 - p)).returned ≤ length (end_by key acc (1 - p)).delivered
@@ -261,7 +259,7 @@ pub record PairKeeps (key : RunSetup) (memory : ℕ → ℕ) (acc : ℕ → List
 
 -- In a link with events: the event word of one, as it wrote that word last, asks for a doorbell at
 -- a frame of the session that it carried then. The other's offer of that frame, once it has read
--- the event, goes on to the doorbell
+-- the event, goes on to the doorbell.
 abbrev pub AskedIsRung : RunSetup → (ℕ → ℕ) → (ℕ → List (MemoryOp CallAccess)) → ℕ → Type 0
 AskedIsRung key memory acc p = has_events key.queue ≡ true → (frame : FrameNumber) → (derived_state key p (acc p)).wake.asked ≡ At frame →
     ¬ Contains (derived_state key (1 - p) (acc (1 - p))).wake.missed frame
@@ -269,7 +267,7 @@ AskedIsRung key memory acc p = has_events key.queue ≡ true → (frame : FrameN
 -- The values that an open call has read and holds are what the other has written. The used index
 -- represents frames that were returned, and the available index represents frames that were
 -- accepted. The entry, the address, the length and the words are those of the frame with this
--- number
+-- number.
 abbrev pub IsAsSent : Sizes → (accepted : List (List ℕ)) (returned : ℕ) → Place → Type 0
 IsAsSent q accepted returned (ReadingUsedId pending freed more) = freed + suc more ≤ returned
 IsAsSent q accepted returned (ReadingAvailEntry number more) = number + suc more ≤ length accepted
@@ -292,10 +290,10 @@ IsAsSent q accepted returned place = Unit {0}
 abbrev pub ReadValuesAreAsSent : RunSetup → (ℕ → ℕ) → (ℕ → List (MemoryOp CallAccess)) → ℕ → Type 0
 ReadValuesAreAsSent key memory acc p = IsAsSent key.queue (end_by key acc (1 - p)).accepted (end_by key acc (1 - p)).returned (place_by key acc p)
 
--- Beside a hostile link peer
+-- A hostile link peer.
 
--- each word of the region is below 2^32; and whatever number below 2^32 a hostile peer stores in
--- its section or in its state word, the rule is kept, with the lists of the others as they were
+-- Each word of the region is below 2^32. If a hostile peer stores a number below 2^32 in its
+-- section or in its State word, the rule holds with the same lists of the others.
 pub record HostileWordsAreFree : Type 0 where
   pub below : (key : RunSetup) (s : State ℕ View) (kept : TableInvariant key s) (w : ℕ) → w < word_count key.geometry → slice_index s.words w < 2 ^ 32
   pub free : (key : RunSetup) (s : State ℕ View) (kept : TableInvariant key s) (p w n : ℕ) → p < key.geometry.peers → honest_of key p ≡ false →

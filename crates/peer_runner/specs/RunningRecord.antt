@@ -25,7 +25,7 @@ use Rattle.shared_words.specs.Passes.{actions_of}
 use Rattle.shared_words.specs.PeerRoutes.{events_of}
 use Rattle.peer_runner.specs.OwnRecord.{IsOwnRecord}
 
--- the lines of a peer: none where it doesn't run
+-- The lines of a peer, or none if it doesn't run.
 abbrev pub lines_if : ℕ → Part → List Line
 lines_if p part = if part.peer == p then part.lines else []
 
@@ -36,11 +36,11 @@ abbrev pub refuses : Line → Bool
 refuses (line.Refuse peer refused) = true
 refuses _ = false
 
--- What the lines of a peer report of it:
--- * `state`: its state;
+-- The state of a reader of a peer's lines:
+-- * * `state`: the peer's State;
 -- * `accepted` and `delivered`: the frames that it accepted and delivered in its present session;
 -- * `log`: the log of its sessions;
--- * `asked`: the doorbell that it asks for by its event word;
+-- * * `asked`: the doorbell that it requests by its event word;
 -- * `missed`: the frames of all its sessions for which it rang none;
 -- * `read`: whether its last line is a read
 pub record RecordReader : Type 0 where
@@ -55,22 +55,22 @@ pub record RecordReader : Type 0 where
 abbrev pub initial_reader : RecordReader
 initial_reader = record { state = 0; accepted = []; delivered = []; log = no_sessions; asked = Nowhere; missed = []; read = false }
 
--- the peer as a side of the link, by what its sessions depend on
+-- The peer as a side of the link, by what its sessions depend on.
 abbrev pub side_in : RecordReader → Side
 side_in t = record initial_side { state = t.state; accepted = t.accepted; delivered = t.delivered }
 
--- its log after the State step or the reset `told`. The number that a State step with 3 carries is
--- in the next line
+-- The log after the State step or the reset `told`. The number that a State step with 3 carries is
+-- in the next line.
 abbrev pub log_in : RecordReader → SideEvent → Log
 log_in t told = log_after t.log no_sessions (side_in t) told
 
--- a call that is over right after a read is an offer, of the frame accepted last: it read an event
--- that doesn't ask for this frame, and rang no doorbell
+-- A call that is over right after a read is an offer of the frame accepted last. It read an event
+-- that wants no doorbell for this frame, and rang none.
 abbrev pub missed_now : RecordReader → List FrameNumber
 missed_now t = if t.read then t.missed ++ accepted_last t.log t.accepted ∷ [] else t.missed
 
--- a value that is none of the four states is that of RESET, as the handshake takes it; and one of 2
--- opens a session
+-- A value that is none of the four states counts as RESET, as in the handshake. A value of 2 opens
+-- a session.
 abbrev pub reader_after_state : RecordReader → ℕ → RecordReader
 reader_after_state t value = record {
   state = state_of (phase_at value);
@@ -88,8 +88,9 @@ reader_after_reset t = record t { state = 0; log = log_in t WasReset; asked = la
 abbrev pub with_carried : Log → ℕ → Log
 with_carried log other = record log { carried = other }
 
--- `event` is the peer's own event word. After a write of this word a look that finds no frame asks
--- for a doorbell at the next one; another mark before that look ends the poll that wrote it
+-- `event` is the peer's own event word. If a look after a write of this word finds no frame, the
+-- peer requests a doorbell at the next frame. Another mark before that look ends the poll that
+-- wrote the word.
 abbrev pub reader_after_line : (event : ℕ) → RecordReader → Line → RecordReader
 reader_after_line event t (line.Read p word value) = record t { read = true }
 reader_after_line event t (line.Write p word value) = record t { asked = if word == event then Written else t.asked; read = false }
@@ -111,8 +112,8 @@ reader_after_lines event t (line ∷ lines) = reader_after_lines event (reader_a
 abbrev pub reader_of_lines : (event : ℕ) → List Line → RecordReader
 reader_of_lines event lines = reader_after_lines event initial_reader lines
 
--- the lines, as the reader `t` has them, report exactly the derived state `s`: its side, its log,
--- its request and its missed frames
+-- The state of the reader `t` is exactly the derived state `s`: its side, its log, its request and
+-- its missed frames.
 pub record ReaderMatches (s : DerivedState) (t : RecordReader) : Type 0 where
   pub side : side_in t ≡ own_side s.end
   pub log : t.log ≡ s.numbers.log
@@ -124,23 +125,23 @@ reader_of_part world parts p = reader_of_lines (event_word (config_of world p)) 
 
 -- Of two honest peers: the sessions of each that reached RUN carry sessions of the other's by their
 -- numbers, which rise. In each session the peer delivered a beginning of what the other accepted in
--- the session that it carries. Neither refused anything
+-- the session that it carries. Neither refused anything.
 pub record ArePaired (world : World) (parts : List Part) : Type 0 where
   pub deliver : (p : ℕ) → p < 2 → DeliversInOrder (side_in (reader_of_part world parts p)) (side_in (reader_of_part world parts (1 - p))) (reader_of_part world parts p).log
       (reader_of_part world parts (1 - p)).log
   pub never_refuse : (p : ℕ) → p < 2 → list_any refuses (lines_by parts p) ≡ false
 
--- of an honest peer beside a hostile one: its sessions carry none of the other's
+-- The sessions of an honest peer whose other is hostile carry none of the other's.
 abbrev pub CarryNone : World → List Part → Type 0
 CarryNone world parts = (p : ℕ) → p < 2 → is_link world p ≡ true → is_link world (1 - p) ≡ false → CarriesNone (reader_of_part world parts p).log
 
--- where the event word of a peer, as the peer wrote it last, asks for a doorbell at a frame of the
--- other's session that it carried then, the other's offer of that frame didn't end without one
+-- If the event word of a peer, as it wrote the word last, requests a doorbell at a frame of the
+-- session that it carried then, the other's offer of that frame didn't end without it.
 abbrev pub AreWoken : World → List Part → Type 0
 AreWoken world parts = (p : ℕ) (frame : FrameNumber) → p < 2 → (reader_of_part world parts p).asked ≡ At frame →
     ¬ Contains (reader_of_part world parts (1 - p)).missed frame
 
--- Interrupts that came, and doorbells that may have brought them
+-- Interrupts, and the doorbells that may have brought them.
 
 unfoldable pub how_many : (Line → Bool) → List Line → ℕ
 how_many f [] = 0
@@ -154,25 +155,25 @@ abbrev pub is_interrupt_by : (vector : ℕ) → Line → Bool
 is_interrupt_by vector (line.Interrupt q v) = v == vector
 is_interrupt_by vector _ = false
 
--- a doorbell at peer P with this vector, or with any where all interrupts come by the one line
+-- A doorbell at peer P with this vector, or with any vector if all interrupts come by one line.
 abbrev pub is_bell : (intx : Bool) → (p vector : ℕ) → Line → Bool
 is_bell intx p vector (line.Doorbell q target v) = target == p && (intx || v == vector)
 is_bell intx p vector _ = false
 
--- how often they stand in parts
+-- The number of these lines in parts.
 unfoldable pub bells_in : (intx : Bool) → (p vector : ℕ) → List Part → ℕ
 bells_in intx p vector [] = 0
 bells_in intx p vector (part ∷ parts) = how_many (is_bell intx p vector) part.lines + bells_in intx p vector parts
 
 -- For each peer and vector: the interrupts in the peer's lines are at most the doorbells in `parts`
--- that may have brought them. The lines of a peer in one-shot mode have one interrupt at most
+-- that may have brought them. The lines of a peer in one-shot mode have one interrupt at most.
 pub record InterruptsMatch (world : World) (parts : List Part) : Type 0 where
   pub rung : (p vector : ℕ) → p < world.geometry.peers → how_many (is_interrupt_by vector) (lines_by parts p) ≤ bells_in (is_intx world.wiring) p vector parts
   pub once : (p : ℕ) → p < world.geometry.peers → is_one_shot (bytes_after (devices_of world) (events_of world.acts) p) ≡ true →
       how_many is_interrupt (lines_by parts p) ≤ 1
 
--- `parts` is the record of a run of the scenario, in which the peers did to the words what the pass
--- `h` holds
+-- `parts` is the record of a run of the scenario whose actions on the words are those of the pass
+-- `h`.
 pub record IsRunOf (world : World) (h : PassView) (parts : List Part) : Type 0 where
   pub peers : peers_of parts ≡ running_peers world
   pub own : All (λ (part : Part). IsOwnRecord world (actions_of h part.peer) part) parts

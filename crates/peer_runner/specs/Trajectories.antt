@@ -21,13 +21,13 @@ use Rattle.peer_runner.specs.DoorbellPaths.{is_guarded, doorbell_path_in}
 use Rattle.peer_runner.specs.Turns.{has_turn_left, IsSpanSpent}
 use Rattle.peer_runner.specs.Runners.{Runner, initial_runner, has_finished, place_in, IsDone, due_of, looks_now, looked_on, due_word, met_on, restarted_on, turned, RunnerRefines, IsThere, IsAutoPeer}
 
--- a turn of the runner that is no look
+-- A turn of the runner that is no look.
 pub record IsNoLook (config : EndConfig) (routes : List Route) (r : Runner) : Type 0 where
   pub left : has_turn_left r.spans ≡ true
   pub first : looks_now (route_to routes config.me) (due_of config r) r.looks ≡ false
 
--- one turn leads it from r to there: a look; a turn at a session word; a step, or a part of its
--- doorbell; or a reset
+-- One turn leads from r to there: a look, a turn at a session word, a step or a part of its
+-- doorbell, or a reset.
 pub data GoesOn (config : EndConfig) (routes : List Route) (r : Runner) : Runner → Type 0 where
   by_look : (found : ℕ) → has_turn_left r.spans ≡ true → looks_now (route_to routes config.me) (due_of config r) r.looks ≡ true →
       GoesOn config routes r (looked_on r found)
@@ -40,15 +40,15 @@ pub data GoesOn (config : EndConfig) (routes : List Route) (r : Runner) : Runner
       GoesOn config routes r (turned routes config r done)
   by_reset : IsSpanSpent r.spans → has_finished r ≡ false → GoesOn config routes r (restarted_on r)
 
--- with this plan and these spans the runner comes there, turn by turn; at each an endpoint stands
--- where it is
+-- With this plan and these spans the runner comes there, turn by turn. In each of these states it
+-- is refined by an endpoint.
 pub data Trajectory (key : RunSetup) (me : ℕ) (routes : List Route) (plan : Plan) (spans : List ℕ) : Runner → Type 0 where
   starts : Trajectory key me routes plan spans (initial_runner plan.frames plan.expected spans)
   follows : (r next : Runner) (end : Engine) → Trajectory key me routes plan spans r → RunnerRefines key me routes r end →
       GoesOn (config_in key me) routes r next →
       Trajectory key me routes plan spans next
 
--- the code's peer, with its pass of these words, is where the runner came
+-- The code's peer, with its pass of these words, refines a state of the trajectory.
 pub record IsOnTrajectory (id : TableId) (key : RunSetup) (me : ℕ) (routes : List Route) (plan : Plan) (spans : List ℕ)
     (r : Runner) (pass : PassView) (auto_peer : AutoPeer) : Type 0 where
   pub comes : Trajectory key me routes plan spans r
@@ -56,7 +56,7 @@ pub record IsOnTrajectory (id : TableId) (key : RunSetup) (me : ℕ) (routes : L
   pub there : IsThere key me routes r pass auto_peer.driven.end
   pub is : IsAutoPeer auto_peer r
 
--- it went on, and has these spans now; or it is finished, and where it was
+-- The peer continued and has these spans now, or it is finished and unchanged.
 abbrev pub WentTo : List ℕ → Runner → Runner → Bool → Type 0
 WentTo spans r next true = next.spans ≡ spans
 WentTo spans r next false = (next ≡ r) × (has_finished r ≡ true)

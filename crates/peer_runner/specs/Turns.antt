@@ -60,11 +60,11 @@ pub record Running : Type 0 where
 abbrev pub comes_to : Peer → List ℕ → Running
 comes_to peer spans = record { peer = peer; looks = Some 0; ringing = false; opened = 0; met = None; spans = spans }
 
--- all turns of a peer with these spans, and with a reset between each two
+-- All turns of a peer with these spans, and a reset between each two spans.
 abbrev pub all_turns : List ℕ → ℕ
 all_turns spans = sum spans + (length spans - 1)
 
--- a turn is left of the span; and the spans after it
+-- A turn is left of the span. The spans after it.
 abbrev pub has_turn_left : List ℕ → Bool
 has_turn_left [] = false
 has_turn_left (turns ∷ spans) = nat_lt 0 turns
@@ -73,7 +73,7 @@ abbrev pub spent : List ℕ → List ℕ
 spent [] = []
 spent (turns ∷ spans) = (turns - 1) ∷ spans
 
--- none is left of it, and another span follows; and the spans from that one on
+-- No turn is left of the span, and another span follows. The spans from that one on.
 abbrev pub IsSpanSpent : List ℕ → Type 0
 IsSpanSpent (zero ∷ next ∷ spans) = Unit {0}
 IsSpanSpent spans = ⊥
@@ -82,25 +82,25 @@ abbrev pub later : List ℕ → List ℕ
 later [] = []
 later (turns ∷ spans) = spans
 
--- Which turn is to come
+-- The next turn.
 
--- a step is the next one of the open call, else the first one of the call that the automatic peer
--- chooses; or it is the step of the storm
+-- The next step: of the open call, of the call that an automatic peer chooses if none is open, or
+-- of the storm.
 abbrev pub TakesStep : EndConfig → (ℕ → Step) → Driver → Peer → Step → Peer → Type 0
 TakesStep config storm (Storms x) peer step after = (step ≡ storm x) × (after ≡ record peer { driver = Storms (storm_after x) })
 TakesStep config storm _ peer step after = (left : CallTree) × Goes (opened config peer).left step left × (after ≡ stepped (opened config peer) step left)
 
--- an automatic peer sleeps where it waits armed and no frame is left
+-- An automatic peer sleeps if it waits armed and no frame is left.
 abbrev pub sleeps : EndConfig → End → Auto → Bool
 sleeps config end auto = is_armed config end && is_empty auto.frames
 
--- one that takes interrupts looks before each choice: once; or, where it sleeps, until a look has
--- found a bit, at most 64 times
+-- A peer whose interrupts are enabled looks before each choice: once, or, if it sleeps, until a
+-- look has found a bit, at most 64 times.
 abbrev pub looks_due : EndConfig → End → CallTree → Driver → ℕ
 looks_due config end Ended (Chooses auto) = if sleeps config end auto then 64 else 1
 looks_due config end _ _ = 0
 
--- fewer looks than these were taken, and none of them found a bit
+-- Fewer than this number of looks were taken, and none of them found a bit.
 abbrev pub is_below : Option ℕ → ℕ → Bool
 is_below None due = false
 is_below (Some taken) due = nat_lt taken due
@@ -112,8 +112,8 @@ looks_after (Some taken) found = if found == 0 then Some (taken + 1) else None
 abbrev pub looks_next : EndConfig → Route → Running → Bool
 looks_next config own run = own.enabled && is_below run.looks (looks_due config run.peer.end run.peer.left run.peer.driver)
 
--- the next step leads the peer there: no look comes first; and its ring is to come, and its
--- doorbell is at a peer in one-shot mode, or not
+-- The next step leads the peer there. No look comes first. The doorbell of the step is to a peer in
+-- one-shot mode with its ring left, or not.
 pub record StepsTo (config : EndConfig) (storm : ℕ → Step) (routes : List Route) (run : Running)
     (ringing guarded : Bool) (step : Step) (after : Peer) : Type 0 where
   pub first : looks_next config (route_to routes config.me) run ≡ false
@@ -121,29 +121,29 @@ pub record StepsTo (config : EndConfig) (storm : ℕ → Step) (routes : List Ro
   pub guards : is_guarded (doorbell_path_in routes step.access) ≡ guarded
   pub takes : TakesStep config storm run.peer.driver run.peer step after
 
--- the State step with this value, of a peer that chooses its calls
+-- The State step with this value, of a peer that chooses its calls.
 abbrev pub sets : ℕ → Driver → Access → Bool
 sets state (Chooses auto) (access.State value) = value == state
 sets state _ _ = false
 
--- a State step with 2 opens a session
+-- A State step with 2 opens a session.
 abbrev pub opens : Access → ℕ
 opens (access.State state) = if state == 2 then 1 else 0
 opens _ = 0
 
--- a step with this access leaves the peer so
+-- The effect of a step with this access on the peer.
 abbrev pub steps_on : Running → Access → Peer → Running
 steps_on run a after = record { peer = after; looks = Some 0; ringing = false; opened = run.opened + opens a; met = None; spans = spent run.spans }
 
--- where a clear found the bit, the step isn't done, and its ring is to come
+-- If a clear found the bit set, the step isn't done, and its ring is next.
 abbrev pub is_set : ℕ → Bool
 is_set found = bit_at found 0 == 1
 
 abbrev pub cleared_to : (found : ℕ) → Running → Access → Peer → Running
 cleared_to found run a after = if is_set found then record run { looks = Some 0; ringing = true; spans = spent run.spans } else steps_on run a after
 
--- A reset drops the open call, and the ring of a doorbell that is to come: a storm goes on with its
--- next step
+-- A reset drops the open call, and the ring of a doorbell that is left. A storm continues with its
+-- next step.
 abbrev pub skipped : (ringing : Bool) → Driver → Driver
 skipped true (Storms x) = Storms (storm_after x)
 skipped _ driver = driver
@@ -158,12 +158,12 @@ restarts_to run = record {
   spans = later run.spans;
 }
 
--- no call is open
+-- No call is open.
 abbrev pub has_ended : CallTree → Bool
 has_ended Ended = true
 has_ended _ = false
 
--- no call is open, and the automatic peer is finished
+-- No call is open, and the automatic peer is finished.
 abbrev pub is_end : Choice → Bool
 is_end IsFinished = true
 is_end _ = false
@@ -175,15 +175,15 @@ rests end _ = false
 abbrev pub is_finished : Peer → Bool
 is_finished peer = has_ended peer.left && rests peer.end peer.driver
 
--- a step comes next that sets this state; a number is met for it, or not
+-- The next step sets this State. A number is met for it, or not.
 pub record ComesToSet (config : EndConfig) (storm : ℕ → Step) (routes : List Route) (run : Running) (state : ℕ) (step : Step) (after : Peer) : Type 0 where
   pub step_is : StepsTo config storm routes run false false step after
   pub sets_it : sets state run.peer.driver step.access ≡ true
 
 -- A look, a step and each part of a doorbell are turns of the span. A peer that chooses its calls
 -- stores the number of the session that it opens right before its State step with 2, and loads the
--- other's number right before its State step with 3, which bears both numbers. Where the turns of a
--- span are taken and another span follows, the peer is reset, unless it is finished
+-- other's number right before its State step with 3, which bears both numbers. If the turns of a
+-- span are taken and another span follows, the peer is reset, unless it is finished.
 abbrev pub TakesTurn : EndConfig → (ℕ → Step) → List Route → Running → Turn → Running → Type 0
 TakesTurn config storm routes run (Looks found) after = (has_turn_left run.spans ≡ true) × (looks_next config (route_to routes config.me) run ≡ true) ×
     (after ≡ record run { looks = looks_after run.looks found; spans = spent run.spans })
@@ -207,9 +207,9 @@ TakesTurns config storm routes run [] after = after ≡ run
 TakesTurns config storm routes run (turn ∷ turns) after = (mid : Running) × TakesTurn config storm routes run turn mid ×
     TakesTurns config storm routes mid turns after
 
--- What a turn does to the words
+-- The actions of a turn.
 
--- a step makes its access to the region; a doorbell its ring, if it has one
+-- A step makes its access to the region, and a doorbell its ring, if any.
 abbrev pub acted_by : List Route → Access → ℕ → List (Action (MemoryOp ObservedAccess))
 acted_by routes (access.Read word) value = accessed (called (touch (access.Read word) value)) ∷ []
 acted_by routes (access.Write word written) value = accessed (called (touch (access.Write word written) value)) ∷ []
@@ -236,7 +236,7 @@ actions_in routes turns = flat_map (acted_in routes) turns
 
 -- The lines of a turn
 
--- the lines of a look: an interrupt for each bit below n that it found
+-- The lines of a look: an interrupt for each bit below n that it found.
 abbrev pub interrupt_line : ℕ → ℕ → ℕ → List Line
 interrupt_line me bit found = if bit_at found bit == 0 then [] else line.Interrupt me bit ∷ []
 
@@ -244,7 +244,7 @@ unfoldable pub interrupt_lines : ℕ → ℕ → ℕ → List Line
 interrupt_lines zero me found = []
 interrupt_lines (suc n) me found = interrupt_lines n me found ++ interrupt_line me n found
 
--- A call is quiet if it finds nothing, all in one step, a read. Quiet calls are:
+-- A quiet call finds nothing, in one step, a read. Quiet calls are:
 -- * a Tick that ends without a State step;
 -- * a Poll that finds no frame and asks for no doorbell;
 -- * an Offer that reclaims none and meets a full ring
@@ -258,12 +258,13 @@ abbrev pub is_quiet : (first : Bool) → Access → List Mark → Bool
 is_quiet first (access.Read word) marks = first && finds_nothing marks
 is_quiet first other marks = false
 
--- the lines of a step are those of its access and of its marks; there are none if its call is quiet
+-- The lines of a step are those of its access and of its marks. There are none if its call is
+-- quiet.
 abbrev pub lines_of : ℕ → (first : Bool) → Access → ℕ → List Mark → List Line
 lines_of p first a value marks = if is_quiet first a marks then [] else access_lines p a value ++ map (mark_line p) marks
 
--- the doorbell's line is recorded at its clear, and the marks of the step at the end of the
--- doorbell
+-- The doorbell's line is recorded at its clear, and the marks of the step at the end of the
+-- doorbell.
 abbrev pub marks_of : Turn → List Mark
 marks_of (Makes first step) = step.marks
 marks_of (Clears step found) = if is_set found then [] else step.marks
@@ -271,7 +272,7 @@ marks_of (Rings step) = step.marks
 marks_of (Enters step opened other) = step.marks
 marks_of _ = []
 
--- the lines of a turn: a session's numbers are in the line after the State step with 3
+-- The lines of a turn. The numbers of a session are in the line after the State step with 3.
 abbrev pub lines_in : ℕ → Turn → List Line
 lines_in p (Looks found) = interrupt_lines 64 p found
 lines_in p (Makes first step) = lines_of p first step.access step.value step.marks

@@ -42,7 +42,7 @@ impl Done {
         }
     }
 
-    /// Whether this is a clear that found the bit set. Then the ring is to come, which ends the
+    /// Whether this is a clear that found the bit set. Then only the ring is left, which ends the
     /// step.
     pub fn awaits_ring(self) -> bool
         ensures { result ≡ awaits_ring self }

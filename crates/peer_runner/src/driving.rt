@@ -132,7 +132,7 @@ fn auto_span<G: Gate>(
 }
 
 /// Resets an automatic peer, by the turn with this number, and returns true. After that no call is
-/// open and no ring of a doorbell is to come. Returns false if the peer is finished: then the peer
+/// open and no ring of a doorbell is left. Returns false if the peer is finished: then the peer
 /// isn't reset.
 fn auto_restart<G: Gate>(
     context: &PeerContext<'_>,
@@ -204,7 +204,7 @@ fn drive_auto<G: Gate>(
     })
 }
 
-/// Resets a storm. The reset drops the ring of a doorbell that is to come: then the storm continues
+/// Resets a storm. The reset drops the ring that is left of a doorbell: then the storm continues
 /// with its next step.
 fn storm_restart(
     words: &Words,
@@ -269,7 +269,7 @@ fn drive_storm<G: Gate>(
     })
 }
 
-/// Takes the turns of the plan's peer, by what the plan says of its driver.
+/// Takes the turns of the plan's peer, as the plan's driver requires.
 fn drive_plan<G: Gate>(
     alloc: Global,
     words: &Words,
@@ -328,9 +328,9 @@ fn drive_plan<G: Gate>(
 /// Takes the turns of a plan's peer, and waits for no other peer. Between two spans the peer is
 /// reset.
 ///
-/// Requires that the pass is of the words and has this peer alone, with an empty list; that the
-/// driver is at its start; and that the routes are those with which the words were made. Returns
-/// the peer's own trace, without its quiet calls, once all turns are taken or the peer is finished.
+/// Requires that the pass is of the words and of this peer alone, with an empty list, that the
+/// driver is at its start, and that the words were made with the routes. Returns the peer's own
+/// trace, without its quiet calls, once all turns are taken or the peer is finished.
 ///
 /// Returns `NoMemory` if an allocation fails. Then the pass has the actions so far. The gate's
 /// `ended` is called once in either case.

@@ -64,8 +64,8 @@ pub fn words_are_written()
     ensures { OfEachHonest WordsAreWritten }
 {}
 
-/// The words that an honest link peer shows in each phase: it writes nothing in RESET, and its
-/// section is 0 as far as a tick has cleared it, and in READY.
+/// The words of an honest link peer in each phase. It writes nothing in RESET. Its section is 0 in
+/// READY, and as far as a tick has cleared it.
 // claim: In RESET an honest link peer has written no word since its last State. A tick that clears
 //    its section has left 0 in the words before the next one. In READY the section is 0, and
 //    nothing is listed or counted.
@@ -74,7 +74,7 @@ pub fn phases_show()
 {}
 
 /// The frames of an honest link peer in flight are within the limit, and its section spells each of
-/// them, whatever the other peer stores.
+/// them. This holds for all stores of the other peer.
 // claim: The frames in flight of an honest link peer are within the limit. In a session its section
 //    spells each of them, whatever the other stores, and a frame is in flight until its id was
 //    read.
@@ -135,9 +135,9 @@ pub fn sessions_are_paired()
     ensures { SessionsArePaired }
 {}
 
-/// What two honest link peers keep between them as soon as one of them attends: the counts of
-/// frames in their order, the delivered frames as the first ones accepted, and the frames in flight
-/// as the words spell them.
+/// The relation between two honest link peers as soon as one is attached. The counts of frames are
+/// in order, the delivered frames are the first ones accepted, and the words spell the frames in
+/// flight.
 // claim: As soon as one of two honest link peers is in RUN or about to set it, in either direction:
 //    freed, returned, delivered and accepted follow one another within the limit. The frames
 //    delivered are the first ones accepted, those not yet freed are spelled, and the used elements
@@ -147,9 +147,9 @@ pub fn pair_keeps()
 {}
 
 /// In a link with events: if an honest link peer asks the other honest one for a doorbell at a
-/// frame, then no offer of that frame ends without a doorbell. It asks by its event word until it
-/// writes that word again, through State writes and resets, and at a frame of the session that it
-/// carried as it looked.
+/// frame, then no offer of that frame ends without a doorbell. A request holds until the peer
+/// writes its event word again, through State writes and resets. It names a frame of the session
+/// that the peer carried at its look.
 // claim: In a link with events, where the event word of one of two honest link peers, as it wrote
 //    that word last, asks for a doorbell at a frame of the session that it carried then, the
 //    other's offer of that frame has not ended without one, through State writes and resets of

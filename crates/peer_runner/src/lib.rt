@@ -1,8 +1,8 @@
 //! Peers that run in threads of their own, over words that they share. A peer may be reset as it
 //! runs.
 //!
-//! The words are those of `shared_words`, under its rule. Whatever hostile threads store, the rule
-//! gives:
+//! The words are those of `shared_words`, under its rule. For all stores of hostile threads, the
+//! rule gives:
 //!
 //! - each access of an honest peer is the next one of its calls;
 //! - the frames that an honest peer delivers in a session are the first ones that the other honest
@@ -14,9 +14,8 @@
 //! progress. `laws` states what the words and the lists show between any two accesses.
 //!
 //! The crate acts on the words by the single actions of `shared_words` alone. It uses
-//! `link_endpoint` for the ends, `link_invariant` and `pair_sessions` for what the ends keep
-//! between them, `doorbell_irq` for the routes of doorbells, and `record_text` for the
-//! record of a run.
+//! `link_endpoint` for the ends, `link_invariant` and `pair_sessions` for the relation between
+//! them, `doorbell_irq` for the routes of doorbells, and `record_text` for the record of a run.
 //!
 //! # Design
 //!

@@ -56,8 +56,8 @@ fn make(
     }
 }
 
-/// Takes the next step of a storm, or the ring of a doorbell that is to come. `ringing` says
-/// whether a ring is to come, before the turn and after it: until then the storm stays at its step.
+/// Takes the next step of a storm, or the ring that is left of a doorbell. `ringing` says whether a
+/// ring is left, before the turn and after it: until then the storm stays at its step.
 ///
 /// Returns `NoMemory` if an allocation fails. Then the turn was taken, and its line may be missing.
 pub fn take_step(

@@ -62,7 +62,7 @@ pub fn looks_due(auto: &Auto, end: &Endpoint) -> u32
     }
 }
 
-/// Whether fewer looks than `due` were taken, of which none found a bit.
+/// Whether fewer looks than `due` were taken and none of them found a bit.
 fn is_below(looks: Option<u32>, due: u32) -> bool
     ensures { result ≡ is_below looks due }
 {
@@ -177,7 +177,7 @@ pub struct AutoPeer {
     pub driven: AutoEndpoint,
     /// The number of looks since its last step, or none if the last look found a bit.
     pub looks: Option<u32>,
-    /// Whether the ring of a doorbell is to come.
+    /// Whether the ring of a doorbell is left.
     pub ringing: bool,
     /// The number of sessions that it opened.
     pub opened: u32,
@@ -236,8 +236,8 @@ fn opened_after(opened: u32, access: Access) -> u32
     }
 }
 
-/// Takes a turn that is no look and meets no number. The turn is the next step of the open call, or
-/// the first one of the call that was chosen, or the ring of a doorbell that is to come.
+/// Takes a turn that is no look and meets no number. The turn is the next step of the open call,
+/// the first one of the chosen call, or the ring that is left of a doorbell.
 ///
 /// Returns `NoMemory` if an allocation fails. Then the turn was taken, and its lines may be
 /// missing.

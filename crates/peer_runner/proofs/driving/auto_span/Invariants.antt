@@ -6,7 +6,7 @@ use Rattle.peer_runner.specs.Trajectories.{IsOnTrajectory}
 use Rattle.peer_runner.proofs.Courses.{IsInSpan}
 use Rattle.peer_runner.proofs.driving.auto_span.Given as goal
 
--- the turns so far
+-- The turns so far.
 abbrev pub invariant-loop-taken : goal.invariant-loop-taken
 invariant-loop-taken g l = (plan : Plan) (spans : List ℕ) (r : Runner) (rest : List ℕ) → IsOnTrajectory l.context.words.now.shared.table_id l.context.words.now.shared.key l.context.me l.context.routes.now plan spans r l.initial.pass l.initial.peer →
     r.spans ≡ l.span ∷ rest → l.initial.turns ≡ length r.turns → l.initial.lines ≡ lines_of_turns l.context.me r.turns →

@@ -39,7 +39,7 @@ take_for-done-requires-clause-rings c = let key = c.args.context.now.words.now.s
     let refines = opened_in config r c.args.choice c.args.peer.now.driven.auto.frames c.open.new.self.end t.matches (c.open.ensures.refines config r.end r.place t.there.refines.refines) in
     λ rings. subst (MayRingBy c.args.context.now.routes.now c.next-access.result) (sym (ap front t.there.lists)) (may_come key me c.args.context.now.routes.now p.ringing r p.driven.end c.next-access.result t.there.refines (sym t.is.ringing) (c.next-access.ensures.access config r.end (place_in config r) refines) rings)
 
--- the pass, by the frames of the peer before its call was opened
+-- The pass, by the frames of the peer before its call was opened.
 pass_taken : (routes : List Route) (answer : Option Choice) (old new : Plan) (before after : PassView) (a : Access) (done : Done) → new ≡ old → after ≡ made before (done_of routes (call_chosen_by answer new.frames) a done) →
     after ≡ made before (done_of routes (call_chosen_by answer old.frames) a done)
 pass_taken routes answer old new before after a done same is = subst (λ (auto : Plan). after ≡ made before (done_of routes (call_chosen_by answer auto.frames) a done)) same is

@@ -41,7 +41,7 @@ goes_on version d now line is on = rw (is, on) refl
 pub goes_over : (version : ℕ) (d now : SoFar) (line : List ℕ) → scenario_judge.step d line ≡ Ok now → scenario_judge.has_ended now ≡ true → step (InScenario version d) line ≡ Ok (InHistory version (world_so_far now) [])
 goes_over version d now line is over = rw (is, over) refl
 
--- the lines of a scenario are the lines of a record's scenario part
+-- The lines of a scenario are the lines of a record's scenario part.
 pub scenario_goes : (version : ℕ) (d e : SoFar) (lines : List (List ℕ)) → Leads scenario_judge.machine d lines e → Goes machine (InScenario version d) lines (InHistory version (world_so_far e) [])
 scenario_goes version d e [] leads = absurd leads
 scenario_goes version d e (line ∷ []) leads = (InHistory version (world_so_far e) [], leads.0, goes_over version d e line leads.1 leads.2, refl, refl)
@@ -94,7 +94,7 @@ history_lines lines = map (bare pieces_of) (map row_of_line lines)
 abbrev pub count_line : List Line → List ℕ
 count_line lines = bare pieces_of (row Count (length lines ∷ []) [])
 
--- the lines before the count
+-- The lines before the count.
 abbrev pub body : Record → List (List ℕ)
 body r = first_line r.version ∷ (scenario_lines r.world ++ history_lines r.lines)
 
@@ -115,7 +115,7 @@ first_step : (version : ℕ) → IsOneOrTwo version → step AtFirst (first_line
 first_step version (One is) = subst (λ (v : ℕ). step AtFirst (first_line v) ≡ Ok (InScenario v at_start)) (sym is) refl
 first_step version (Two is) = subst (λ (v : ℕ). step AtFirst (first_line v) ≡ Ok (InScenario v at_start)) (sym is) refl
 
--- the lines of a record lead to its end
+-- The lines of a record lead to its end.
 pub spelled_leads : (r : Record) → IsRecord r → Leads machine AtFirst (body r ++ count_line r.lines ∷ []) (Whole r.version r.world r.lines)
 spelled_leads r is =
     let v = r.version in

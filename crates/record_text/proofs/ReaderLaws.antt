@@ -42,30 +42,30 @@ abbrev whole_record : Part → Record
 whole_record (Whole version w lines) = record { version = version; world = w; lines = lines }
 whole_record p = record { version = 0; world = world_so_far at_start; lines = [] }
 
--- what is read to its end is a record
+-- What is read to its end is a record.
 pub is_record : (bytes : List ℕ) (version : ℕ) (world : World) (lines : List Line) → reading bytes ≡ Ok (Whole version world lines) → IsSpelling (record { version = version; world = world; lines = lines }) bytes
 is_record bytes version world lines is = elim (is_read bytes (Whole version world lines) is) [ HasSpelling n w ls same spelled ↦ subst (λ (r : Record). IsSpelling r bytes) (sym (ap whole_record same)) spelled ]
 
 module _ (bytes : List ℕ) (version : ℕ) (world : World) (lines : List Line) (number : ℕ) (rest line more : List ℕ)
     (comes : read_pieces machine (InHistory version world lines) number (cuts 10 rest) ≡ reading bytes) (cut : cuts 10 rest ≡ line ∷ cuts 10 more) where
-  -- the line is wrong
+  -- The line is wrong.
   pub wrong_there : (cause : RecordCause) → history_step lines line ≡ Err cause → reading bytes ≡ Err (At cause (number + 1))
   wrong_there cause is = wrong_line machine (InHistory version world lines) number rest line more cause (reading bytes) cut (ap (with_world version world) is) comes
 
-  -- the line is one of the history
+  -- The line is one of the history.
   pub one_more : (found : Line) → history_step lines line ≡ Ok (Longer (lines ++ found ∷ [])) → read_pieces machine (InHistory version world (lines ++ found ∷ [])) (number + 1) (cuts 10 more) ≡ reading bytes
   one_more found is =
       good_line machine (InHistory version world lines) (InHistory version world (lines ++ found ∷ [])) number rest line more (reading bytes) cut (ap (with_world version world) is) refl comes
 
-  -- the line is the count, and nothing is after it
+  -- The line is the count, and nothing is after it.
   pub ends_there : history_step lines line ≡ Ok (Counted lines) → length more ≡ 0 → reading bytes ≡ Ok (Whole version world lines)
   ends_there is none = last_line machine (InHistory version world lines) (Whole version world lines) number rest line more (reading bytes) cut (ap (with_world version world) is) refl none comes
 
-  -- something is after it
+  -- Something is after it.
   pub goes_on_after : history_step lines line ≡ Ok (Counted lines) → 0 < length more → reading bytes ≡ Err (After (number + 2))
   goes_on_after is some = after_end machine (InHistory version world lines) (Whole version world lines) number rest line more (reading bytes) cut (ap (with_world version world) is) refl some comes
 
--- the count is right, or it isn't
+-- The count is right, or it isn't.
 pub right_count : (lines : List Line) (kept count : ℕ) (said : Result History RecordCause) → said ≡ cond (eqb kept (length lines)) (Ok (Counted lines)) (Err (BadCount kept (length lines))) → count ≡ length lines → kept ≡ count → said ≡ Ok (Counted lines)
 right_count lines kept count said is number same = let test : eqb kept (length lines) ≡ true = eq-eqb _ _ (same ∙ number) in is ∙ rw test refl
 
@@ -83,7 +83,7 @@ one_line line rest lines =
 same_place : {S C : Type 0} (m : Machine S C) (e : S) (a b : ℕ) (pieces : List (List ℕ)) → a ≡ b → read_pieces m e a pieces ≡ read_pieces m e b pieces
 same_place m e a b pieces is = ap (λ n. read_pieces m e n pieces) is
 
--- good lines lead to what comes after them
+-- Good lines lead to what comes after them.
 pub goes_past : {S C : Type 0} (m : Machine S C) (d : S) (n : ℕ) (lines : List (List ℕ)) (e : S) (rest : List ℕ) → Goes m d lines e
     → read_pieces m d n (cuts 10 (text_of_lines lines ++ rest)) ≡ read_pieces m e (n + length lines) (cuts 10 rest)
 goes_past m d n [] e rest goes = ap (λ x. read_pieces m x n (cuts 10 rest)) goes ∙ same_place m e n (n + length {A = List ℕ} []) (cuts 10 rest) (omega arith)
@@ -93,7 +93,7 @@ goes_past m d n (line ∷ lines) e rest goes =
     ap (read_pieces m d n) cut ∙ good m d goes.0 n line (cuts 10 later) (some_piece later) goes.2 goes.3 ∙ goes_past m goes.0 (n + 1) lines e rest goes.4
     ∙ same_place m e (n + 1 + length lines) (n + length (line ∷ lines)) (cuts 10 rest) (omega arith)
 
--- a history's text is at least as long as its lines are many
+-- A history's text is at least as long as its lines are many.
 pub are_few : (lines : List Line) → length lines ≤ length (history_text lines)
 are_few [] = omega arith
 are_few (line ∷ lines) =
@@ -102,7 +102,7 @@ are_few (line ∷ lines) =
     let long = ap length (text-cons pieces_of row rows) ∙ length-append (bare pieces_of row) (10 ∷ history_text lines) in
     omega (arith, long, are_few lines)
 
--- history lines in their one spelling are passed over
+-- History lines in their one spelling are passed over.
 pub passed : (version : ℕ) (world : World) (before lines : List Line) (number : ℕ) (old rest : List ℕ) (said : Result Part (Wrong RecordCause)) → AllFit lines → HaveFrames lines
     → read_pieces machine (InHistory version world before) number (cuts 10 old) ≡ said → old ≡ history_text lines ++ rest
     → read_pieces machine (InHistory version world (before ++ lines)) (number + length lines) (cuts 10 rest) ≡ said
@@ -116,7 +116,7 @@ passed version world before lines number old rest said fits frames comes is =
 
 -- ---- before the history
 
--- the text hasn't ended, and no line of the history was read
+-- The text hasn't ended, and no line of the history was read.
 pub record Led (position : RecordPosition) (version : ℕ) (head : SoFar) (lines : List Line) : Type 0 where
   pub goes_on : is_whole (part_at position version head lines) ≡ false
   pub none : lines ≡ []
@@ -151,7 +151,7 @@ head_leads : (v : ℕ) (r : Result SoFar Cause) (position : RecordPosition) (ver
 head_leads v (Err cause) position version head lines fresh is = absurd cc
 head_leads v (Ok d) position version head lines fresh is = scenario_leads (scenario_judge.has_ended d) v (world_so_far d) d position version head lines fresh is
 
--- a line before the history
+-- A line before the history
 pub leads : (at : RecordPosition) (v : ℕ) (h : SoFar) (ls : List Line) (line : List ℕ) (position : RecordPosition) (version : ℕ) (head : SoFar) (lines : List Line) → is_before_history at ≡ true
     → (is_before_history position ≡ true → lines ≡ []) → step (part_at at v h ls) line ≡ Ok (part_at position version head lines) → Led position version head lines
 leads AtFirst v h ls line position version head lines before fresh is = first_leads _ position version head lines fresh is
@@ -159,14 +159,14 @@ leads AtScenario v h ls line position version head lines before fresh is = head_
 leads AtHistory v h ls line position version head lines before fresh is = absurd cc
 leads Ended v h ls line position version head lines before fresh is = absurd cc
 
--- what hasn't reached the history stands before it
+-- What hasn't reached the history stands before it.
 pub stands_before : (position : RecordPosition) (version : ℕ) (head : SoFar) (lines : List Line) → is_whole (part_at position version head lines) ≡ false → (position ≡ AtHistory → ⊥) → is_before_history position ≡ true
 stands_before AtFirst version head lines goes_on other = refl
 stands_before AtScenario version head lines goes_on other = refl
 stands_before AtHistory version head lines goes_on other = absurd (other refl)
 stands_before Ended version head lines goes_on other = absurd cc
 
--- at the first line nothing was read
+-- At the first line nothing was read.
 pub is_first : (position : RecordPosition) (version : ℕ) (head : SoFar) (lines : List Line) → part_at position version head lines ≡ parts.AtFirst → is_before_history position ≡ true
 is_first AtFirst version head lines is = refl
 is_first AtScenario version head lines is = absurd cc

@@ -31,7 +31,7 @@ head_same x y xs ys e = cc
 tail_same : (x y : List ℕ) (xs ys : List (List ℕ)) → x ∷ xs ≡ y ∷ ys → xs ≡ ys
 tail_same x y xs ys e = cc
 
--- texts that are cut alike are alike
+-- Texts that are cut alike are alike.
 cut_same : (xs ys : List ℕ) → cuts 10 xs ≡ cuts 10 ys → xs ≡ ys
 cut_same xs ys e = sym (join_with_byte-slice_split 10 xs) ∙ (ap (λ ps. join_with_byte 10 ps) e ∙ join_with_byte-slice_split 10 ys)
 

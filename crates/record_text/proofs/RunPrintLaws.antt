@@ -29,7 +29,7 @@ text-push : (front : List ℕ) (rs : List (Row RunForm)) (r : Row RunForm) → f
 text-push front rs r = append_assoc front (text_of run_pieces_of rs) (line_of_row run_pieces_of r)
     ∙ ap (λ (t : List ℕ). front ++ t) (sym (text-append rs (r ∷ []) ∙ ap (λ (t : List ℕ). text_of run_pieces_of rs ++ t) (one_text r)))
 
--- a history line's row is spelled alike in both tables
+-- A history line's row is spelled alike in both tables.
 own_line : (line : Line) → line_of_row run_pieces_of (own_row line) ≡ line_of_row pieces_of (row_of_line line)
 unfolding line_of_row
 own_line line = refl
@@ -42,7 +42,7 @@ own_more front lines i line lt is =
     ap (λ (t : List ℕ). front ++ text_of run_pieces_of (map own_row (take i lines)) ++ t) (sym (own_line line))
     ∙ text-push front (map own_row (take i lines)) (own_row line) ∙ ap (λ (rs : List (Row RunForm)). front ++ text_of run_pieces_of rs) (sym rows)
 
--- a part's text, row by row
+-- A part's text, row by row.
 pub part_put : (front : List ℕ) (p : Part) → (((front ++ line_of_row run_pieces_of (row Peer (p.peer ∷ []) [])) ++ text_of run_pieces_of (map own_row p.lines)) ++ line_of_row run_pieces_of (row Turns (p.turns ∷ []) []))
     ++ line_of_row run_pieces_of (row (if p.finished then Finished else Spent) [] []) ≡ front ++ text_of run_pieces_of (rows_of_part p)
 part_put front p = let L = line_of_row run_pieces_of in let T = text_of run_pieces_of in let peer = row Peer (p.peer ∷ []) [] in let turns = row Turns (p.turns ∷ []) [] in let last = row (if p.finished then Finished else Spent) [] [] in
@@ -52,7 +52,7 @@ part_put front p = let L = line_of_row run_pieces_of in let T = text_of run_piec
     ∙ (ap (λ (t : List ℕ). t ++ L last) (text-push front (peer ∷ own) turns) ∙ (text-push front ((peer ∷ own) ++ turns ∷ []) last
     ∙ ap (λ (rs : List (Row RunForm)). front ++ T rs) (append_assoc (peer ∷ own) (turns ∷ []) (last ∷ [])))))
 
--- a part more
+-- A part more
 parts_more : (parts : List Part) (p : Part) → rows_of_parts (parts ++ p ∷ []) ≡ rows_of_parts parts ++ rows_of_part p
 parts_more parts p = flat_map-append rows_of_part parts (p ∷ []) ∙ ap (λ (rs : List (Row RunForm)). rows_of_parts parts ++ rs) (flat_map-cons rows_of_part p [] ∙ append-nil (rows_of_part p))
 
@@ -78,13 +78,13 @@ pub parts_count : (traces : List OwnTrace) (i : ℕ) (t : OwnTrace) → i < leng
 parts_count traces i t lt is = let before = map part_of (take i traces) in
     ap (λ (ps : List Part). length (rows_of_parts ps)) (traces_more traces i t lt is) ∙ (ap length (parts_more before (part_of t)) ∙ omega (arith, length-append (rows_of_parts before) (rows_of_part (part_of t)), rows_in_part (part_of t)))
 
--- each row is a byte at least
+-- Each row is a byte at least.
 rows_least : (rs : List (Row RunForm)) → length rs ≤ length (text_of run_pieces_of rs)
 unfolding line_of_row
 rows_least [] = omega arith
 rows_least (r ∷ rs) = let bare = line_of (fields_of_row run_pieces_of r) in omega (arith, length-append (bare ++ 10 ∷ []) (text_of run_pieces_of rs), length-append bare (10 ∷ []), rows_least rs)
 
--- so there are fewer lines than bytes
+-- So there are fewer lines than bytes.
 pub count_small : (traces : List OwnTrace) (i : ℕ) (t : OwnTrace) (front out : List ℕ) (count n : ℕ) → i < length traces → t ≡ get_or traces i t → count ≡ length (rows_of_parts (map part_of (take i traces))) →
     out ≡ front ++ text_of run_pieces_of (rows_of_parts (map part_of (take i traces))) → n ≡ length t.lines → count + (n + 3) ≤ length (out ++ text_of run_pieces_of (rows_of_part (part_of t)))
 count_small traces i t front out count n lt is counted put lines = let before = rows_of_parts (map part_of (take i traces)) in let new = text_of run_pieces_of (rows_of_part (part_of t)) in

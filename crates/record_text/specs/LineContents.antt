@@ -10,7 +10,7 @@ use Rattle.record_text.specs.declared.taking.LineContent.{LineContent}
 use Rattle.record_text.specs.declared.taking.LineContent.TheVariants.{Line, Count}
 use Rattle.record_text.specs.Judge.{History, Longer, Counted}
 
--- what the history is after it: a line is put last, and the count has to be the number of lines
+-- The history after a line: the line is appended, and the count has to be the number of lines.
 abbrev pub history_after : LineContent → List lines.Line → Result History RecordCause
 history_after (Line line) before = Ok (Longer (before ++ line ∷ []))
 history_after (Count kept) before = if kept == length before then Ok (Counted before) else Err (BadCount kept (length before))
@@ -20,7 +20,7 @@ abbrev pub HasContent : Result LineContent (LineFault RecordCause) → (List lin
 HasContent (Ok told) said = (before : List lines.Line) → said before ≡ history_after told before
 HasContent (Err fault) said = (before : List lines.Line) → Fails fault (said before)
 
--- its frame, if it has one, has at least one byte
+-- The frame of a line, if it has one, has at least one byte.
 abbrev pub HasFrame : LineContent → Type 0
 HasFrame (Line line) = has_frame line ≡ true
 HasFrame (Count kept) = Unit {0}

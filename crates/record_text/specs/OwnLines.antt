@@ -4,8 +4,8 @@ use Rattle.std.specs.List.{list_all}
 use Rattle.lawful_history.specs.declared.line.Line.{Line}
 use Rattle.lawful_history.specs.declared.line.Line.TheVariants.{Read, Write, State, Doorbell, Interrupt, Saw, Reclaim, Look, Full, Done, Over, Down, Accept, Deliver, Return, Refuse, Reset, Session}
 
--- an access, a doorbell, an interrupt that P found, a reset or a mark of P, that of a session among
--- them; its frame, if it has one, has at least one byte
+-- An access, a doorbell, an interrupt found by P, a reset, or a mark of P, those of sessions
+-- included. Its frame, if any, has at least one byte.
 abbrev pub is_own : ℕ → Line → Bool
 is_own p (Read q word value) = q == p
 is_own p (Write q word value) = q == p

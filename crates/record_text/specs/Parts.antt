@@ -7,8 +7,8 @@ use Rattle.lawful_history.specs.declared.line.Line.{Line}
 use Rattle.scenario_text.specs.Scenario.{World}
 use Rattle.scenario_text.specs.Running.{has_turn}
 
--- what one running peer did: its number, its lines, how many turns it took, and whether it was
--- finished after the last one
+-- The part of a running peer: its number, its lines, the number of its turns, and whether it was
+-- finished after the last one.
 pub record Part : Type 0 where
   pub peer : ℕ
   pub lines : List Line
@@ -18,10 +18,10 @@ pub record Part : Type 0 where
 abbrev pub peers_of : List Part → List ℕ
 peers_of parts = map (λ (p : Part). p.peer) parts
 
--- the peers that run: those with a turn line, ascending
+-- The peers that run: those with a turn line, ascending.
 abbrev pub running_peers : World → List ℕ
 running_peers w = filter (has_turn w.acts) (range_with_len 0 w.geometry.peers)
 
--- that two lists of peers are the same has one proof at most
+-- Two proofs that two lists of peers are equal are equal.
 pub peers-prop : (ps qs : List ℕ) → IsProp (ps ≡ qs)
 peers-prop ps qs = hlevel (props, is_set)

@@ -1,4 +1,4 @@
--- Where a text of a record stands.
+-- The position in a text of a record.
 use Rattle.std.specs.Prelude.{Bool, true, false}
 use Rattle.record_text.specs.declared.drafts.RecordPosition.{RecordPosition}
 use Rattle.record_text.specs.declared.drafts.RecordPosition.TheVariants.{AtFirst, AtScenario, AtHistory, Ended}

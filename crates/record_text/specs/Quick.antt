@@ -8,7 +8,7 @@ use Rattle.record_text.specs.Table.{pieces_of}
 use Rattle.record_text.specs.LineRows.{row_of_line}
 use Rattle.record_text.specs.Spelling.{Fits}
 
--- the bytes are the history line without its newline
+-- The bytes are the history line without its newline.
 pub record IsLineOf (line : Line) (bytes : List ℕ) : Type 0 where
   pub text : bytes ≡ line_of (fields_of_row pieces_of (row_of_line line))
   pub fits : Fits line

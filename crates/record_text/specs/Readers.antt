@@ -12,24 +12,24 @@ use Rattle.record_text.specs.Growing.{history_text}
 use Rattle.record_text.specs.Judge.{InHistory, machine, reading, answer}
 use Rattle.record_text.specs.Answers.{Refuses}
 
--- the text is of this version and this scenario, and these lines of its history were read and
--- counted: the bytes that are left decide whether the text is a record
+-- The text is of this version and this scenario, and these lines of its history were read and
+-- counted. The bytes left decide whether the text is a record.
 pub record IsReading (bytes : List ℕ) (version : ℕ) (world : World) (lines : List Line) (reader : Reader) : Type 0 where
   pub comes : read_pieces machine (InHistory version world lines) reader.number (cuts 10 reader.rest.now) ≡ reading bytes
   pub count : reader.count ≡ length lines
 
--- the next line was read; or the text is the record of the lines that were read; or the error is
--- the text's first fault, unless memory ran out
+-- The next line was read, or the text is the record of the lines read. Otherwise the error is the
+-- text's first fault, unless memory ran out.
 abbrev pub ReadsOn : (bytes : List ℕ) (version : ℕ) (world : World) (lines : List Line) → Result (Option Line) RecordFault → Reader → Type 0
 ReadsOn bytes version world lines (Ok (Some line)) now = IsReading bytes version world (lines ++ line ∷ []) now × (has_frame line ≡ true)
 ReadsOn bytes version world lines (Ok None) now = IsSpelling (record { version = version; world = world; lines = lines }) bytes × (now.count ≡ length lines)
 ReadsOn bytes version world lines (Err fault) now = Refuses fault (answer bytes)
 
--- the bytes begin with the text of these lines
+-- The bytes begin with the text of these lines.
 abbrev pub BeginWith : List ℕ → List Line → Type 0
 BeginWith bytes lines = (rest : List ℕ) × (bytes ≡ history_text lines ++ rest)
 
--- these lines were read, or none
+-- These lines were read, or none.
 abbrev pub GoesPast : (bytes : List ℕ) (version : ℕ) (world : World) (before lines : List Line) → (is : Bool) → Reader → Type 0
 GoesPast bytes version world before lines true now = IsReading bytes version world (before ++ lines) now
 GoesPast bytes version world before lines false now = IsReading bytes version world before now

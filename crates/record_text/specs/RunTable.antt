@@ -6,7 +6,7 @@ use Rattle.record_text.specs.declared.run_forms.RunForm.{RunForm}
 use Rattle.record_text.specs.declared.run_forms.RunForm.TheVariants.{Own, Peer, Turns, Finished, Spent}
 use Rattle.record_text.specs.Table.{pieces_of, all_forms, any_number, u32_number}
 
--- what stands in the fields of a line of this form
+-- The fields of a line of this form.
 abbrev pub run_pieces_of : RunForm → List Piece
 run_pieces_of (Own form) = pieces_of form
 run_pieces_of Peer = Word (codes "peer") ∷ u32_number ∷ []

@@ -15,7 +15,7 @@ use Rattle.record_text.specs.LineRows.{row_of_line}
 use Rattle.lawful_history.specs.Frames.{HaveFrames}
 use Rattle.lawful_history.specs.Versions.{is_version}
 
--- what a record says
+-- The value of a record.
 pub record Record : Type 0 where
   pub version : ℕ
   pub world : World
@@ -24,7 +24,7 @@ pub record Record : Type 0 where
 abbrev pub record_of : Trace → Record
 record_of t = record { version = t.version; world = scenario.world_of t.scenario; lines = t.lines }
 
--- the numbers and the bytes of a line are of its form's width, as those of every Line are
+-- The numbers and the bytes of a line are of its form's width, as those of every Line are.
 pub record Fits (line : Line) : Type 0 where
   pub values : Fit (pieces_of (row_of_line line).form) (row_of_line line).numbers
   pub bytes : FitBytes (pieces_of (row_of_line line).form) (row_of_line line).frame
@@ -32,7 +32,7 @@ pub record Fits (line : Line) : Type 0 where
 abbrev pub AllFit : List Line → Type 0
 AllFit lines = All Fits lines
 
--- one of the versions, a scenario, and lines that can be counted
+-- One of the versions, a scenario, and lines that can be counted.
 pub record IsRecord (r : Record) : Type 0 where
   pub version : is_version r.version ≡ true
   pub world : IsWorld r.world
@@ -40,14 +40,14 @@ pub record IsRecord (r : Record) : Type 0 where
   pub frames : HaveFrames r.lines
   pub count : length r.lines < 2 ^ 64
 
--- the history and the count of its lines
+-- The history and the count of its lines.
 abbrev pub history_rows : List Line → List (Row LineForm)
 history_rows lines = map row_of_line lines ++ row Count (length lines ∷ []) [] ∷ []
 
--- the one text of a record
+-- The one text of a record.
 abbrev pub spelling : Record → List ℕ
 spelling r = first_line r.version ++ 10 ∷ scenario.spelling r.world ++ text_of pieces_of (history_rows r.lines)
 
--- the bytes spell the record
+-- The bytes spell the record.
 abbrev pub IsSpelling : Record → List ℕ → Type 0
 IsSpelling r bytes = IsRecord r × (bytes ≡ spelling r)

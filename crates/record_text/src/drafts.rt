@@ -19,13 +19,13 @@ pub enum RecordPosition {
     Ended,
 }
 
-/// A record of which some lines are read.
+/// A record whose first lines are read.
 #[derive(Drop)]
 pub struct RecordDraft {
     pub position: RecordPosition,
     /// The version that the first line names, and 1 before it is read.
     pub version: u32,
-    /// The scenario, of which some lines are read.
+    /// The scenario, whose first lines are read.
     pub head: Draft,
     /// The history lines so far.
     pub lines: Lines,

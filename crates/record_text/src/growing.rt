@@ -1,4 +1,4 @@
-//! A record's text, put together part by part: what stands before the history, the lines of the
+//! A record's text, put together part by part: the lines before the history, the lines of the
 //! history, and their count.
 ghost use Rattle.std.specs.Prelude.{◌≡◌, ◌++◌, OnOk, map, true};
 ghost use Rattle.scenario_text.specs.Spelling.{world_of};
@@ -14,7 +14,7 @@ use line_format::put_line;
 use scenario_text::{Scenario, put_scenario};
 use std::alloc::AllocError;
 
-/// Puts what stands before the history of a record of this version last: its first line and the
+/// Appends the lines before the history of a record of this version: its first line and the
 /// scenario.
 // claim with put_lines.put, put_lines.fits, put_count, parts_are_the_record.parts,
 //    parts_are_the_record.lines: The text put together in parts (what precedes the history, its

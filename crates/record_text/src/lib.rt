@@ -1,8 +1,8 @@
 //! Records as values and as text, in version 1 or 2: a scenario with a history of it, lawful or
-//! not. It stands on `scenario_text` for the scenario's text, on `lawful_history` for the lines of
-//! a history, and on `line_format` for lines and forms. Its contracts promise that a record has one
-//! spelling, that parsing answers exactly where the bytes are one, and that each fault is the first
-//! in the order of the format (docs/FORMATS.md).
+//! not. It uses `scenario_text` for the scenario's text, `lawful_history` for the lines of a
+//! history, and `line_format` for lines and forms. Its contracts promise that a record has one
+//! spelling, that parsing succeeds exactly if the bytes are one, and that each fault is the first
+//! in the format's order (docs/FORMATS.md).
 //!
 //! # Design
 //!
@@ -11,16 +11,16 @@
 //!   finished at the end alone, where the whole text is known to spell a record.
 //! - The first line is defined once over the version, and written and read by the one function;
 //!   both versions have one table of lines. So a line `session P A B` is no fault of a text of
-//!   version 1: which history is lawful in which version is said by `lawful_history` alone. Each
-//!   field that `refuse` can name is a form of its own.
+//!   version 1: `lawful_history` alone decides which history is lawful in which version. Each field
+//!   that `refuse` can name is a form of its own.
 //! - A reader keeps what is still to come, and a relation says the rest: `IsReading` ties it to a
-//!   text, a version, a scenario and the lines read so far. So a line that was read need not stand
-//!   anywhere, a caller chooses what to keep, and the fault that the reader names is that of
+//!   text, a version, a scenario and the lines read so far. So a line that was read need not be
+//!   stored, and a caller chooses the lines to keep. The fault that the reader names is that of
 //!   `parse` by the same laws. `pass` says the same of lines that weren't read: their bytes are
 //!   compared.
-//! - A common line is known by its spelling: `quick_line` promises alone that the bytes are the one
-//!   spelling of what it found, and leaves the rest to the table of forms. Since a spelling is read
-//!   as what it spells, no rule of the table is said twice.
+//! - - A common line is recognized by its spelling. `quick_line` promises only that the bytes are
+//!   the one spelling of the line found. The table of forms decides the rest. Since a spelling is
+//!   read as what it spells, no rule of the table is said twice.
 //! - `put_front`, `put_lines` and `put_count` put a text together for callers that keep no history.
 //!   That their parts are the spelling, and that lines may be put in parts, is a law
 //!   (`parts_are_the_record`).

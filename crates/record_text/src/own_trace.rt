@@ -3,9 +3,9 @@ ghost use Rattle.record_text.specs.OwnLines.{AreOwn};
 
 use lawful_history::Lines;
 
-/// What one running peer did, in its own order. There are just the traces that have a spelling: the
-/// lines are accesses, doorbells, interrupts, resets and marks of this peer, those of its sessions
-/// among them, and every frame has at least one byte.
+/// What one running peer did, in its own order. The lines of a trace are accesses, doorbells,
+/// interrupts, resets and marks of this peer, those of its sessions included. Every frame has at
+/// least one byte. So each trace has a spelling.
 #[derive(Debug, Drop)]
 pub struct OwnTrace {
     /// The peer's number.

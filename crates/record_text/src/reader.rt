@@ -119,7 +119,7 @@ impl<'a> Reader<'a> {
         }
     }
 
-    /// Reads these lines and returns true, exactly if the text goes on with them. Otherwise reads
+    /// Reads these lines and returns true, exactly if the text continues with them. Otherwise reads
     /// no line. The lines are written and their bytes are compared, so no line is parsed. Returns
     /// `NoMemory` if memory ran out.
     // claim past, exact, shorter: Lines may be skipped by their bytes, as if they had been read,

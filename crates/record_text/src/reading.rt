@@ -18,7 +18,7 @@ use scenario_text::Draft;
 use std::alloc::Global;
 
 impl RecordDraft {
-    /// The draft of a text of which nothing is read.
+    /// The draft of a text before its first line.
     pub fn new(alloc: Global) -> RecordDraft
         ensures { part_so_far result ≡ AtFirst }
     {

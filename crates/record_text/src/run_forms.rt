@@ -22,7 +22,7 @@ pub enum RunForm {
 }
 
 impl RunForm {
-    /// What stands in the fields of the form.
+    /// The fields of the form.
     pub fn slots(self) -> &'static [FieldKind]
         ensures { pieces result.now ≡ run_pieces_of self }
     {

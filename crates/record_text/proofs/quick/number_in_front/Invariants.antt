@@ -2,7 +2,7 @@ use Rattle.std.proofs.Common.{◌≡◌, ◌<◌, ◌≤◌, ◌^◌, ◌-◌, l
 use Rattle.std.specs.Str.Parse.{digits_value, AllDigits}
 use Rattle.record_text.proofs.quick.number_in_front.Given as goal
 
--- the digits so far, and their value
+-- The digits so far, and their value.
 abbrev pub invariant-loop-at : goal.invariant-loop-at
 invariant-loop-at l = record {
   digits : AllDigits 10 (take l.at l.bytes);

@@ -6,7 +6,7 @@ use Rattle.record_text.specs.RunTable.{run_pieces_of}
 use Rattle.record_text.specs.RunSpelling.{IsPart, rows_of_parts}
 use Rattle.record_text.proofs.run_printing.put_parts.Given as goal
 
--- the parts so far
+-- The parts so far.
 abbrev pub invariant-loop-trace : goal.invariant-loop-trace
 invariant-loop-trace l = record {
   put : l.out.items ≡ l.fn.out.items ++ text_of run_pieces_of (rows_of_parts (map part_of (take l.trace-index l.traces)));

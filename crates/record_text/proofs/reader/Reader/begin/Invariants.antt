@@ -6,7 +6,7 @@ use Rattle.record_text.specs.Drafts.{part_so_far}
 use Rattle.record_text.proofs.BackLaws.{GoodPart}
 use Rattle.record_text.proofs.reader.Reader.begin.Given as goal
 
--- what is still to come gives what the text gives, and no line of the history was read
+-- What is still to come gives what the text gives, and no line of the history was read.
 abbrev pub invariant-loop-rest : goal.invariant-loop-rest
 invariant-loop-rest l = record {
   comes : read_pieces machine (part_so_far l.draft) l.number (cuts 10 l.rest) ≡ reading l.bytes;

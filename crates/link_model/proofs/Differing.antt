@@ -12,11 +12,11 @@ head_more : (given more : List Line) → 0 < length given → head_of (given ++ 
 head_more [] more some = absurd (omega arith)
 head_more (line ∷ given) more some = refl
 
--- one of the lines found is the one that differs
+-- One of the lines found is the one that differs.
 some_given : (before given found : List Line) (line : ℕ) → found ≡ before ++ given → line ≡ length before + 1 → line ≤ length found → 0 < length given
 some_given before given found line is number within = omega (arith, ap length is, length-append before given)
 
--- lines after the one that differs change nothing
+-- Lines after the one that differs change nothing.
 pub longer : (lawful found more : List Line) (fault : Unlawful) → DiffersAt lawful found fault → fault.line ≤ length found → DiffersAt lawful (found ++ more) fault
 longer lawful found more fault differs within =
     let head = head_more differs.given more (some_given differs.before differs.given found fault.line differs.found_is differs.line within) in
@@ -40,7 +40,7 @@ leaves_longer world version found more fault leaves =
       within = omega (arith, length-append found more);
     }
 
--- no lawful history begins with lines that leave it
+-- No lawful history begins with lines that leave it.
 pub none_begins : (world : World) (version : ℕ) (found : List Line) (fault : Unlawful) → Differs world version found fault → fault.line ≤ length found → BeginsNone world version found
 none_begins world version found fault each within = λ lawful rest is same.
     let differs = each lawful is in
@@ -50,7 +50,7 @@ none_begins world version found fault each within = λ lawful rest is same.
     (sym differs.lawful_is ∙ same ∙ ap (λ ls. ls ++ rest) differs.found_is ∙ append_assoc differs.before differs.given rest) in
     differs.differ (ap head_of due ∙ head)
 
--- lines that differ from the lawful history aren't it
+-- Lines that differ from the lawful history aren't it.
 pub not_lawful : (world : World) (version : ℕ) (found : List Line) (fault : Unlawful) → Differs world version found fault → IsLawfulIn world version found → ⊥
 not_lawful world version found fault differs is =
     let here = differs found is in

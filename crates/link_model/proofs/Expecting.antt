@@ -28,7 +28,7 @@ use Rattle.link_model.specs.ExpectedRun.{world_in, recorded_of, IsPlayed, IsAlon
 use Rattle.link_model.proofs.Differing.{none_begins}
 use Rattle.link_model.proofs.Playing.{no_turns}
 
--- what a record has of lines begins with what it has of the first of them
+-- What a record has of lines begins with what it has of the first of them.
 begins_by_test : (world : World) (a b : List Line) (test : Bool) →
     (more : List Line) × ((if test then with_sessions world [] (a ++ b) else a ++ b) ≡ (if test then with_sessions world [] a else a) ++ more)
 begins_by_test world a b true = (with_sessions world (reverse a ++ []) b, with_sessions-append world [] a b)
@@ -37,8 +37,8 @@ begins_by_test world a b false = (b, refl)
 told_begins : (world : World) (version : ℕ) (a b : List Line) → (more : List Line) × (recorded_in world version (a ++ b) ≡ recorded_in world version a ++ more)
 told_begins world version a b = begins_by_test world a b (version == 2)
 
--- what a record has of the history goes on from the lines of a simulator that hasn't played all
--- events
+-- What a record has of the history goes on from the lines of a simulator that hasn't played all
+-- events.
 follows : (world : World) (output : Output) (events rest : List Event) (s : Simulator) → RunsTo world output events s → events ++ rest ≡ schedule world.acts →
     (more : List Line) × (recorded_in world output.version (history world) ≡ (output.drained ++ kept_lines s) ++ more)
 follows world output events rest s runs all =
@@ -49,7 +49,7 @@ follows world output events rest s runs all =
     let more = told_begins world output.version (reverse (moment_of world events).past) (reverse new.0) in
     (more.0, ap (recorded_in world output.version) whole ∙ more.1 ∙ ap (λ ls. ls ++ more.0) (sym (told_so_far world output events rest s runs (sym all))))
 
--- the events that are left
+-- The events that are left.
 split_at : (acts : List Act) (at : ℕ) → schedule (take at acts) ++ schedule (drop at acts) ≡ schedule acts
 split_at acts at = sym (flat_map-append events_of (take at acts) (drop at acts)) ∙ ap (λ (xs : List Act). schedule xs) (take-append-drop at acts)
 
@@ -59,7 +59,7 @@ rest_is output c played =
     let acts = (world_in c).acts in
     sym (append_assoc played.events (replicate c.left (TurnTaken c.peer)) (schedule (drop c.at acts))) ∙ ap (λ es. es ++ schedule (drop c.at acts)) played.scheduled ∙ split_at acts c.at
 
--- the lines that weren't taken stand after those that were
+-- The lines that weren't taken stand after those that were.
 untaken : (drained kept_lines lines : List Line) (passed : ℕ) → drained ++ take passed kept_lines ≡ lines → drained ++ kept_lines ≡ lines ++ drop passed kept_lines
 untaken drained kept_lines lines passed taken =
     ap (λ ls. drained ++ ls) (sym (take-append-drop passed kept_lines)) ∙ sym (append_assoc drained (take passed kept_lines) (drop passed kept_lines)) ∙ ap (λ ls. ls ++ drop passed kept_lines) taken
@@ -75,7 +75,7 @@ head_of_more [] more p inside = absurd (omega arith)
 head_of_more (x ∷ xs) more zero inside = refl
 head_of_more (x ∷ xs) more (suc p) inside = head_of_more xs more p (omega arith)
 
--- the record goes on after the lines taken: its next line is the one that waits on the simulator
+-- The record goes on after the lines taken: its next line is the one that waits on the simulator.
 abbrev GoesOnBy : List Line → ExpectedRun → Type 0
 GoesOnBy lines c = (after : List Line) × (recorded_of c ≡ lines ++ after) × (head_of after ≡ slice_get (kept_lines c.simulator) c.passed)
 
@@ -111,7 +111,7 @@ expects_by lines c along (inr over) = is_over lines c along over
 pub expects : (lines : List Line) (c : ExpectedRun) → GoesOn lines c → GoesOnBy lines c
 expects lines c goes = expects_by lines c goes.along goes.settled
 
--- each lawful history is the one that is expected
+-- Each lawful history is the one that is expected.
 lawful_is : HasOneHistoryIn → HistoryIsLawfulIn → (lines : List Line) (c : ExpectedRun) (goes : GoesOn lines c) (lawful : List Line) → IsLawfulIn (world_in c) c.version lawful → lawful ≡ lines ++ (expects lines c goes).0
 lawful_is one exists lines c goes lawful is =
     one (world_in c) c.version lawful (recorded_of c) is (exists (world_in c) c.version goes.along.played.runs.after.is_world) ∙ (expects lines c goes).1
@@ -119,7 +119,7 @@ lawful_is one exists lines c goes lawful is =
 pub begins : HasOneHistoryIn → HistoryIsLawfulIn → (lines : List Line) (c : ExpectedRun) → GoesOn lines c → Begins (world_in c) c.version lines
 begins one exists lines c goes = λ lawful is. ((expects lines c goes).0, lawful_is one exists lines c goes lawful is)
 
--- another line than the one that waits leaves the history
+-- Another line than the one that waits leaves the history.
 pub breaks : HasOneHistoryIn → HistoryIsLawfulIn → (lines : List Line) (c : ExpectedRun) (line : Line) (fault : Unlawful) → GoesOn lines c → slice_get (kept_lines c.simulator) c.passed ≢ Some line →
     fault.line ≡ length lines + 1 → fault.law ≡ law_between (slice_get (kept_lines c.simulator) c.passed) (Some line) → Leaves (world_in c) c.version (lines ++ line ∷ []) fault
 breaks one exists lines c line fault goes other number law =
@@ -137,7 +137,7 @@ breaks one exists lines c line fault goes other number law =
     } in
     record { none = none_begins (world_in c) c.version (lines ++ line ∷ []) fault differs within; differs = differs; within = within }
 
--- a line that waits is missing where no more are taken
+-- A line that waits is missing where no more are taken.
 pub misses : HasOneHistoryIn → HistoryIsLawfulIn → (lines : List Line) (c : ExpectedRun) (due : Line) (fault : Unlawful) → GoesOn lines c → slice_get (kept_lines c.simulator) c.passed ≡ Some due →
     fault.line ≡ length lines + 1 → fault.law ≡ Order → Differs (world_in c) c.version lines fault
 misses one exists lines c due fault goes is number law = λ lawful lawful_too.
@@ -158,14 +158,14 @@ no_head : (lines : List Line) → head_of lines ≡ None → lines ≡ []
 no_head [] none = refl
 no_head (line ∷ lines) none = absurd (cc)
 
--- where none waits, the lines taken are the history
+-- Where none waits, the lines taken are the history.
 pub is_whole : HistoryIsLawfulIn → (lines : List Line) (c : ExpectedRun) → GoesOn lines c → slice_get (kept_lines c.simulator) c.passed ≡ None → IsLawfulIn (world_in c) c.version lines
 is_whole exists lines c goes none =
     let after = expects lines c goes in
     let all : recorded_of c ≡ lines = after.1 ∙ ap (λ ls. lines ++ ls) (no_head after.0 (after.2 ∙ none)) ∙ append-nil lines in
     subst (λ ls. IsLawfulIn (world_in c) c.version ls) all (exists (world_in c) c.version goes.along.played.runs.after.is_world)
 
--- the line that waits is taken
+-- The line that waits is taken.
 pub one_taken : (lines : List Line) (c : ExpectedRun) (line : Line) → IsAlong lines c → slice_get (kept_lines c.simulator) c.passed ≡ Some line → IsAlong (lines ++ line ∷ []) (record c { passed = c.passed + 1 })
 one_taken lines c line along is =
     let waiting = kept_lines c.simulator in
@@ -180,7 +180,7 @@ one_taken lines c line along is =
           ∙ sym (append_assoc along.output.drained (take c.passed waiting) (line ∷ [])) ∙ ap (λ ls. ls ++ line ∷ []) along.taken;
     }
 
--- all lines that wait are taken
+-- All lines that wait are taken.
 pub all_taken : (lines : List Line) (c : ExpectedRun) → IsAlong lines c → IsAlong (lines ++ drop c.passed (kept_lines c.simulator)) (record c { passed = length (kept_lines c.simulator) })
 all_taken lines c along =
     let waiting = kept_lines c.simulator in
@@ -201,11 +201,11 @@ drop_frames lines zero frames = frames
 drop_frames [] (suc n) frames = frames
 drop_frames (line ∷ lines) (suc n) frames = drop_frames lines n (second_true (has_frame line) _ frames)
 
--- the lines that wait have their frames
+-- The lines that wait have their frames.
 pub frames_wait : (lines : List Line) (c : ExpectedRun) → GoesOn lines c → HaveFrames (drop c.passed (kept_lines c.simulator))
 frames_wait lines c goes = drop_frames (kept_lines c.simulator) c.passed goes.along.played.runs.after.log.frames
 
--- the lines taken are the first ones of the record
+-- The lines taken are the first ones of the record.
 pub counted : (lines : List Line) (c : ExpectedRun) (next : ℕ) → GoesOn lines c → next ≡ length lines + 1 → take (next - 1) (recorded_of c) ≡ lines
 counted lines c next goes number =
     let after = expects lines c goes in

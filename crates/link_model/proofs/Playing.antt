@@ -18,7 +18,7 @@ one_turn : (events : List Event) (turn : Event) (left : ℕ) → 0 < left → (e
 one_turn events turn zero some = absurd (omega arith)
 one_turn events turn (suc n) some = let less : suc n - 1 ≡ n = omega arith in rw less (append_assoc events (turn ∷ []) (replicate n turn))
 
--- a turn is played
+-- A turn is played
 pub turn_played : (output : Output) (c : ExpectedRun) (s : Simulator) → 0 < c.left → Happens (TurnTaken c.peer) c.simulator s → IsPlayed output c → IsPlayed output (record c { simulator = s; left = c.left - 1 })
 turn_played output c s some happens played = record {
   events = played.events ++ TurnTaken c.peer ∷ [];
@@ -29,11 +29,11 @@ turn_played output c s some happens played = record {
   peer = λ more. played.peer some;
 }
 
--- where no turn is left, the events are those of the acts so far
+-- Where no turn is left, the events are those of the acts so far.
 pub no_turns : (events acts : List Event) (turn : Event) (left : ℕ) → left ≡ 0 → events ++ replicate left turn ≡ acts → events ≡ acts
 no_turns events acts turn left none scheduled = sym (append-nil events) ∙ ap (λ n. events ++ replicate n turn) (sym none) ∙ scheduled
 
--- an act is played
+-- An act is played.
 pub act_played : (output : Output) (c : ExpectedRun) (a : Act) (s : Simulator) → c.left ≡ 0 → c.at < length (world_in c).acts → a ≡ get_or (world_in c).acts c.at a → PlaysAct a c.simulator s → IsPlayed output c →
     IsPlayed output (record c { simulator = s; at = c.at + 1 })
 act_played output c a s none inside is plays played =
@@ -49,7 +49,7 @@ act_played output c a s none inside is plays played =
       peer = λ some. absurd (omega arith);
     }
 
--- turns are noted
+-- Turns are noted.
 pub turns_noted : (output : Output) (c : ExpectedRun) (p k : ℕ) → c.left ≡ 0 → c.at < length (world_in c).acts → act.Turn p k ≡ get_or (world_in c).acts c.at (act.Turn p k) → IsPlayed output c →
     IsPlayed output (record c { at = c.at + 1; peer = p; left = k })
 turns_noted output c p k none inside is played =
@@ -65,13 +65,13 @@ turns_noted output c p k none inside is played =
       peer = λ some. below_peers p world.geometry.peers allowed.1.peer;
     }
 
--- the events of the acts from here on
+-- The events of the acts from here on.
 pub one_act_less : (acts : List Act) (at : ℕ) (a : Act) → at < length acts → a ≡ get_or acts at a → length (schedule (drop at acts)) ≡ length (events_of a) + length (schedule (drop (at + 1) acts))
 one_act_less acts at a inside is =
     let here : drop at acts ≡ a ∷ drop (at + 1) acts = grind (arith, common_steps, drop-cons acts at a inside, is) in
     ap (λ (xs : List Act). length (schedule xs)) here ∙ length-append (events_of a) (schedule (drop (at + 1) acts))
 
--- an expected run at its start
+-- An expected run at its start.
 pub at_first : (c : ExpectedRun) → RunsTo (world_in c) (no_output c.version) [] c.simulator → c.at ≡ 0 → c.left ≡ 0 → c.passed ≡ 0 → IsAlong [] c
 at_first c runs at left passed = record {
   output = no_output c.version;
@@ -87,7 +87,7 @@ at_first c runs at left passed = record {
   taken = ap (λ n. take n (kept_lines c.simulator)) passed;
 }
 
--- where none of the lines that the simulator keeps was taken, more of them may come
+-- Where none of the lines that the simulator keeps was taken, more of them may come.
 pub played_on : (lines : List Line) (c c' : ExpectedRun) (along : IsAlong lines c) → c.passed ≡ 0 → c'.passed ≡ c.passed → IsPlayed along.output c' → IsAlong lines c'
 played_on lines c c' along none same played = record {
   output = along.output;

@@ -7,7 +7,7 @@ use Rattle.link_model.specs.declared.fault.Law.TheVariants.{Order, Device, Touch
 use Rattle.link_model.specs.declared.law.Kind.{Kind}
 use Rattle.link_model.specs.declared.law.Kind.TheVariants.{Scheduled, OfDevice, WasDenied, WasRead, Marked, Accessed}
 
--- the kind of a line
+-- The kind of a line.
 abbrev pub kind_of : Line → Kind
 kind_of (line.Read peer word value) = WasRead word
 kind_of (line.Write peer word value) = Accessed
@@ -37,7 +37,7 @@ kind_of (line.Return peer) = Marked
 kind_of (line.Refuse peer refused) = Marked
 kind_of (line.Session peer opened other) = Marked
 
--- the peer of a line
+-- The peer of a line.
 abbrev pub peer_of : Line → ℕ
 peer_of (line.Read peer word value) = peer
 peer_of (line.Write peer word value) = peer
@@ -87,13 +87,13 @@ abbrev pub is_read_of : ℕ → Kind → Bool
 is_read_of word (WasRead another) = word == another
 is_read_of word _ = false
 
--- both read the same word
+-- Both read the same word.
 abbrev pub are_reads_of_one : Kind → Kind → Bool
 are_reads_of_one (WasRead word) other = is_read_of word other
 are_reads_of_one _ other = false
 
--- the law of the first rule that applies to the kinds of the line due and of the line found, which
--- are of one peer or not (profile)
+-- The law of the first rule that applies to the kinds of the line due and of the line found
+-- (profile). A rule may depend on whether both are of one peer.
 abbrev pub law_by : (due found : Kind) → (one_peer : Bool) → Law
 law_by due found one_peer =
     if is_scheduled due || is_scheduled found then Order
@@ -104,8 +104,8 @@ law_by due found one_peer =
     else if is_mark due || is_mark found then Link
     else Call
 
--- the law that is broken if the lawful history has the line `due` at a place, and the lines found
--- have the line `found`; None where there is no line
+-- The law that is broken if the lawful history has the line `due` at a place and the lines found
+-- have `found` there. None represents no line.
 abbrev pub law_between : (due found : Option Line) → Law
 law_between None found = Order
 law_between (Some due) None = Order

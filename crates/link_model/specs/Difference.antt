@@ -7,7 +7,7 @@ use Rattle.lawful_history.specs.Lawful.{IsLawfulIn}
 use Rattle.link_model.specs.declared.fault.Unlawful.{Unlawful}
 use Rattle.link_model.specs.BrokenLaw.{law_between}
 
--- the first of these lines, if there is one
+-- The first of these lines, if there is one.
 abbrev pub head_of : List Line → Option Line
 head_of [] = None
 head_of (line ∷ lines) = Some line
@@ -25,20 +25,20 @@ pub record DiffersAt (lawful found : List Line) (fault : Unlawful) : Type 0 wher
   pub line : fault.line ≡ length before + 1
   pub law : fault.law ≡ law_between (head_of due) (head_of given)
 
--- each lawful history of the scenario begins with these lines
+-- Each lawful history of the scenario begins with these lines.
 abbrev pub Begins : World → (version : ℕ) → List Line → Type 0
 Begins world version lines = (lawful : List Line) → IsLawfulIn world version lawful → (rest : List Line) × (lawful ≡ lines ++ rest)
 
--- no lawful history of the scenario begins with these lines
+-- No lawful history of the scenario begins with these lines.
 abbrev pub BeginsNone : World → (version : ℕ) → List Line → Type 0
 BeginsNone world version lines = (lawful rest : List Line) → IsLawfulIn world version lawful → lawful ≢ lines ++ rest
 
--- the lines differ from each lawful history of the scenario at the line of the fault
+-- The lines differ from each lawful history of the scenario at the line of the fault.
 abbrev pub Differs : World → (version : ℕ) → List Line → Unlawful → Type 0
 Differs world version lines fault = (lawful : List Line) → IsLawfulIn world version lawful → DiffersAt lawful lines fault
 
--- the line of the fault is the first of these lines that is unlawful, so no lawful history begins
--- with them
+-- The line of the fault is the first of these lines that is unlawful, so no lawful history begins
+-- with them.
 pub record Leaves (world : World) (version : ℕ) (lines : List Line) (fault : Unlawful) : Type 0 where
   pub none : BeginsNone world version lines
   pub differs : Differs world version lines fault

@@ -6,16 +6,16 @@ use Rattle.link_model.specs.declared.fault.StepFault.{StepFault}
 use Rattle.link_model.specs.declared.fault.StepFault.TheVariants.{Unlawful, NoMemory}
 use Rattle.link_model.specs.Difference.{Leaves}
 
--- the view of a run: its scenario, the version of the record, the lines that it took, and its
--- fault, if it has one
+-- The view of a run: its scenario, the record's version, the lines that it took, and its fault, if
+-- any.
 pub record Taking : Type 0 where
   pub world : World
   pub version : ℕ
   pub lines : List Line
   pub fault : Option StepFault
 
--- the cause of a fault at the last of these lines: with it they differ from the lawful history; or
--- memory ran out, of which nothing is said
+-- The cause of a fault at the last of these lines: with it they differ from the lawful history, or
+-- memory ran out.
 abbrev pub IsCause : World → (version : ℕ) → List Line → StepFault → Type 0
 IsCause world version lines (Unlawful fault) = Leaves world version lines fault
 IsCause world version lines NoMemory = ⊤

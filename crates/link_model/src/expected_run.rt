@@ -44,8 +44,8 @@ pub struct ExpectedRun {
 }
 
 impl ExpectedRun {
-    /// Returns an expected run of which no line was taken, for a record of this version. Returns
-    /// `NoMemory` if memory ran out.
+    /// Returns an expected run that took no line, for a record of this version. Returns `NoMemory`
+    /// if memory ran out.
     pub fn new(alloc: Global, scenario: Scenario, version: u32) -> Result<ExpectedRun, NoMemory>
         requires { is_version version ≡ true }
         ensures { IfOk result (λ expected_run. GoesOn [] expected_run × (world_in expected_run ≡ world_of scenario) × (expected_run.version ≡ version)) }
@@ -160,7 +160,7 @@ impl ExpectedRun {
         Ok(())
     }
 
-    /// Returns the lines that wait: the lawful history goes on with them. If no line waits, the
+    /// Returns the lines that wait: the lawful history continues with them. If no line waits, the
     /// lawful history is over.
     pub fn waiting(&self) -> &[Line]
         requires { (lines : List Line) × GoesOn lines self.now }

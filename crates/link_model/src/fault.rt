@@ -35,7 +35,7 @@ pub struct Unlawful {
 /// The reason why a line of a history wasn't taken.
 #[derive(Clone, Copy, Debug, PartialEq, Eq, Error)]
 pub enum StepFault {
-    /// No lawful history of the scenario goes on with this line.
+    /// No lawful history of the scenario continues with this line.
     #[error("{0}")]
     Unlawful(Unlawful),
     /// Memory ran out.

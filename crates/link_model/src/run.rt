@@ -54,7 +54,7 @@ impl Run {
     }
 
     /// Takes the next line of the history. Returns `Unlawful`, with the line's number and the law
-    /// that it breaks, exactly if no lawful history of the scenario goes on with this line in a
+    /// that it breaks, exactly if no lawful history of the scenario continues with this line in a
     /// record of the run's version. Returns `NoMemory` if memory ran out. After a fault each step
     /// returns that fault.
     // claim taken, lawful: A step is Ok exactly if what a record of the run's version holds of each

@@ -7,7 +7,7 @@ use Rattle.link_model.specs.ExpectedRun.{IsGoing}
 use Rattle.link_model.proofs.Viewing.{one_more, seen_begins, seen_cause}
 use Rattle.link_model.proofs.run.Run.step.Goals as goal
 
--- the number of the line after one more
+-- The number of the line after one more.
 one_counted : (lines : List Line) (line : Line) (next after : ℕ) → next ≡ length lines + 1 → after ≡ next + 1 → after ≡ length (lines ++ line ∷ []) + 1
 one_counted lines line next after number more = omega (arith, length-append lines (line ∷ []))
 

@@ -32,7 +32,7 @@ pub stayed : (bytes : List ℕ) (version : ℕ) (world : World) (before lines : 
 stayed bytes version world before lines false now is_false past = past
 stayed bytes version world before lines true now is_false past = absurd cc
 
--- the expected run and the reader go on by the same lines
+-- The expected run and the reader go on by the same lines.
 pub both_go_on : (bytes : List ℕ) (expected_run expected_run' : ExpectedRun) (reader : Reader) (lines : List Line) → expected_run'.scenario ≡ expected_run.scenario → expected_run'.version ≡ expected_run.version →
     IsReading bytes expected_run.version (world_in expected_run) lines reader → GoesOn lines expected_run' → IsBeside bytes expected_run' reader
 both_go_on bytes expected_run expected_run' reader lines scenario version reads goes = record {
@@ -41,7 +41,7 @@ both_go_on bytes expected_run expected_run' reader lines scenario version reads 
   goes = goes;
 }
 
--- at the start nothing was read
+-- At the start nothing was read.
 pub nothing_read : (bytes : List ℕ) (version : ℕ) (scenario : Scenario) (expected_run : ExpectedRun) (reader : Reader) → IsReading bytes version (world_of scenario) [] reader →
     GoesOn [] expected_run × (world_in expected_run ≡ world_of scenario) × (expected_run.version ≡ version) → IsBeside bytes expected_run reader
 nothing_read bytes version scenario expected_run reader reads begun = record {
@@ -50,7 +50,7 @@ nothing_read bytes version scenario expected_run reader reads begun = record {
   goes = begun.0;
 }
 
--- a line that leaves the lawful history, with those after it
+-- A line that leaves the lawful history, with those after it.
 pub leaves : (bytes : List ℕ) (version : ℕ) (world : World) (lines : List Line) (fault : Unlawful) → IsRead bytes version world lines → Leaves world version lines fault → IsVerdictOfText bytes (verdicts.Differs fault)
 leaves bytes version world lines fault read left = record {
   version = version;
@@ -60,14 +60,14 @@ leaves bytes version world lines fault read left = record {
   verdict_is = differing world version (lines ++ read.more) fault (leaves_longer world version lines read.more fault left).differs;
 }
 
--- a line is missing at the end
+-- A line is missing at the end.
 pub is_short : (bytes : List ℕ) (version : ℕ) (world : World) (lines : List Line) (fault : Unlawful) → IsSpelling (record { version = version; world = world; lines = lines }) bytes → Differs world version lines fault → IsVerdictOfText bytes (verdicts.Differs fault)
 is_short bytes version world lines fault spelled differs = record { version = version; world = world; lines = lines; spelled = spelled; verdict_is = differing world version lines fault differs }
 
 pub is_same : (bytes : List ℕ) (version : ℕ) (world : World) (lines : List Line) → IsSpelling (record { version = version; world = world; lines = lines }) bytes → IsLawfulIn world version lines → IsVerdictOfText bytes verdicts.Same
 is_same bytes version world lines spelled lawful = record { version = version; world = world; lines = lines; spelled = spelled; verdict_is = lawful }
 
--- a fault that is passed on is the text's
+-- A fault that is passed on is the text's.
 pub passed_on : {T : Type 0} (bytes : List ℕ) (fault : RecordFault) (result : Result T RecordFault) → IsErrAnd result (λ e. e ≡ fault) → Refuses fault (answer bytes) → IfErr result (λ f. Refuses f (answer bytes))
 passed_on bytes fault (Ok value) gives refuses = tt
 passed_on bytes fault (Err e) gives refuses = subst (λ (f : RecordFault). Refuses f (answer bytes)) (sym gives) refuses

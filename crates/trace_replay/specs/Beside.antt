@@ -8,13 +8,13 @@ use Rattle.record_text.specs.Spelling.{IsSpelling}
 use Rattle.link_model.specs.declared.expected_run.ExpectedRun.{ExpectedRun}
 use Rattle.link_model.specs.ExpectedRun.{world_in, GoesOn}
 
--- the lines of the text that were read are those that the expected run of its scenario took
+-- The lines of the text that were read are those that the expected run of its scenario took.
 pub record IsBeside (bytes : List ℕ) (expected_run : ExpectedRun) (reader : Reader) : Type 0 where
   pub lines : List Line
   pub reads : IsReading bytes expected_run.version (world_in expected_run) lines reader
   pub goes : GoesOn lines expected_run
 
--- the text is that of a record which begins with these lines
+-- The text is that of a record that begins with these lines.
 pub record IsRead (bytes : List ℕ) (version : ℕ) (world : World) (lines : List Line) : Type 0 where
   pub more : List Line
   pub spelled : IsSpelling (record { version = version; world = world; lines = lines ++ more }) bytes

@@ -6,7 +6,7 @@ use Rattle.record_text.specs.Spelling.{IsSpelling}
 use Rattle.trace_replay.specs.declared.verdict.Verdict.{Verdict}
 use Rattle.trace_replay.specs.Verdict.{IsVerdict}
 
--- the bytes spell the record of a scenario and of a history, and this is the verdict on it
+-- The bytes spell the record of a scenario and of a history, and this is the verdict on it.
 pub record IsVerdictOfText (bytes : List ℕ) (verdict : Verdict) : Type 0 where
   pub version : ℕ
   pub world : World

@@ -15,8 +15,8 @@ use link_model::{ExpectedRun, StepFault};
 use record_text::{Reader, RecordFault};
 use std::alloc::Global;
 
-/// Takes the lines that wait for as long as the text goes on with them. Parses no line. Returns
-/// `NoMemory` if memory ran out.
+/// Takes the lines that wait while the text continues with them. Parses no line. Returns `NoMemory`
+/// if memory ran out.
 pub fn pass_alike(expected_run: &mut ExpectedRun, reader: &mut Reader) -> Result<(), NoMemory>
     requires { (bytes : List ℕ) × IsBeside bytes expected_run.old reader.old }
     ensures { (bytes : List ℕ) → IsBeside bytes expected_run.old reader.old → OnOk result (IsBeside bytes expected_run.new reader.new) }

@@ -1,14 +1,14 @@
-//! The check of a record: whether its history is the lawful one, and if not, which line is the
-//! first that differs and which law that line breaks. `link_model` compares a history line by line,
+//! The check of a record: whether its history is the lawful one. If not, it finds the first line
+//! that differs and the law that this line breaks. `link_model` compares a history line by line,
 //! and `record_text` reads records. The contracts of `replay` and `replay_text` promise the verdict
 //! of `specs/Verdict`.
 //!
 //! # Design
 //!
 //! - A text is read while the lawful history is played (`IsBeside`): the lines that were read are
-//!   those that the expected run took. As long as both agree, the lines that wait are written and
-//!   their bytes compared with the text, about 256 lines at a time, and no line is parsed. From the
-//!   first part that differs on the lines are parsed and compared one by one, up to the first that
+//!   those that the expected run took. While both agree, the lines that wait are written, about 256
+//!   lines at a time, and their bytes are compared with the text. No line is parsed. From the first
+//!   part that differs on the lines are parsed and compared one by one, up to the first that
 //!   differs. The rest is parsed as well, since a fault of the text comes before a verdict.
 //! - So a text is read once, and nothing of it is kept. The law of a difference is found by the
 //!   expected run, and the first fault of a text by the reader: each in one place.

@@ -4,7 +4,7 @@ use Rattle.lawful_history.specs.declared.line.Line.{Line}
 use Rattle.record_text.specs.Readers.{IsReading}
 use Rattle.trace_replay.proofs.beside.read_on.Given as goal
 
--- some lines were read
+-- Some lines were read.
 abbrev pub invariant-loop-line : goal.invariant-loop-line
 invariant-loop-line l = (bytes : List ℕ) (version : ℕ) (world : World) (lines : List Line) → IsReading bytes version world lines l.initial.reader →
     (more : List Line) × IsReading bytes version world (lines ++ more) l.reader

@@ -18,15 +18,15 @@ use Rattle.sim_world.specs.Playing.{output_of}
 use Rattle.sim_world.specs.RecordWriting.{HasRecorded}
 use Rattle.sim_world.specs.declared.record_writer.RecordWriter.{RecordWriter}
 
--- the lines that were drained from a simulator that took all acts, with those that it keeps, are
--- what a record has of the history
+-- The lines that were drained from a simulator that took all acts, with those that it keeps, are
+-- what a record has of the history.
 pub heard_whole : (world : World) (version : ℕ) (gone : List Line) (i : ℕ) (s : Simulator) → length world.acts ≤ i → RunsTo world (output_of version gone) (schedule (take i world.acts)) s → gone ++ kept_lines s ≡ recorded_in world version (history world)
 heard_whole world version gone i s whole runs =
     let all = take_all i world.acts whole in
     told_so_far world (output_of version gone) (schedule (take i world.acts)) [] s runs (sym (append-nil (schedule (take i world.acts)) ∙ ap schedule all))
     ∙ ap (λ (xs : List Act). recorded_in world version (reverse (moment_of world (schedule xs)).past)) all
 
--- after the front, with the count of the lines, the text is the record's
+-- After the front, with the count of the lines, the text is the record's.
 pub ended : PartsAreSpelling → (world : World) (version : ℕ) (began told : RecordWriter) (out : List ℕ) (lines : List Line) → is_version version ≡ true → IsWorld world → began.text.items ≡ front_text version world → began.count ≡ 0 → HasRecorded began told lines → out ≡ told.text.items ++ count_text told.count → IsSpelling (record { version = version; world = world; lines = lines }) out
 ended parts world version began told out lines known is_world front none is last =
     let count : told.count ≡ length lines = is.count ∙ ap (λ n. n + length lines) none ∙ zero-add (length lines) in (

@@ -13,21 +13,21 @@ use Rattle.sim_world.specs.declared.playing.Stopped.{Stopped}
 use Rattle.sim_world.specs.declared.playing.Stopped.TheVariants.{NoMemory, HeardEnough}
 use Rattle.sim_world.specs.Playing.{output_of, HasStopped, StopsWithin}
 
--- where the listener stopped the play, this holds
+-- Where the listener stopped the play, this holds.
 abbrev pub WhereStopped : {T : Type 0} → Result T Stopped → Type 0 → Type 0
 WhereStopped result P = IfErr result (λ why. why ≡ HeardEnough → P)
 
--- an error that is passed on has the same cause
+-- An error that is passed on has the same cause.
 pub passed_on : {T : Type 0} (why : Stopped) (result : Result T Stopped) (P : Type 0) → IsErrAnd result (λ e. e ≡ why) → (why ≡ HeardEnough → P) → WhereStopped result P
 passed_on why (Ok value) P gives so = tt
 passed_on why (Err e) P gives so = λ is. so (sym gives ∙ is)
 
--- where memory ran out the listener didn't stop the play
+-- Where memory ran out the listener didn't stop the play.
 pub by_memory : {T : Type 0} (result : Result T Stopped) (P : Type 0) → IsErrAnd result (λ e. e ≡ NoMemory) → WhereStopped result P
 by_memory (Ok value) P gives = tt
 by_memory (Err e) P gives = λ is. let same : NoMemory ≡ HeardEnough = sym gives ∙ is in absurd cc
 
--- a stop within the first of some events is a stop within all of them
+-- A stop within the first of some events is a stop within all of them.
 pub stops_later : (world : World) (version : ℕ) (P : List Line → Type 0) (events more all : List Event) → events ++ more ≡ all → HasStopped world version P events → HasStopped world version P all
 stops_later world version P events more all is stopped = record {
   before = stopped.before;
@@ -39,7 +39,7 @@ stops_later world version P events more all is stopped = record {
   lines = stopped.lines;
 }
 
--- the turns that were played and those that are left
+-- The turns that were played and those that are left.
 pub turns_left : (events : List Event) (turn : Event) (k steps : ℕ) → k < steps → ((events ++ replicate k turn) ++ turn ∷ []) ++ replicate (steps - (k + 1)) turn ≡ events ++ replicate steps turn
 turns_left events turn k steps inside =
     let left = steps - (k + 1) in
@@ -48,7 +48,7 @@ turns_left events turn k steps inside =
     ap (λ es. es ++ replicate left turn) played ∙ append_assoc events (replicate (k + 1) turn) (replicate left turn)
     ∙ ap (λ r. events ++ r) (replicate-append-replicate (k + 1) left turn) ∙ ap (λ n. events ++ replicate n turn) count
 
--- a stop within the first events of the schedule
+-- A stop within the first events of the schedule.
 pub stops_within : (world : World) (version : ℕ) (P : List Line → Type 0) (events more : List Event) → schedule world.acts ≡ events ++ more → HasStopped world version P events → StopsWithin world version P
 stops_within world version P events more all stopped =
     let scheduled : schedule world.acts ≡ stopped.before ++ (stopped.rest ++ more) = all ∙ ap (λ es. es ++ more) stopped.events_are ∙ append_assoc stopped.before stopped.rest more in
@@ -59,12 +59,12 @@ stops_within world version P events more all stopped =
       lines = subst P (told_so_far world (output_of version stopped.gone) stopped.before (stopped.rest ++ more) stopped.simulator stopped.runs scheduled) stopped.lines;
     }
 
--- the events up to an act, and those after them
+-- The events up to an act, and those after them.
 pub acts_left : (acts : List Act) (i : ℕ) (a : Act) → i < length acts → a ≡ get_or acts i a → schedule acts ≡ (schedule (take i acts) ++ events_of a) ++ schedule (drop (i + 1) acts)
 acts_left acts i a inside is =
     ap (λ (xs : List Act). schedule xs) (sym (take-append-drop (i + 1) acts)) ∙ flat_map-append events_of (take (i + 1) acts) (drop (i + 1) acts)
     ∙ ap (λ es. es ++ schedule (drop (i + 1) acts)) (schedule_more acts i a inside is)
 
--- after all acts no event is left
+-- After all acts no event is left.
 pub none_left : (acts : List Act) (i : ℕ) → length acts ≤ i → schedule acts ≡ schedule (take i acts) ++ []
 none_left acts i whole = ap (λ (xs : List Act). schedule xs) (sym (take_all i acts whole)) ∙ sym (append-nil (schedule (take i acts)))

@@ -8,12 +8,12 @@ use Rattle.simulator.specs.Log.{Output}
 use Rattle.simulator.specs.Simulator.{RunsTo, moment_of, kept_lines}
 use Rattle.simulator.specs.declared.simulator.Simulator.{Simulator}
 
--- a record of this version that was given these lines
+-- A record of this version that was given these lines.
 abbrev pub output_of : (version : ℕ) → List Line → Output
 output_of version gone = record { version = version; drained = gone }
 
--- the simulator is at the moment to which these events lead, and the listener received the lines
--- that were drained from it
+-- The simulator refines the state after these events, and the listener received the lines drained
+-- from it.
 pub record HasReceived (world : World) (version : ℕ) (received : List Line → Type 0) (events : List Event) (simulator : Simulator) : Type 0 where
   pub gone : List Line
   pub runs : RunsTo world (output_of version gone) events simulator
@@ -30,8 +30,8 @@ pub record HasStopped (world : World) (version : ℕ) (stopped_after : List Line
   pub runs : RunsTo world (output_of version gone) before simulator
   pub lines : stopped_after (gone ++ kept_lines simulator)
 
--- the listener stopped the play after what a record of this version has of the first events of the
--- schedule
+-- The listener stopped the play after what a record of this version has of the first events of the
+-- schedule.
 pub record StopsWithin (world : World) (version : ℕ) (stopped_after : List Line → Type 0) : Type 0 where
   pub before : List Event
   pub rest : List Event

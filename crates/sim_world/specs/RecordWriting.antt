@@ -9,7 +9,7 @@ use Rattle.record_text.specs.Spelling.{Record, AllFit}
 use Rattle.record_text.specs.Growing.{history_text}
 use Rattle.sim_world.specs.declared.record_writer.RecordWriter.{RecordWriter}
 
--- between the two states these lines were appended and counted
+-- Between the two states these lines were appended and counted.
 pub record HasRecorded (began told : RecordWriter) (lines : List Line) : Type 0 where
   pub text : told.text.items ≡ began.text.items ++ history_text lines
   pub count : told.count ≡ began.count + length lines
@@ -17,6 +17,6 @@ pub record HasRecorded (began told : RecordWriter) (lines : List Line) : Type 0 
   pub fits : AllFit lines
   pub frames : HaveFrames lines
 
--- the record of this version of the scenario's one lawful history
+-- The record of this version of the scenario's one lawful history.
 abbrev pub lawful_record : (version : ℕ) → World → Record
 lawful_record version world = record { version = version; world = world; lines = recorded_in world version (history world) }

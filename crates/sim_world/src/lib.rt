@@ -1,6 +1,6 @@
 //! The simulation of a scenario: its lawful history, played act by act on a `simulator`, and its
 //! record, written by `record_text`. The contract of `simulate` promises the lines that a record of
-//! version 2 has of the scenario's one lawful history, whatever its acts are. The contract of
+//! version 2 has of the scenario's one lawful history, for all acts. The contract of
 //! `simulate_text` promises the text of this record, and keeps no history in memory. The contract
 //! of `play` promises that a listener receives the same lines in parts.
 //!

@@ -8,7 +8,7 @@ use Rattle.program_edge.specs.declared.exit.Status.TheVariants.{Done, Differs, U
 use Rattle.program_edge.specs.Exit.{has_reply}
 use Rattle.ivshm_explain.specs.Explained.{IsReply, IsRead, Replies, HasCause}
 
--- the status of a reply is one with a text
+-- The status of a reply is one with a text.
 pub written : (form : Form) (bytes text : List ℕ) (status : Status) → IsReply form bytes status text → IsTrue (has_reply status)
 written form bytes text Done reply = refl
 written form bytes text Differs reply = refl
@@ -19,7 +19,7 @@ written form bytes text WriteFault reply = elim reply [ ]
 written form bytes text NoMemory reply = elim reply [ ]
 
 module _ (form : Form) (before now : Input) (before' now' : Output) (bytes text : List ℕ) (gave : Gave before bytes now) (ended : IsRead form before now) where
-  -- a reply that was written whole
+  -- A reply that was written whole.
   whole : (status : Status) → IsReply form bytes status text → Took before' text now' → HasCause status (Some form) before now before' now'
   whole Done reply wrote = record { bytes = bytes; text = text; gave = gave; ended = ended; reply = reply; wrote = wrote }
   whole Differs reply wrote = record { bytes = bytes; text = text; gave = gave; ended = ended; reply = reply; wrote = wrote }
@@ -29,7 +29,7 @@ module _ (form : Form) (before now : Input) (before' now' : Output) (bytes text 
   whole WriteFault reply wrote = elim reply [ ]
   whole NoMemory reply wrote = elim reply [ ]
 
-  -- a reply of which all was written, or a part
+  -- A reply of which all was written, or a part.
   pub replied : (status result : Status) → IsReply form bytes status text → (result ≡ status) ⊎ (result ≡ WriteFault) → (IsTrue (has_reply result) → Took before' text now')
       → (result ≡ WriteFault → SinkFailed before' now') → HasCause result (Some form) before now before' now'
   replied status result reply cases all part =

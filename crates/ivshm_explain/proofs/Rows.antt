@@ -12,7 +12,7 @@ peer_count : (p : ℕ) (honest : List Bool) → length (rows_of_peers p honest) 
 peer_count p [] = refl
 peer_count p (b ∷ bs) = let rest = peer_count (p + 1) bs in omega (arith, rest)
 
--- a row stands between two parts, and one after them
+-- A row stands between two parts, and one after them.
 parts : (first later : List (Row Form)) (between last : Row Form) → length (first ++ between ∷ [] ++ later ++ last ∷ []) ≡ length first + length later + 2
 parts first later between last =
     let one = length-append ((first ++ between ∷ []) ++ later) (last ∷ []) in
@@ -22,7 +22,7 @@ parts first later between last =
     let five = length-append later (last ∷ []) in
     omega (arith, one, two, three, four, five)
 
--- seven lines of sizes and interrupts, the peers', `begin`, the acts', and `end`
+-- Seven lines of sizes and interrupts, the peers', `begin`, the acts', and `end`.
 pub row_count : (w : World) → length (rows_of w) ≡ length w.honest + length w.acts + 9
 row_count w =
     let peers = peer_count 0 w.honest in

@@ -13,25 +13,25 @@ use Rattle.ivshm_explain.specs.declared.verdicts.Verdict.{Verdict}
 use Rattle.ivshm_explain.specs.declared.verdicts.Verdict.TheVariants.{Accepted, Refused, Differs}
 use Rattle.ivshm_explain.specs.Refusals.{of_record}
 
--- the text is no record, and the refusal is that of its first fault
+-- The text is no record, and the refusal is that of its first fault.
 pub record IsRecordFault (bytes : List ℕ) (refusal : Refusal) : Type 0 where
   pub fault : RecordFault
   pub first : answer bytes ≡ Err fault
   pub refuses : of_record fault ≡ Some refusal
 
--- the fault is where the record differs from each lawful history of its scenario, and the lawful
--- lines are those of one
+-- The fault is where the record differs from each lawful history of its scenario, and the lawful
+-- lines are those of one.
 pub record IsFound (d : Difference) : Type 0 where
   pub differs : IsDifference (world_of d.trace.scenario) d.trace.version d.trace.lines d.fault
   pub lawful : IsLawfulIn (world_of d.trace.scenario) d.trace.version d.lawful
 
--- what `replay` answers to a record
+-- What `replay` answers to a record.
 abbrev pub IsReplayed : Trace → Verdict → Type 0
 IsReplayed trace Accepted = IsLawfulIn (world_of trace.scenario) trace.version trace.lines
 IsReplayed trace (Differs d) = (d.trace ≡ trace) × IsFound d
 IsReplayed trace _ = ⊥
 
--- the bytes spell the record that differs
+-- The bytes spell the record that differs.
 abbrev pub IsFoundIn : List ℕ → Difference → Type 0
 IsFoundIn bytes d = IsSpelling (record_of d.trace) bytes × IsFound d
 

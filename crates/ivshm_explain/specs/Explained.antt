@@ -19,25 +19,24 @@ use Rattle.ivshm_explain.specs.Verdicts.{IsVerdict}
 abbrev pub usage_line : List ℕ
 usage_line = codes "usage: ivshm_explain sim | run | replay | renew | dump | config P | load N | capture P | feed P | ports | bridge\n"
 
--- the explanation begins with the line that `ivshm` answers, and with the place that is faulty and
--- what stands there
+-- The explanation begins with the line that `ivshm` answers, the faulty place and its contents.
 pub record IsExplained (bytes : List ℕ) (refusal : Refusal) (text : List ℕ) : Type 0 where
   pub words : List ℕ
   pub is : text ≡ verdict_of refusal ++ place_of bytes refusal.place ++ words
 
--- the reply to bytes that were read: its status and its text
+-- The reply to bytes that were read: its status and its text.
 abbrev pub IsReply : Form → List ℕ → Status → (text : List ℕ) → Type 0
 IsReply form bytes Done text = IsVerdict form bytes verdicts.Accepted
 IsReply form bytes Refused text = (refusal : Refusal) × IsVerdict form bytes (verdicts.Refused refusal) × IsExplained bytes refusal text
 IsReply form bytes Differs text = (difference : Difference) × IsVerdict form bytes (verdicts.Differs difference) × IsDifferenceText difference text
 IsReply form bytes _ text = ⊥
 
--- the input was read to its end; `load` reads nothing
+-- The input was read to its end; `load` reads nothing.
 abbrev pub IsRead : Form → (before now : Input) → Type 0
 IsRead forms.Load before now = now ≡ before
 IsRead _ before now = HasEnded now
 
--- bytes were read to their end, or none for `load`, and the whole reply to them was written
+-- Bytes were read to their end, or none for `load`, and the whole reply to them was written.
 pub record Replies (form : Form) (before now : Input) (before' now' : Output) (status : Status) : Type 0 where
   pub bytes : List ℕ
   pub text : List ℕ
@@ -46,14 +45,14 @@ pub record Replies (form : Form) (before now : Input) (before' now' : Output) (s
   pub reply : IsReply form bytes status text
   pub wrote : Took before' text now'
 
--- more bytes were read than the form reads, and the line that says so was written
+-- More bytes were read than the form reads, and the line that says so was written.
 pub record FindsTooMany (form : Form) (before now : Input) (before' now' : Output) : Type 0 where
   pub text : List ℕ
   pub gave : GaveMany before (limit_of form + 1) now
   pub explained : IsExplained [] (record { place = Whole; reason = TooLong }) text
   pub wrote : Took before' text now'
 
--- each status has its cause
+-- Each status has its cause.
 abbrev pub HasCause : Status → Option Form → (before now : Input) → (before' now' : Output) → Type 0
 HasCause Done (Some form) before now before' now' = Replies form before now before' now' Done
 HasCause Refused (Some form) before now before' now' = Replies form before now before' now' Refused ⊎ FindsTooMany form before now before' now'

@@ -7,26 +7,26 @@ use Rattle.program_edge.specs.declared.limits.TheConstants.{MOST_FRAMES, RECORD_
 use Rattle.ivshm_explain.specs.declared.forms.Form.{Form}
 use Rattle.ivshm_explain.specs.declared.forms.Form.TheVariants.{Sim, Run, Config, Load, Record, Feed, Dump, Ports, Bridge}
 
--- `config` with a peer: one digit, 0 to 7
+-- `config` with a peer: one digit, 0 to 7.
 abbrev pub config_of : List ℕ → Option Form
 config_of (digit ∷ []) = if nat_le 48 digit && nat_le digit 55 then Some (Config (digit - 48)) else None
 config_of _ = None
 
--- `load` with a count: a number from 1 to 80,000
+-- `load` with a count: a number from 1 to 80,000.
 abbrev pub load_of : List ℕ → Option Form
 load_of word = option_and_then (λ count. if nat_le 1 count && nat_le count MOST_FRAMES then Some Load else None) (number_of word)
 
--- `capture` with a link peer: one digit, 0 or 1
+-- `capture` with a link peer: one digit, 0 or 1.
 abbrev pub capture_of : List ℕ → Option Form
 capture_of (digit ∷ []) = if nat_le 48 digit && nat_le digit 49 then Some Record else None
 capture_of _ = None
 
--- `feed` with a link peer: one digit, 0 or 1
+-- `feed` with a link peer: one digit, 0 or 1.
 abbrev pub feed_of : List ℕ → Option Form
 feed_of (digit ∷ []) = if nat_le 48 digit && nat_le digit 49 then Some (Feed (digit - 48)) else None
 feed_of _ = None
 
--- the form that the words are, if they are one
+-- The form that the words are, if they are one.
 abbrev pub form_of : List (List ℕ) → Option Form
 form_of (first ∷ []) =
     if bytes_eq first (codes "sim") then Some Sim
@@ -50,7 +50,7 @@ abbrev pub IsFit : Form → Type 0
 IsFit (Feed peer) = peer < 2
 IsFit _ = ⊤
 
--- how many bytes a form reads at most; `load` reads nothing
+-- The most bytes that a form reads; `load` reads nothing.
 abbrev pub limit_of : Form → ℕ
 limit_of Load = 0
 limit_of Record = RECORD_LIMIT

@@ -23,7 +23,7 @@ use Rattle.ivshm_explain.specs.declared.refusals.Reason.{Reason}
 use Rattle.ivshm_explain.specs.declared.refusals.Reason.TheVariants.{TooLong, BadLine, BadOrder, BadNumber, BadPeer, BadFrame, BadMessage, BadGeometry, TooManyTurns, TooManyFrames, NotRunning, NoEnd, BadCount, BadHeader, ShortImage, LongImage, Short, BadMagic, BadVersion, BadLinkType, BadPacket, CutPacket, TooLarge}
 use Rattle.ivshm_explain.specs.declared.refusals.Refusal.{Refusal}
 
--- the number that the answer names
+-- The number that the answer names.
 abbrev pub number_of : Place → ℕ
 number_of Whole = 0
 number_of (Line number) = number
@@ -61,7 +61,7 @@ answer_of number (ShortImage need found) = count_line_of (name_of (ShortImage ne
 answer_of number (LongImage need found) = count_line_of (name_of (LongImage need found)) number need found
 answer_of number reason = place_line_of (name_of reason) number
 
--- the line that `ivshm` answers
+-- The line that `ivshm` answers.
 abbrev pub verdict_of : Refusal → List ℕ
 verdict_of refusal = answer_of (number_of refusal.place) refusal.reason
 
@@ -71,7 +71,7 @@ at line reason = Some (record { place = Line line; reason = reason })
 abbrev pub whole : Reason → Option Refusal
 whole reason = Some (record { place = Whole; reason = reason })
 
--- the refusal of a fault; want of memory refuses nothing
+-- The refusal of a fault; want of memory refuses nothing.
 abbrev pub of_scenario : ScenarioFault → Option Refusal
 of_scenario (scenarios.BadLine line) = at line BadLine
 of_scenario (scenarios.BadNumber line) = at line BadNumber
@@ -117,7 +117,7 @@ at_bytes first count reason = Some (record { place = Bytes first count; reason =
 abbrev pub at_packet : ℕ → Reason → Option Refusal
 at_packet number reason = Some (record { place = Packet number; reason = reason })
 
--- the sizes of an image's header that are faulty
+-- The sizes of an image's header that are faulty.
 abbrev pub of_sizes : GeometryFault → Option Refusal
 of_sizes (BadPeers found) = at_bytes 8 4 BadGeometry
 of_sizes (BadPage Table size) = at_bytes 12 4 BadGeometry
@@ -126,7 +126,8 @@ of_sizes (BadPage Out size) = at_bytes 24 8 BadGeometry
 of_sizes (TableTooSmall need found) = at_bytes 12 4 BadGeometry
 of_sizes (RegionTooLarge size) = at_bytes 8 24 BadGeometry
 
--- the header, its sizes, the end of an image that is too short, or the first bytes after the region
+-- The header, its sizes, the end of an image that is too short, or the first bytes after the
+-- region.
 abbrev pub of_image : DumpFault → Option Refusal
 of_image dumps.BadHeader = at_bytes 0 HEADER_LEN BadHeader
 of_image (dumps.Geometry fault) = of_sizes fault
@@ -134,7 +135,7 @@ of_image (dumps.ShortImage need found) = at_bytes found 1 (ShortImage need found
 of_image (dumps.LongImage need found) = at_bytes need 16 (LongImage need found)
 of_image dumps.NoMemory = None
 
--- the fields of a capture file's header by their places, or the packet
+-- The fields of a capture file's header by their places, or the packet.
 abbrev pub of_capture : CaptureFault → Option Refusal
 of_capture (captures.Short found) = at_bytes found 1 Short
 of_capture (captures.BadMagic value) = at_bytes 0 4 BadMagic

@@ -29,7 +29,7 @@ use Rattle.ivshm_explain.specs.declared.refusals.Reason.TheVariants.{NotRunning,
 use Rattle.ivshm_explain.specs.Differences.{IsRecordVerdict}
 use Rattle.ivshm_explain.specs.Refusals.{at, whole, of_scenario, of_ports, of_bridge, of_image, of_capture}
 
--- the text is no scenario, and the refusal is that of its first fault
+-- The text is no scenario, and the refusal is that of its first fault.
 pub record IsScenarioFault (bytes : List ℕ) (refusal : Refusal) : Type 0 where
   pub fault : ScenarioFault
   pub first : answer bytes ≡ Err fault
@@ -45,7 +45,7 @@ pub record IsBridgeFault (bytes : List ℕ) (refusal : Refusal) : Type 0 where
   pub first : bridge_judge.answer bytes ≡ Err fault
   pub refuses : of_bridge fault ≡ Some refusal
 
--- the bytes are no image, and the refusal is that of their first fault
+-- The bytes are no image, and the refusal is that of their first fault.
 pub record IsImageFault (bytes : List ℕ) (refusal : Refusal) : Type 0 where
   pub fault : DumpFault
   pub first : IsDumpFault bytes fault
@@ -56,7 +56,7 @@ pub record IsNoCapture (bytes : List ℕ) (refusal : Refusal) : Type 0 where
   pub first : IsCaptureFault bytes fault
   pub refuses : of_capture fault ≡ Some refusal
 
--- what `run`, `config P` and `sim` answer to a scenario
+-- What `run`, `config P` and `sim` answer to a scenario.
 abbrev pub IsScenarioVerdict : Form → World → Verdict → Type 0
 IsScenarioVerdict forms.Run world Accepted = not_running world ≡ None
 IsScenarioVerdict forms.Run world (Refused refusal) = (line : ℕ) × (not_running world ≡ Some line) × (Some refusal ≡ at line NotRunning)
@@ -65,7 +65,7 @@ IsScenarioVerdict (forms.Config peer) world (Refused refusal) = (world.geometry.
 IsScenarioVerdict _ world Accepted = ⊤
 IsScenarioVerdict _ world _ = ⊥
 
--- a scenario is answered so; a text that is none is refused by its first fault
+-- A scenario is answered so; a text that is none is refused by its first fault.
 abbrev pub IsTextVerdict : Form → List ℕ → Verdict → Type 0
 IsTextVerdict form bytes (Refused refusal) =
     IsScenarioFault bytes refusal ⊎ ((world : World) × IsSpelling world bytes × IsScenarioVerdict form world (Refused refusal))
@@ -86,17 +86,17 @@ IsDumpVerdict bytes Accepted = IsImage bytes
 IsDumpVerdict bytes (Refused refusal) = IsImageFault bytes refusal
 IsDumpVerdict bytes _ = ⊥
 
--- whether the scenario in which the peer offers the frames of a capture is too large
+-- Whether the scenario in which the peer offers the frames of a capture is too large.
 abbrev pub FeedsTooMuch : (peer : ℕ) → Capture → Type 0
 FeedsTooMuch peer capture = IsTooLarge (feed_world peer (offered_frames capture.packets))
 
--- what `feed P` answers to a capture
+-- What `feed P` answers to a capture.
 abbrev pub IsFed : (peer : ℕ) → Capture → Verdict → Type 0
 IsFed peer capture Accepted = ¬ FeedsTooMuch peer capture
 IsFed peer capture (Refused refusal) = FeedsTooMuch peer capture × (Some refusal ≡ whole TooLarge)
 IsFed peer capture _ = ⊥
 
--- a capture file is answered so; other bytes are refused by their first fault
+-- A capture file is answered so; other bytes are refused by their first fault.
 abbrev pub IsFeedVerdict : (peer : ℕ) → List ℕ → Verdict → Type 0
 IsFeedVerdict peer bytes (Refused refusal) = IsNoCapture bytes refusal ⊎ ((capture : Capture) × IsCaptureFile capture bytes × IsFed peer capture (Refused refusal))
 IsFeedVerdict peer bytes verdict = (capture : Capture) × IsCaptureFile capture bytes × IsFed peer capture verdict
@@ -106,7 +106,7 @@ abbrev pub IsLoadVerdict : Verdict → Type 0
 IsLoadVerdict Accepted = ⊤
 IsLoadVerdict _ = ⊥
 
--- what the form answers to the bytes
+-- What the form answers to the bytes.
 abbrev pub IsVerdict : Form → List ℕ → Verdict → Type 0
 IsVerdict forms.Sim bytes verdict = IsTextVerdict forms.Sim bytes verdict
 IsVerdict forms.Run bytes verdict = IsTextVerdict forms.Run bytes verdict

@@ -22,7 +22,7 @@ pub struct Reply {
     pub text: Vec<u8>,
 }
 
-/// The line that `ivshm` answers, the faulty place with what stands there, and these words.
+/// The line that `ivshm` answers, the faulty place with its contents, and these words.
 fn joined(
     alloc: Global,
     bytes: &[u8],

@@ -15,7 +15,7 @@ use line_format::cut;
 use split_ring::{FRAME_OVERHEAD, LEAST_MTU, SHORTEST_FRAME};
 use std::alloc::{AllocError, Global};
 
-/// Whether a line `end` stands before the line with this number, or anywhere if the number is 0.
+/// Whether a line `end` precedes the line with this number, or is anywhere if the number is 0.
 fn is_after_scenario(bytes: &[u8], number: u64) -> bool {
     let last = if number == 0 { u64::MAX } else { number };
     let mut rest = bytes;

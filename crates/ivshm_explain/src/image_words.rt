@@ -64,7 +64,7 @@ fn geometry_words(alloc: Global, image: &[u8]) -> Result<String, AllocError> {
     sizes_words(alloc, sizes)
 }
 
-/// Which bytes the header asks for.
+/// The bytes that the header requires.
 fn need_words(alloc: Global, image: &[u8], need: u64) -> Result<String, AllocError> {
     let Sizes {
         peers,

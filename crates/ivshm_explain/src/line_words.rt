@@ -4,7 +4,7 @@ use crate::shapes::{Grammar, head, shapes};
 use crate::texts::{FaultyText, fields_of, first_word, text_of};
 use std::alloc::{AllocError, Global};
 
-/// The column and the value of the first byte that can't stand in a line.
+/// The column and the value of the first byte that no line may have.
 fn other_byte(line: &[u8]) -> Option<(u64, u8)> {
     for (at, byte) in line.iter().enumerate() {
         if !(32..=126).contains(byte) {

@@ -23,7 +23,7 @@ fn field_fault(field: &[u8]) -> &'static str {
     }
 }
 
-/// What stands in a number's place, what is wrong with it, and which numbers are due.
+/// The contents of a number's place, the fault, and the numbers that are due.
 fn range_words(
     alloc: Global,
     name: &[u8],

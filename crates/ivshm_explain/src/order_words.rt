@@ -1,4 +1,4 @@
-//! Why a line can't stand at its place, or names a peer that can't do this, in words.
+//! Why a line is wrong at its place, or names a peer that can't do this, in words.
 
 use crate::shapes::{Grammar, head};
 use crate::texts::{FaultyText, fields_of, first_word, text_of};
@@ -26,7 +26,7 @@ fn due_words(alloc: Global, text: &FaultyText, place: u64) -> Result<Option<Stri
     Ok(None)
 }
 
-/// Why a call line or `auto` comes too late after what stands before it.
+/// Why a call line or `auto` comes too late after the lines before it.
 fn call_words(
     alloc: Global,
     text: &FaultyText,
@@ -56,7 +56,7 @@ fn call_words(
     format!(in alloc; "`{name}` comes too late here\n")
 }
 
-/// Why an act, or a line of the head after `begin`, can't stand there.
+/// Why an act, or a line of the head after `begin`, is wrong there.
 fn act_words(alloc: Global, text: &FaultyText, number: u64) -> Result<String, AllocError> {
     let line = text.line(number);
     let fields = fields_of(line);
@@ -83,7 +83,7 @@ fn act_words(alloc: Global, text: &FaultyText, number: u64) -> Result<String, Al
     }
 }
 
-/// Why the line with this number can't stand at its place.
+/// Why the line with this number is wrong at its place.
 pub fn bad_order_words(
     alloc: Global,
     text: &FaultyText,
@@ -96,7 +96,7 @@ pub fn bad_order_words(
     format!(in alloc; "`{name}` can't come here: the line {due} is due\n")
 }
 
-/// Which peers an act is for, and of which kind.
+/// The peers for which an act is allowed, by their kind.
 fn peers_of(grammar: Grammar, word: &[u8]) -> &'static str {
     match (grammar, word) {
         (Grammar::Ports, b"poke") => "a hostile peer",
@@ -109,7 +109,7 @@ fn peers_of(grammar: Grammar, word: &[u8]) -> &'static str {
     }
 }
 
-/// Why the peer of the line with this number can't do what the line asks for.
+/// Why the peer of the line with this number can't do what the line requires.
 pub fn bad_peer_words(alloc: Global, text: &FaultyText, number: u64) -> Result<String, AllocError> {
     let line = text.line(number);
     let fields = fields_of(line);

@@ -53,7 +53,7 @@ fn visible(byte: u8) -> u8
     }
 }
 
-/// Puts the first bytes of a line last, as many as are left at most.
+/// Appends the first bytes of a line, at most those that are left.
 fn put_shown(out: &mut Vec<u8>, line: &[u8], left: u64) -> Result<(), AllocError>
     ensures { OnOk result (out.new.items ≡ out.old.items ++ map visible (take left line.now)) }
 {
@@ -177,7 +177,7 @@ fn put_line(alloc: Global, out: &mut Vec<u8>, bytes: &[u8], number: u64) -> Resu
     Ok(())
 }
 
-/// Puts the faulty place last, and what stands there.
+/// Appends the faulty place and its contents.
 pub fn put_place(
     alloc: Global,
     out: &mut Vec<u8>,

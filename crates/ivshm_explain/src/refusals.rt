@@ -43,9 +43,9 @@ pub enum Reason {
     /// The record states `kept` lines and has `found`.
     BadCount { kept: u64, found: u64 },
     BadHeader,
-    /// The image's header asks for `need` bytes, and there are `found`, which are fewer.
+    /// The image's header requires `need` bytes, and there are `found`, which are fewer.
     ShortImage { need: u64, found: u64 },
-    /// The image's header asks for `need` bytes, and there are `found`, which are more.
+    /// The image's header requires `need` bytes, and there are `found`, which are more.
     LongImage { need: u64, found: u64 },
     Short,
     BadMagic,

@@ -6,7 +6,7 @@ use arrayvec::ArrayVec;
 use line_format::{cut, fields, number};
 use std::str;
 
-/// A text, what its lines are, and how many lines stand before its head.
+/// A text, the form of its lines, and the number of lines before its head.
 #[derive(Clone, Copy)]
 pub struct FaultyText<'a> {
     pub bytes: &'a [u8],
@@ -38,7 +38,7 @@ pub fn first_word(line: &[u8]) -> &[u8] {
     }
 }
 
-/// Whether a field of a form is a name in capitals, in place of which something stands.
+/// Whether a field of a form is a name in capitals, which a value replaces.
 pub fn is_name(field: &[u8]) -> bool {
     field.iter().all(|byte| byte.is_ascii_uppercase())
 }
@@ -67,7 +67,7 @@ pub fn shape_of(grammar: Grammar, line: &[u8]) -> Option<&'static str> {
     None
 }
 
-/// The field that stands in place of this name of the form.
+/// The field in the place of this name of the form.
 pub fn field_named<'a>(shape: &str, line: &'a [u8], name: &[u8]) -> Option<&'a [u8]> {
     let names = fields_of(shape.as_bytes());
     let found = fields_of(line);
@@ -79,7 +79,7 @@ pub fn field_named<'a>(shape: &str, line: &'a [u8], name: &[u8]) -> Option<&'a [
     None
 }
 
-/// The number that stands in place of this name of the form.
+/// The number in the place of this name of the form.
 pub fn number_named(shape: &str, line: &[u8], name: &[u8]) -> Option<u64> {
     number(field_named(shape, line, name)?)
 }
@@ -95,7 +95,7 @@ impl<'a> FaultyText<'a> {
         number.saturating_sub(self.before)
     }
 
-    /// The number that stands on the head's line that begins with this word; 0 if none does.
+    /// The number on the head's line that begins with this word, or 0 if there is none.
     pub fn head_number(&self, word: &[u8]) -> u64 {
         for at in 1..=head(self.grammar).len() as u64 {
             let line = self.line(self.before.saturating_add(at));
@@ -148,7 +148,7 @@ impl<'a> FaultyText<'a> {
     }
 }
 
-/// The number after a line's first word; 0 if none stands there.
+/// The number after a line's first word, or 0 if there is none.
 fn number_after(line: &[u8]) -> u64 {
     match cut(b' ', line) {
         Some((_, field)) => number(field).unwrap_or(0),

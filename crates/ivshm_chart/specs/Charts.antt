@@ -1,4 +1,4 @@
--- What the top call owes: the cause of each status, and the text written.
+-- The obligations of the top call: the cause of each status, and the text written.
 use Rattle.std.specs.Prelude.{ℕ, ◌≡◌, ◌+◌, ◌⊎◌, List, codes, Option, Some, None, Err}
 use Rattle.ivs_base.specs.SourceAndSink.{Input, Output, Gave, GaveMany, HasEnded, Took, SourceFailed, SinkFailed}
 use Rattle.record_text.specs.declared.faults.RecordFault.{RecordFault}

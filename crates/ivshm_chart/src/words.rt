@@ -21,7 +21,7 @@ pub enum Kind {
     Text,
 }
 
-/// What the words ask for: a picture of these lines.
+/// The meaning of the words: a picture of these lines.
 #[derive(Clone, Copy, Debug, PartialEq, Eq)]
 pub struct Form {
     pub kind: Kind,
@@ -73,7 +73,7 @@ fn text_of(word: &str, span: Option<Span>) -> Option<Form>
     }
 }
 
-/// Returns what the words ask for: all lines, or those from FROM to TO, and a text if `--text` is
+/// Returns the meaning of the words: all lines, or those from FROM to TO, and a text if `--text` is
 /// the first word.
 pub fn read_form(words: &[String]) -> Option<Form>
     ensures form { result ≡ form_of (map string_bytes words.now) }

@@ -1,6 +1,6 @@
-//! What the programs share at their edge: the words out of the arguments, the limits of what is
-//! read, the status with its exit number, the text that a call writes last, and the lines that
-//! refuse an input. What a program does with its words is in its own crate.
+//! The common parts of the programs: their arguments, the limits of an input, the status with its
+//! exit number, the text that a call writes last, and the lines that refuse an input. What a
+//! program does with its words is in its own crate.
 #![tactic(auto)]
 
 mod arguments;

@@ -96,9 +96,9 @@ pub fn picture_of(alloc: Global, trace: &Trace, first: u64, last: u64) -> Result
     })
 }
 
-/// Returns the picture of a record of which `trace` has the first lines, and `others` lines follow.
-/// The picture is the same for all lines that follow. Returns nothing if more lines are needed.
-/// Returns `NoMemory` if an allocation fails.
+/// Returns the picture of a record with the first lines `trace`, which `others` lines follow. The
+/// picture is the same for all lines that follow. Returns nothing if more lines are needed. Returns
+/// `NoMemory` if an allocation fails.
 // claim: A picture of the first lines of a record is that of the whole, if the other lines change
 //    only how many are left out.
 pub fn picture_of_front(

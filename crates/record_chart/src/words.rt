@@ -30,7 +30,7 @@ fn halves_of(queue: &Queue, word: u32) -> Halves {
 }
 
 /// Returns the text of the value of a word of a section. An index is shown without its flags if
-/// they are 0. Bytes are shown in hexadecimal, in the order in which they stand.
+/// they are 0. Bytes are shown in hexadecimal, in their order.
 fn halves_text(alloc: Global, halves: Halves, value: u32) -> Result<String, AllocError> {
     let low = value % 65_536;
     let high = value / 65_536;

@@ -22,7 +22,7 @@ pub data PortTree : Type 0 where
   Does : (access : Access) (mark : Option PortMark) (rest : PortTree) → PortTree
   Reads : (word : ℕ) (mark : ℕ → Option PortMark) (rest : ℕ → PortTree) → PortTree
 
--- The call goes on by this step, and the second tree is left of it.
+-- The call continues with this step, and the second tree is left of it.
 abbrev pub Goes : PortTree → PortStep → PortTree → Type 0
 Goes Ended step new = ⊥
 Goes (Does access mark rest) step new = (step ≡ port_step access 0 mark) × (new ≡ rest)

@@ -1,4 +1,4 @@
-//! Two peers, of which peer 0 ticks twice, and their history line by line.
+//! Two peers, the first of which ticks twice, and their history line by line.
 ghost use Rattle.std.specs.Prelude.{◌≡◌, None, IfOk, OnOk};
 
 use link_model::{Law, Line, Run, StepFault, Unlawful};

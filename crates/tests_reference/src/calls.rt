@@ -466,7 +466,7 @@ fn bytes_in_flight(rt: HostRuntime) -> Result<(), Fail> {
     Ok(())
 }
 
-/// The lines of the offer that takes the last descriptor.
+/// The lines of the offer that uses the last descriptor.
 const LAST_DESCRIPTOR: [Line; 15] = [
     ('r', 5424, 0),
     ('c', 0, 0),

@@ -547,8 +547,8 @@ fn bursts_wake_a_sleeping_peer(rt: HostRuntime) -> Result<(), Fail> {
     Ok(())
 }
 
-/// Peers of a link with events, of which one takes interrupts. Frames are in slots, and then in a
-/// byte ring, where the second frame starts 64 bytes after the first.
+/// Peers of a link with events. One of them has its interrupts enabled. Frames are in slots, and
+/// then in a byte ring, where the second frame starts 64 bytes after the first.
 #[test]
 fn two_threads_deliver_by_events(rt: HostRuntime) -> Result<(), Fail> {
     let alloc = rt.alloc();

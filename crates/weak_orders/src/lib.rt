@@ -69,7 +69,8 @@ pub fn ends_are_safe()
     ensures { EndsAreSafe }
 {}
 
-/// Two honest ends come by a weak run wherever they come over sequentially consistent memory.
+/// Two honest ends reach by a weak run all states that they reach over sequentially consistent
+/// memory.
 // claim: Every state that two honest ends reach over sequentially consistent memory is reached over
 //    the weak memory.
 pub fn sequential_runs_are_weak()

@@ -127,7 +127,7 @@ static uint32_t vector_for(uint32_t peer, const ivshm_effect *effect) {
     return NONE;
 }
 
-/* What the hypervisor notes of an event: the State Table, and which guests are connected. */
+/* The hypervisor's notes of an event: the State Table, and the guests that are connected. */
 static void note(struct apart *apart, const struct event *event, const ivshm_effect *effect) {
     if (event->peer >= apart->world.peers) return;
     if (effect->writes_state) apart->state_table[event->peer] = effect->state;
@@ -262,7 +262,8 @@ static void play(struct apart *apart, const struct event *event) {
     }
 }
 
-/* What a driver does at first, so that interrupts come. Each write is left out now and then. */
+/* The first accesses of a driver, which enable its interrupts. Each write is left out now and then.
+ */
 static void set_up(struct apart *apart, uint32_t peer) {
     const ivshm_window_access writes[] = {
         {6, IVSHM_WINDOW_CONFIG, COMMAND, 2},

@@ -129,7 +129,7 @@ static void sizes(void) {
     }
 }
 
-/* Where the region is: at a base, or in the window of Base Address Register 2. */
+/* The place of the region: at a base, or in the window of Base Address Register 2. */
 static void places(void) {
     static const struct {
         uint64_t out, base;

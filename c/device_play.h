@@ -17,7 +17,7 @@ struct device_world {
     uint32_t vectors;
 };
 
-/* What a write to the register page or a reset does. */
+/* The effect of a write to the register page or of a reset. */
 struct device_effect {
     uint32_t writes_state; /* 1: the peer's word of the State Table becomes `state` */
     uint32_t state;

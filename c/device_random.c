@@ -1,9 +1,9 @@
 /* device_random PEERS VECTORS CALLS SEED RECORD: guests that access their devices at random, over
  * the device library, with a record of all that the library answered (device_record.h). Windows,
- * offsets, widths and peers may be any. What the device ignores or refuses is no line of a record,
- * so this program checks that it reads 0, or changes nothing and has no effect. Some deliveries are
- * lost in flight. `ivshm replay` says `same` of each such record: what answered and what judges are
- * two proved programs.
+ * offsets, widths and peers may be any. An access that the device ignores or refuses is no line of
+ * a record. So this program checks that such a read gives 0, and that such a write changes nothing
+ * and has no effect. Some deliveries are lost in flight. `ivshm replay` says `same` of each such
+ * record: one proved program judges the answers of another.
  *
  *     cc -O2 -o device_random device_random.c heap.c LIB    with tools/c_library --device */
 #include <stdlib.h>
@@ -116,7 +116,7 @@ static void make_refused(uint32_t peer, uint32_t peers, ivshm_window_access acce
     if (status != due || access.value != value || effect.count != 99) fail("a wrong access isn't refused", status);
 }
 
-/* What a driver does, so that interrupts come: each is as likely left out. */
+/* The accesses of a driver that enable its interrupts. Each is left out as often as made. */
 static void enable(uint32_t peer, uint32_t vectors) {
     const ivshm_window_access writes[] = {
         {.window = IVSHM_WINDOW_CONFIG, .offset = 4, .width = 2, .value = 6},

@@ -1,6 +1,6 @@
-/* A record of what guests asked of the devices of one world, for a hypervisor in C. `ivshm replay`
- * reads it and answers `same` exactly if each answer and each interrupt is the one that the rules
- * of the device give (docs/DEVICE.md, docs/FORMATS.md, docs/REPLAY.md).
+/* A record of the accesses of guests to the devices of one world, for a hypervisor in C. `ivshm
+ * replay` reads it and answers `same` exactly if each answer and each interrupt is the one that the
+ * rules of the device give (docs/DEVICE.md, docs/FORMATS.md, docs/REPLAY.md).
  *
  *     struct device_record record;
  *     device_record_begin(&record)
@@ -14,12 +14,12 @@
  * disconnected is at reset, so the event of a disconnection is device_record_reset, and a
  * connection is none.
  *
- * An access is one of ivshm_device_mmio_read or _write, with its window, offset and width. What the
- * device ignores is no event, and has no line: an access that is none of those of its window. An
- * access of 8 bytes to the MSI-X region has two.
+ * An access is one of ivshm_device_mmio_read or _write, with its window, offset and width. An
+ * access that its window does not have is ignored by the device. It is no event, and has no line.
+ * An access of 8 bytes to the MSI-X region has two.
  *
- * A record has DEVICE_RECORD_MOST acts at most. Later events are left out, so the record is that
- * of the run up to there. */
+ * A record has DEVICE_RECORD_MOST acts at most. Later events are left out, so the record is that of
+ * the run up to there. */
 #ifndef DEVICE_RECORD_H
 #define DEVICE_RECORD_H
 #include <stdbool.h>

@@ -1,4 +1,4 @@
-/* What a call of a device costs (device_play.h), in nanoseconds: the best of ten rounds of each
+/* The cost of a call of a device (device_play.h), in nanoseconds: the best of ten rounds of each
  * call. bench/device links it with c/device_library.c and with c/device_plain.c. */
 #define _POSIX_C_SOURCE 200809L
 #include <inttypes.h>

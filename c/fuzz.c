@@ -5,10 +5,9 @@
  *     afl-fuzz -i CORPUS -o FOUND ./fuzz
  *     cc -DSTANDALONE fuzz.c DRIVER.c -o fuzz && ./fuzz FILE..     these once, without a fuzzer
  *
- * The bytes of the input choose the calls and the value of each read, so the other peer and the
- * words between two reads are whatever the fuzzer makes of them. After each access the laws
- * below are tested; the first that is broken is printed, and the target aborts. tools/attack
- * writes a corpus. */
+ * The bytes of the input choose the calls and the value of each read. So the fuzzer decides the
+ * other peer and the words between two reads. After each access the laws below are tested; the
+ * first that is broken is printed, and the target aborts. tools/attack writes a corpus. */
 #include "driver.h"
 
 #include <inttypes.h>
@@ -26,7 +25,7 @@ enum call { TICK, POLL, STOP, OFFER, RESET, CALLS };
 
 static const uint8_t *input, *input_end;
 
-/* What the driver did in the open call, and since its reset. */
+/* The actions of the driver in the open call, and since its reset. */
 static struct {
     enum call call;
     uint32_t accesses;          /* of the call */

@@ -1,7 +1,7 @@
 /* honest REGION OUT MTU SECONDS: peer 0 opposite a hostile peer 1. It ticks, offers and polls,
- * counts what it refused by field, and resets its end after each refusal. It looks at what the
- * library says of a refusal, at the words of the State Table that are nobody's, and whether each
- * access is its own to make. It ends with 0 if all of that was right and a value was refused. */
+ * counts what it refused by field, and resets its end after each refusal. It checks the library's
+ * report of a refusal, the words of the State Table without a peer, and that it may make each
+ * access. It ends with 0 if all of that was right and a value was refused. */
 #include "region.h"
 
 static uint64_t wrong;

@@ -1,6 +1,6 @@
-/* A hostile peer 1. It plays the handshake, and then stores words in its own section and its own
- * State: wholly random ones, or the fields of frames that are right except for one. It knows
- * nothing of the library. A program includes this file once, and sets the words. */
+/* A hostile peer 1. It plays the handshake. Then it stores words in its own section and its own
+ * State: random ones, or the fields of frames with one wrong field. It knows nothing of the
+ * library. A program includes this file once, and sets the words. */
 #ifndef HOSTILE_H
 #define HOSTILE_H
 #include <sched.h>
@@ -33,7 +33,7 @@ static const _Atomic uint32_t *his_state, *his;
 static uint32_t words, size, used, data;
 static uint64_t stores, sessions;
 
-/* Where the parts of a queue are in a section of `out` bytes. */
+/* The offsets of a queue's parts in a section of `out` bytes. */
 static void lay_out(uint32_t out) {
     words = out / 4;
     for (size = 4096; 8 * up(up(18 * size + 6) + 6 + 8 * size) >= out; size /= 2) {}
@@ -92,8 +92,8 @@ static void wait_for(uint32_t least, uint32_t most, double end, double most_seco
 }
 
 /* A session of at most `rounds` rounds in which one kind of field is wrong now and then, or in
- * which all stores are random. What is returned is wrong every other time, since the other peer may
- * publish only a few frames. */
+ * which all stores are random. Every other return is wrong, since the other peer may publish only a
+ * few frames. */
 static void session(double end, int kind, int rounds) {
     atomic_store(own_state, 1);
     wait_for(1, 2, end, 2);

@@ -13,12 +13,12 @@
  * joins at any later step of the peer that is rung. Doorbells rung until then are delivered as one.
  * In most runs no interrupt is delivered, so that its view hides nothing else.
  *
- * What must hold: nothing is refused. In each of its sessions an end delivers a prefix of what the
- * other accepted in one session, whole and in order. It delivers from each session of the other at
- * most once, and from rising ones. What a doorbell announces is found after its interrupt: a look
- * finds the frames that were accepted before the doorbell, and an offer the frames that were
- * returned. And in a link of version 2 no doorbell is lost: if the last look of a poll found
- * nothing, the other's next frame in that session rings. */
+ * The conditions of each run: nothing is refused. In each of its sessions an end delivers a prefix
+ * of what the other accepted in one session, whole and in order. It delivers from each session of
+ * the other at most once, and from rising ones. After the interrupt of a doorbell, a look finds the
+ * frames accepted before the doorbell, and an offer finds the frames returned before it. In a link
+ * of version 2 no doorbell is lost: if the last look of a poll found nothing, the other's next
+ * frame in that session rings. */
 #include <inttypes.h>
 #include <stdbool.h>
 #include <stdio.h>
@@ -47,8 +47,8 @@ struct word {
     struct message *list;
 };
 
-/* What a doorbell announces: the frames that its peer accepted in its session, and those that it
- * returned of the session to which it is attached. */
+/* The announcement of a doorbell: the frames accepted in the peer's session, and the frames
+ * returned of the session to which the peer is attached. */
 struct announcement { uint32_t session, accepted, attached, returned; };
 
 struct peer {
@@ -287,8 +287,7 @@ static bool step_before_index(struct peer *p, uint32_t *room, size_t bytes) {
     return true;
 }
 
-/* Makes one access of the open call, or as many as may be made at once, or the full fence before
- * it. */
+/* Makes one access of the open call, a burst of them, or the full fence before it. */
 static void step(struct peer *p) {
     static uint32_t room[OUT / 4];
     ivshm_access access;

@@ -1,8 +1,8 @@
 /* The rings of a link of version 1 in plain C, over the library's layout, without an end and
  * without a check other than a frame's length. It is the floor of the programs that measure the
  * library: the same copies and index words by themselves. A frame is copied as often as with the
- * library: into the end and into the section, and from there into a room and into the other end.
- * Each frame is published, and returned, by one index word. */
+ * library: into the end, into the section, into a room and into the other end. Each frame is
+ * published, and returned, by one index word. */
 #ifndef PLAIN_RINGS_H
 #define PLAIN_RINGS_H
 #include "region.h"

@@ -1,12 +1,12 @@
-/* play PEER [CORPUS] < RECORD: plays the world's side of a record towards the driver of one
- * peer, with which it is linked (driver.h).
+/* play PEER [CORPUS] < RECORD: plays the world's side of a record towards the driver of one peer,
+ * with which it is linked (driver.h).
  *
- * The driver gets the calls of that peer. Each access that it makes has to be the next one of
- * the record, and a read gets the value of the record's line; each frame that it hands over has
- * to be the one delivered there. A call that the record cuts, by a reset or at its end, is cut
- * here too. The answer is `same`, or the line of the history that was due and what the driver
- * did in its place, with exit number 1. With CORPUS the calls and the values read are written
- * there, as input of fuzz.c. */
+ * The driver gets the calls of that peer. Each access that it makes has to be the next one of the
+ * record, and a read gets the value of the record's line. Each frame that it hands over has to be
+ * the one delivered there. A call that the record cuts, by a reset or at its end, is cut here too.
+ * The answer is `same`, or the line of the history that was due and what the driver did in its
+ * place, with exit number 1. With CORPUS the calls and the values read are written there, as input
+ * of fuzz.c. */
 #include "driver.h"
 
 #include <inttypes.h>
@@ -206,7 +206,7 @@ static const struct event *next_event(void)
     return at < event_count ? &events[at] : NULL;
 }
 
-/* The line of the access that is due. A call of which the record has no more lines is cut here. */
+/* The line of the access that is due. A call without further lines in the record is cut here. */
 static const struct event *due_access(void)
 {
     const struct event *event = next_event();
@@ -361,8 +361,7 @@ static void make(const char *act)
         at++;
 }
 
-/* Makes the calls up to the next reset, of which the record may have fewer, and then resets the
- * driver. */
+/* Makes the calls up to the next reset, then resets the driver. The record may have fewer calls. */
 static void play(void)
 {
     for (size_t i = 0; i < call_count; i++) {

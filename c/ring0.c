@@ -28,7 +28,7 @@ static struct pair pairs[2], *now;
 static _Alignas(16) unsigned char stack[65536], handler_stack[65536];
 static uint64_t run, interrupts;
 
-/* Memory functions that use neither the red zone nor vector registers, wherever they come from. */
+/* Memory functions without the red zone and without vector registers, from any source. */
 void *memcpy(void *restrict to, const void *restrict from, size_t count);
 void *memmove(void *to, const void *from, size_t count);
 void *memset(void *to, int byte, size_t count);

@@ -4,10 +4,10 @@
  *         -DIVSHM_STORAGE='(3 * IVSHM_LARGEST_END)' -c storage.c
  *     cc -O2 -o sizes sizes.c storage.o LIB
  *
- * For sections and MTUs of many sizes and each version, an end asks for six blocks when it is made
- * and for none later, and they fit IVSHM_END_BYTES; the number of bytes is printed as in ivshm_c.h.
- * Then ends come and go ROUNDS times over storage.c: an array for three ends of equal sizes serves
- * three ends, and their blocks don't overlap. */
+ * For sections and MTUs of many sizes and each version, a new end allocates six blocks, and none
+ * later. They fit IVSHM_END_BYTES. The number of bytes is printed as in ivshm_c.h. Then ends come
+ * and go ROUNDS times over storage.c: an array for three ends of equal sizes serves three ends, and
+ * their blocks don't overlap. */
 #include <inttypes.h>
 #include <stdio.h>
 #include <stdlib.h>
@@ -79,7 +79,7 @@ static void check_sizes(void) {
             for (uint32_t version = 1; version <= IVSHM_VERSION; version++) measured(out, mtu, version);
 }
 
-/* Three ends over the array, one of which is freed and made anew each round. */
+/* Three ends over the array. Each round frees one and makes it anew. */
 static void check_storage(uint32_t rounds) {
     ivshm_end ends[3] = {IVSHM_END_NONE, IVSHM_END_NONE, IVSHM_END_NONE}, more = IVSHM_END_NONE;
     ivshm_found found = {.table = 4096, .out = 8384512, .protocol = IVSHM_PROTOCOL};

@@ -1,7 +1,8 @@
-/* speed OUT MTU SIZE ROUNDS: what the library costs, with both ends in one thread. In a round each
- * end offers 8 frames of SIZE bytes and polls. The program prints the calls of ivshm_end_next for
- * a frame, and frames a second. Built with WAY 0 it also prints what an access costs, and the floor
- * of that: the accesses of a round made again by a loop that has them as a list, with no end. */
+/* speed OUT MTU SIZE ROUNDS: the cost of the library, with both ends in one thread. In a round each
+ * end offers 8 frames of SIZE bytes and polls. The program prints the calls of ivshm_end_next for a
+ * frame, and frames a second. Built with WAY 0 (single steps) it also prints the time of an access,
+ * and the floor of that time: a loop repeats the accesses of a round from a list, without an end.
+ */
 #include "region.h"
 
 enum { BATCH = 8 };
@@ -42,14 +43,14 @@ static void round_of(struct region *a, struct region *b, size_t size) {
     ivshm_link_poll(&b->link, IVSHM_LINK_ALL);
 }
 
-/* A round whose accesses become the list. */
+/* Plays a round and records its accesses in the list. */
 static void listed_round(struct region *a, struct region *b, size_t size) {
     a->link.setup.accessed = b->link.setup.accessed = append;
     round_of(a, b, size);
     a->link.setup.accessed = b->link.setup.accessed = NULL;
 }
 
-/* The accesses of the list, once. */
+/* Repeats the accesses of the list once. Returns the sum of the values read. */
 static uint32_t again(void) {
     uint32_t sum = 0;
     for (size_t i = 0; i < count; i++) {
@@ -72,7 +73,7 @@ static uint32_t again(void) {
     return sum;
 }
 
-/* Prints what an access costs, and the same accesses without an end. */
+/* Prints the time of an access, and of the same access without an end. */
 static void print_floor(double seconds, uint64_t rounds, size_t size) {
     double start = spent(), accesses = (double)(rounds * count);
     for (uint64_t i = 0; i < rounds; i++) sink = again();

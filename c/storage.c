@@ -1,7 +1,7 @@
 /* The memory of the ends (ivshm_c.h) in a static array, for programs without malloc. Blocks are
- * found first fit: an array for n ends of equal sizes serves n such ends, in whatever order they
- * are made and freed. The array has IVSHM_STORAGE bytes: by default those of one end of the largest
- * sizes; of other sizes IVSHM_END_BYTES for each end. One call at a time may use it. */
+ * found first fit: an array for n ends of equal sizes serves n such ends, made and freed in any
+ * order. The array has IVSHM_STORAGE bytes: by default those of one end of the largest sizes; of
+ * other sizes IVSHM_END_BYTES for each end. One call at a time may use it. */
 #include "ivshm_c.h"
 
 #ifndef IVSHM_STORAGE

@@ -167,7 +167,7 @@ static uint32_t next_phase(uint32_t phase, uint32_t seen)
     }
 }
 
-/* What a call needs to go on at its next step. */
+/* The state of an open call between two steps. */
 #define STEP(number) p->at = number; return; case number:
 
 /* A step of the peer: an access of its open call, or of the call that it chooses. */

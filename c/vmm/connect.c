@@ -1,5 +1,5 @@
-/* connect SOCKET FILE COMMAND..: connects to a socket of the file system, and runs the command with
- * that connection as its open file FILE, a number: QEMU's x-pci-proxy-dev,fd=FILE wants one. */
+/* connect SOCKET FILE COMMAND..: connects to a socket of the file system. Runs the command with
+ * that connection as its open file FILE, a number, for QEMU's x-pci-proxy-dev,fd=FILE. */
 #include <stdio.h>
 #include <stdlib.h>
 #include <string.h>

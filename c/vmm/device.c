@@ -20,7 +20,7 @@ static void send_delivery(struct vmm *v, const ivshm_delivery *delivery) {
     else device_record_lost(&v->record, delivery->peer, delivery->vector);
 }
 
-/* Does what a call asks for: a word of the State Table first, and then the deliveries. */
+/* Applies the effect of a call: the word of the State Table first, and then the deliveries. */
 static void carry_out(struct vmm *v, uint32_t peer, const ivshm_effect *effect) {
     if (effect->writes_state) {
         v->counts.states++;

@@ -21,7 +21,7 @@ struct peer {
     int irq;   /* its eventfd for INTx, or NONE */
 };
 
-/* What was asked, and what came of it. */
+/* Counts of the accesses and of their effects. */
 struct counts {
     uint64_t reads[3], writes[3]; /* by window */
     uint64_t elsewhere;           /* accesses to the window of no Base Address Register */

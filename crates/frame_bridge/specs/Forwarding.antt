@@ -1,6 +1,6 @@
--- What a learning bridge knows, and where it forwards a frame, by the list of arrivals so far. A
--- definition looks back over that list; the bridge has a map (profile). A bridge learns and
--- forwards in this manner in IEEE 802.1D, section 7.8, where addresses also expire.
+-- The knowledge of a learning bridge and the ports to which it forwards a frame, by the list of
+-- arrivals so far. A definition looks back over that list; the bridge has a map (profile). A bridge
+-- learns and forwards in this manner in IEEE 802.1D, section 7.8, where addresses also expire.
 use Rattle.std.specs.Prelude.{ℕ, zero, suc, ◌==◌, ◌%◌, Bool, true, false, not, ◌&&◌, if◌then◌else◌, nat_eq, nat_lt, Option, Some, None, List, [], ◌∷◌, ◌++◌, take, drop, map, filter, reverse}
 use Rattle.std.specs.List.{list_any, find, before_first}
 use Rattle.std.specs.Option.{option_map}

@@ -47,8 +47,8 @@ pub record Sound (given : ℕ → List (List ℕ)) (link : Link) : Type 0 where
 abbrev pub given_to : (sent forwarded : List (List ℕ)) → ℕ → List (List ℕ)
 given_to sent forwarded p = if p == 0 then sent else forwarded
 
--- Each link is sound, by what its station sends and what was forwarded so far. What arrived at a
--- port is what the bridge's end there delivered.
+-- Each link is sound, by what its station sends and what was forwarded so far. The arrivals at a
+-- port are the frames that the bridge's end there delivered.
 pub record Going (sent : List Sent) (ports : ℕ) (w : World) : Type 0 where
   pub links : (port : ℕ) → port < ports → Sound (given_to (frames_of port sent) (forward w.arrivals port)) (w.links port)
   pub arrived : (port : ℕ) → port < ports → arrived_at port w.arrivals ≡ ((w.links port).parties 1).delivered

@@ -11,7 +11,7 @@ use Rattle.link_invariant.specs.LinkConfig.{LinkConfig, config_of}
 use Rattle.link_endpoint.specs.Plan.{left_after, delivered_by}
 
 -- A region of two peers: a State Table of 4,096 bytes, no common section, and sections of 16,384
--- bytes with a queue of version 1 for an MTU of 256. Doorbells have vector 1.
+-- bytes. Each section has a queue of version 1 for an MTU of 256. Doorbells have vector 1.
 abbrev pub link_config : LinkConfig
 link_config = record { first = 1024; words = 4096; sizes = record { version = 1; out = 16384; mtu = 256 }; vector = 1 }
 

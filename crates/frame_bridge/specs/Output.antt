@@ -50,15 +50,15 @@ rows_of ports w =
 abbrev pub output_of : ℕ → World → List ℕ
 output_of ports w = text_of pieces_of (rows_of ports w)
 
--- What holds of a run
+-- The properties of a run
 
 -- The frames that arrived at this port.
 abbrev pub arrived_at : ℕ → List Arrival → List (List ℕ)
 arrived_at port arrivals = map (λ a. a.frame) (filter (λ a. a.port == port) arrivals)
 
--- What holds of each port. Its ends are two honest ends of a link, over the words of its region.
--- The frames that arrived at it are a prefix of those that its station sends. The frames that its
--- station delivered are a prefix of those forwarded to it, and the rest is left.
+-- The properties of each port. Its ends are two honest ends of a link, over the words of its
+-- region. The frames that arrived at it are a prefix of those that its station sends. The frames
+-- that its station delivered are a prefix of those forwarded to it, and the rest is left.
 pub record Delivers (script : text.World) (w : World) (port : ℕ) : Type 0 where
   pub runs : HonestRuns link_config (w.links port).memory (λ p. ((w.links port).parties p).end) (λ p. ((w.links port).parties p).place)
   pub arrives : (rest : List (List ℕ)) × (frames_of port script.sent ≡ arrived_at port w.arrivals ++ rest)

@@ -1,4 +1,4 @@
--- What the code of a run represents.
+-- The abstract state that the code of a run represents.
 use Rattle.std.specs.Prelude.{ℕ, ◌≡◌, ◌+◌, ◌^◌, ◌==◌, ◌<◌, ◌≤◌, Bool, Some, slice_get, true, false, if◌then◌else◌, List, [], ◌∷◌, ◌++◌, length, map, min, slice_index}
 use Rattle.line_format.specs.Rows.{text_of}
 use Rattle.section_map.specs.Geometry.{Shape, Words, word_count}

@@ -1,4 +1,4 @@
-//! What a bridge learns from the frames that arrive, and the ports to which it forwards them.
+//! The addresses that a bridge learns from arrivals, and the ports to which it forwards frames.
 ghost use Rattle.std.specs.Prelude.{◌≡◌, ℕ, List, ◌+◌, ◌<◌, ◌≤◌, ◌++◌, ◌∷◌, [], length, take, drop, filter, IfOk, OnErr, OnOk};
 ghost use Rattle.split_ring.specs.declared.sizes.TheConstants.{SHORTEST_FRAME};
 ghost use Rattle.frame_bridge.specs.Forwarding.{Arrival, is_group, source, destination, goes_to, port_of, known_count, ports_for, is_forwarded, first_ports};

@@ -1,7 +1,7 @@
-//! A learning bridge between 2 to 8 links (profile): it learns at which port an address is, and
-//! forwards each frame to that port, or to all others. It uses the map of std. Its contracts
-//! promise that what it knows and where it forwards are those of `specs/Forwarding`, which looks
-//! back over the list of the frames that arrived.
+//! A learning bridge between 2 to 8 links (profile). It learns the port of each address. It
+//! forwards a frame to the port of its destination, or to all other ports. It uses the map of std.
+//! Its contracts promise that its knowledge and its forwarding are those of `specs/Forwarding`,
+//! which looks back over the list of arrivals.
 //!
 //! # Design
 //!

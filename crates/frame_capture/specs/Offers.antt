@@ -1,4 +1,4 @@
--- What is known of an offered frame.
+-- The conditions on an offered frame.
 use Rattle.std.specs.Prelude.{ℕ, ◌<◌, ◌≤◌, List, length, slice_index}
 use Rattle.split_ring.specs.declared.sizes.TheConstants.{SHORTEST_FRAME}
 

@@ -92,9 +92,9 @@ pub record IsReadFrame (config : EndConfig) (number : ℕ) (reads : List Got) (f
   pub good : IsValidItem config number read
   pub frame_is : frame ≡ frame_in read.bytes read.words
 
--- The last of these reads is of this field of the other's section, and its value is outside the
--- field's range, relative to the side's own counts. For a field of an item the earlier reads passed
--- their tests. An id is the id of a frame that the side counts as freed.
+-- The last of these reads is of this field of the other's section. Its value is outside the field's
+-- range, relative to the side's own counts. For a field of an item the earlier reads passed their
+-- tests. An id is the id of a frame that the side counts as freed.
 abbrev pub IsReadBeyond : EndConfig → Side → List Got → FieldName → ℕ → Type 0
 IsReadBeyond config side reads field_name.AvailIndex value =
     (earlier : List Got) × (word : ℕ) × (reads ≡ earlier ++ got (config.theirs + word_offset config.sizes AvailIndex) word ∷ []) × (value ≡ high_half word) ×

@@ -164,8 +164,8 @@ pub fn resets_are_quiet()
 {}
 
 /// Law: the steps of an honest link peer since its last reset are finished calls in order, each
-/// within its bound, and then a beginning of one. That one also ends within its bound if its peer
-/// gets the turns.
+/// within its bound, and then the beginning of a call. That one also ends within its bound if its
+/// peer gets the turns.
 // claim: At each moment, the steps that an honest link peer took in its turns since its last reset
 //    are those of finished calls, each begun in its turn and within its bound, then the first steps
 //    of one that is open.

@@ -231,9 +231,9 @@ pub extern "C" fn ivshm_end_took_writes(alloc: Global, end: &mut End, count: u32
     status.number()
 }
 
-/// Writes the three bursts of an offer before its index, from the next word on, into `told`: the
-/// words of the frame, of the descriptor and of the available entry. Writes their words into the
-/// front of `room`, in this order, four bytes each, the lowest byte first.
+/// Writes the three bursts of an offer before its index, from the next word on, into `told`. They
+/// are the words of the frame, of the descriptor and of the available entry. Writes their words
+/// into the front of `room`, in this order, four bytes each, the lowest byte first.
 // claim answer, words with ivshm_end_took_bursts.answer, ivshm_end_took_bursts.step: The bursts are
 //    all that an offer writes before its index, exactly if a word of its frame is next and the room
 //    has enough bytes; the rest of the room stays. Completing them equals as many single steps.

@@ -27,7 +27,7 @@ const FOUND: Found = Found {
     pending_offset: 2048,
 };
 
-// What an export writes is made of 9s before the call.
+// The target of each export is filled with 9s before the call.
 
 const OLD_NOTE: Note = Note {
     kind: 9,

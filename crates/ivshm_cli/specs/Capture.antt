@@ -1,4 +1,4 @@
--- What `capture` and `feed` promise: the capture file of what a peer delivered, and the scenario
+-- The promises of `capture` and `feed`: the capture file of a peer's deliveries, and the scenario
 -- made from a capture file.
 use Rattle.std.specs.Prelude.{ℕ, ◌≡◌, List, ◌++◌}
 use Rattle.scenario_text.specs.Scenario.{World}

@@ -1,4 +1,4 @@
--- What `run` promises: the running record of peers in threads of their own, by the access lists of
+-- The promise of `run`: the running record of peers in threads of their own, by the access lists of
 -- the pass of their words.
 use Rattle.std.specs.Prelude.{ℕ, ◌≡◌, List, Option, Some, None}
 use Rattle.ivs_base.specs.SourceAndSink.{Input, Output, Gave, HasEnded, Took}
@@ -27,8 +27,8 @@ pub record IsRunBy (ran : Ran) (bytes text : List ℕ) : Type 0 where
   pub run : IsRunOf spells.world ran.pass parts
   pub printed : IsRunSpelling (record { world = spells.world; parts = parts }) text
 
--- What is true if `run` is done: the source was read to its end, its peers ran, and their running
--- record was written. `ran` holds their words and pass.
+-- The promise of `run` if it is done: the source was read to its end, its peers ran, and their
+-- running record was written. `ran` holds their words and pass.
 pub record RunsPeers (before now : Input) (before' now' : Output) (ran : Option Ran) : Type 0 where
   pub bytes : List ℕ
   pub text : List ℕ

@@ -187,8 +187,8 @@ fn renewed(alloc: Global, bytes: &[u8]) -> Result<Reply, NoReply>
     }
 }
 
-/// Returns the capture file of what the record that the bytes spell delivers to `peer`, or the
-/// first difference of a history that isn't the lawful one.
+/// Returns the capture file of the frames that `peer` delivers in the record spelled by the bytes,
+/// or the first difference of a history that isn't the lawful one.
 fn captured(alloc: Global, peer: u32, bytes: &[u8]) -> Result<Reply, NoReply>
     requires peer { peer < 2 }
     requires short { length bytes.now < 2 ^ 32 }

@@ -138,8 +138,8 @@ shape_in w = shape_of w.peers w.table w.common w.out
 abbrev pub IsBase : World → Type 0
 IsBase w = (w.base % 4096 ≡ 0) × (w.base + 4 * word_count (shape_in w) ≤ 2 ^ 64)
 
--- Where guests find a region of this size: at its base, or with base 0 in the smallest window of
--- BAR 2 that holds it.
+-- The place at which guests find a region of this size: its base, or with base 0 the smallest
+-- window of BAR 2 that holds the region.
 abbrev pub IsPlaceOf : (bytes base : ℕ) → RegionPlace → Type 0
 IsPlaceOf bytes base (Address a) = (a ≡ base) × (base ≢ 0)
 IsPlaceOf bytes base (Bar2 bits) = (base ≡ 0) × ((bytes ≤ 2 ^ bits) × (2 ^ bits < 2 * bytes))

@@ -35,7 +35,7 @@ msix_region_at wiring byte offset width =
     else if width == 8 && offset % 8 == 0 then msix_at wiring byte offset + 0x1_0000_0000 * msix_at wiring byte (offset + 4)
     else 0
 
--- What a window reads: 0 at every access that it does not have.
+-- The value that a window reads: 0 at every access that it does not have.
 abbrev pub read_at : Wiring → Bytes → Window → (offset width : ℕ) → ℕ
 read_at wiring byte ConfigSpace offset width = config_at byte offset width
 read_at wiring byte RegisterPage offset width = page_at byte offset width

@@ -23,7 +23,7 @@ pub struct World {
     pub vectors: u32,
 }
 
-/// What a call does in addition to changing registers.
+/// The effects of a call other than changes of registers.
 #[repr(C)]
 #[derive(Clone, Copy)]
 pub struct Effect {

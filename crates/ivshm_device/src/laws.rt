@@ -13,10 +13,10 @@ ghost use Rattle.ivshm_device.specs.Apart.{may_leave_out, Applies};
 /// interrupt that reaches its peer. Every read, route and message of the peer follows from these.
 ///
 /// The list of all events has the order in which the process applies them. An event that reaches
-/// the process late comes later in that list, and the law speaks of that order. A guest can see
-/// this: the State Table may show a State before its interrupt comes, and a doorbell is dropped if
-/// its target masked the vector before the doorbell reached the process. No clause compares the
-/// orders of two processes.
+/// the process late comes later in that list, and the law speaks of that order. A guest can observe
+/// this: the State Table may have a State before its interrupt comes. A doorbell is dropped if its
+/// target masked the vector before the doorbell reached the process. No clause compares the orders
+/// of two processes.
 // claim bytes, deliveries, none_missed, states, connected: A guest's process that gets the States,
 //    resets and connections of the other guests, and the doorbells to its own, has the device of
 //    all peers, for the events in its order.

@@ -5,8 +5,8 @@
 //! # Design
 //!
 //! - The devices are stored for exactly the peers and MSI-X vectors of their world.
-//! - Each export makes one call of `doorbell_irq`, and its contract cites that crate's definitions:
-//!   for every list of events of which the device is the state.
+//! - - Each export makes one call of `doorbell_irq`. Its contract cites that crate's definitions,
+//!   for every list of events whose state is the device.
 //! - All arguments are tested, except the pointers that a program in C passes.
 //! - Processes with one guest each have a handle each. `processes_apart_are_the_device` says which
 //!   calls of other guests a process needs.

@@ -6,8 +6,8 @@ use Rattle.lawful_history.specs.declared.line.Line.TheVariants.{Accept, Deliver}
 use Rattle.lawful_history.specs.Lawful.{IsLawful}
 use Rattle.record_chart.specs.Arrows.{source_of}
 
--- The source of the arrow to a delivery of an honest pair, in a lawful history, is an earlier line,
--- at which the other peer accepted that frame.
+-- The source of the arrow to a delivery of an honest pair in a lawful history is an earlier line.
+-- At that line the other peer accepted the frame.
 abbrev pub DeliveriesHaveTheirArrows : Type 0
 DeliveriesHaveTheirArrows = (world : World) (before after : List Line) (p : ℕ) (frame : List ℕ) → IsWorld world →
     IsLawful world (before ++ Deliver p frame ∷ after) →

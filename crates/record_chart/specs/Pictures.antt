@@ -22,7 +22,7 @@ abbrev pub pair_arrows : World → (first : ℕ) → List Line → List Arrow
 pair_arrows world first lines = if is_link world 0 && is_link world 1 then arrows_of 0 first lines ++ arrows_of 1 first lines else []
 
 -- The picture shows the lines from number `first` to number `last`: the first 2,000 rows, the
--- number of lines after them that are left out, and the arrows.
+-- number of lines after them, and the arrows.
 pub record IsPicture (world : World) (lines : List Line) (first last : ℕ) (picture : Picture) : Type 0 where
   pub rows : picture.rows.items ≡ take 2000 (rows_between world first last lines)
   pub left_out : count_of picture.rows.items + picture.left_out ≡ length (lines_between first last lines)

@@ -1,4 +1,4 @@
-//! What a picture shows, in one line, and the row that it marks.
+//! The subject of a picture, in one line, and the row that it marks.
 
 use crate::rows::Row;
 use std::alloc::{AllocError, Global};
@@ -20,8 +20,8 @@ pub fn has_line(row: &Row, number: Option<u64>) -> bool {
     }
 }
 
-/// Returns the title: the numbers of the lines shown, `shown` of `total` lines from `first` on, and
-/// the line at which the record differs from the lawful history, if it does.
+/// Returns the title: the numbers of the lines shown, `shown` of `total` lines from `first` on. It
+/// names the line that differs from the lawful history, if there is one.
 pub fn title_of(
     alloc: Global,
     first: u64,

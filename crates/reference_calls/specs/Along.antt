@@ -23,7 +23,7 @@ abbrev pub IsAfter : EndConfig → Begun → Place → List Step → Option plai
 IsAfter config begun from steps None = (to : Place) → ¬ Along config from steps to
 IsAfter config begun from steps (Some to) = Along config from steps (place_seen begun to) × IsSmall to
 
--- The next step of the call after these steps is this one, which met `value` if it is a read; or
+-- The next step of the call after these steps is this one, which met `value` if it is a read. Or
 -- the call has no next step there.
 abbrev pub IsNext : EndConfig → End → Call → List Step → ℕ → Option plain_step.Step → Type 0
 IsNext config end call steps value None = (step : Step) (left : CallTree) → ¬ GoesAlong (tree_of config end call) (steps ++ step ∷ []) left

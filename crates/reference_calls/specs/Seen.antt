@@ -25,7 +25,8 @@ stored [] word = 0
 stored (store ∷ older) word = if store.word == word then store.value else stored older word
 
 -- The end represents this end of the grammar. Its numbers of frames and their lengths are the same,
--- its last read of the available index found the same, and its words are those that were written.
+-- and so is the result of its last read of the available index. Its words are those that were
+-- written.
 pub record IsSeenAs (seen : End) (end : ends.End) : Type 0 where
   pub handshake : end.handshake ≡ seen.handshake
   pub accepted : length end.accepted ≡ seen.accepted

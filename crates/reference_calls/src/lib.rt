@@ -1,5 +1,5 @@
-//! The reference program of calls: slow functions that compute the next step of a call, and whether
-//! a list of steps is a call, from place to place. The crate uses the definitions of
+//! The reference program of calls: slow functions that compute the next step of a call, place by
+//! place, and decide whether a list of steps is a call. The crate uses the definitions of
 //! `call_grammar`, and shares no code with an engine. Its contracts promise the answer yes exactly
 //! if the definition holds. Worked examples show the answers: calls, and the same lists with one
 //! line changed, which aren't calls.
@@ -14,10 +14,10 @@
 //!   gives the place of the grammar. A place of the grammar has a function, the lengths by their
 //!   numbers, which no value of a `Model` can have. Its step costs the same at every place, but
 //!   `next_step` repeats all earlier steps.
-//! - In a byte ring the place of a frame is computed at each use, from the lengths of all frames of
-//!   the session up to its own. Whether the frame fits is computed from the frames in flight. So a
-//!   step of an offer costs more later in the session. The ring is counted in blocks of 64 bytes,
-//!   so that no sum overflows, for all frame lengths (`specs/Blocks`).
+//! - - In a byte ring the place of a frame is computed at each use, from the lengths of all frames
+//!   of the session up to that frame. Whether the frame fits is computed from the frames in flight.
+//!   So a step of an offer costs more later in the session. The ring is counted in blocks of 64
+//!   bytes, so that no sum overflows, for all frame lengths (`specs/Blocks`).
 #![tactic(auto)]
 
 mod calls;

@@ -51,9 +51,9 @@ abbrev pub NumbersNeverFall : Type 0
 NumbersNeverFall = (world : World) (before mid after : List Line) (reader writer number later : ℕ) (message other : List ℕ) → IsWorld world
     → IsLawful world (before ++ Marked reader (Got writer number message) ∷ mid ++ Marked reader (Got writer later other) ∷ after) → number ≤ later
 
--- What a reader got from a writer, after these lines and in this schedule. The first look is the
--- oldest of the reads that such a sample makes. At that look the writer had published exactly the
--- messages up to this one. The bytes are those of that message in the schedule.
+-- The message that a reader got from a writer, after these lines and in this schedule. The first
+-- look is the oldest of the reads that such a sample makes. At that look the writer had published
+-- exactly the messages up to this one. The bytes are those of that message in the schedule.
 pub record IsGot (world : World) (before : List Line) (reader writer number : ℕ) (message : List ℕ) : Type 0 where
   pub early : List Line
   pub late : List Line

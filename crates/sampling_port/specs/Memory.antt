@@ -1,5 +1,5 @@
--- The memory law: a read returns the value written last, and a peer writes only where it may. Lines
--- so far are listed newest first.
+-- The memory law: a read returns the value written last, and a peer writes only its permitted
+-- words. Lines so far are listed newest first.
 use Rattle.std.specs.Prelude.{ℕ, ◌≡◌, ◌==◌, if◌then◌else◌, List, [], ◌∷◌}
 use Rattle.section_map.specs.Geometry.{Shape}
 use Rattle.section_map.specs.MayWrite.{MayWrite}

@@ -1,4 +1,4 @@
--- What the simulator represents: its region, its record and its peer states refine a history state.
+-- The history state that the simulator represents, by its region, its record and its peer states.
 use Rattle.std.specs.Prelude.{ℕ, ◌≡◌, ◌+◌, ◌≤◌, ◌<◌, Some, List, [], ◌∷◌, ◌++◌, length, map, replicate, reverse, slice_get, slice_index}
 use Rattle.std.specs.List.{AllByRecursion}
 use Rattle.section_map.specs.Geometry.{Shape, word_count}
@@ -103,8 +103,8 @@ abbrev pub MayPlay : Simulator → Act → Type 0
 MayPlay simulator act = (world : World) × (front : List ℕ) × (events : List Event) × RunsTo world front events simulator × IsAllowed world act
     × (length events + cost act ≤ 4000000)
 
--- What a peer's next turn requires: its port is one of the region, and it may make the calls that
--- wait.
+-- The conditions of a peer's next turn: its port is one of the region, and it may make the calls
+-- that wait.
 pub record IsReady (world : World) (me : ℕ) (peer_state : PeerState) : Type 0 where
   pub port : IsPort peer_state.port
   pub shape : peer_state.port.shape ≡ world.geometry

@@ -15,8 +15,8 @@ pub record PortStep : Type 0 where
 abbrev pub port_step : Access → ℕ → Option PortMark → PortStep
 port_step a value mark = record { access = a; value = value_given a value; mark = mark }
 
--- What is left of a call: nothing, an access with its mark and the rest, or a read of a word. A
--- read has a mark and a rest for each value.
+-- The rest of a call: nothing, an access with its mark and the rest, or a read of a word. A read
+-- has a mark and a rest for each value.
 pub data PortTree : Type 0 where
   Ended : PortTree
   Does : (access : Access) (mark : Option PortMark) (rest : PortTree) → PortTree

@@ -124,7 +124,7 @@ pub record KeepsNumbers (old new : PortView) : Type 0 where
   pub me : new.me ≡ old.me
   pub most : new.most ≡ old.most
 
--- What is left of the open call
+-- The rest of the open call
 
 abbrev pub left_at : PortView → Place → PortTree
 left_at port Closed = Ended
@@ -139,9 +139,9 @@ left_at port (AtSecond from sequence) = look_again from (theirs port from) seque
 abbrev pub left : PortView → PortTree
 left port = left_at port port.place
 
--- What holds of every port
+-- The invariant of every port
 
--- What holds at a place of the open call.
+-- The invariant of a place of the open call.
 abbrev pub IsPlace : PortView → Place → Type 0
 IsPlace port Closed = Unit {0}
 IsPlace port WritingLength = (1 ≤ length port.hand) × (port.published + 1 < 2 ^ 32)

@@ -1,4 +1,4 @@
-//! What a port notes after a step, and why a port can't be made.
+//! The notes of a port after a step, and the faults of a port that can't be made.
 ghost use Rattle.std.specs.Prelude.{◌≡◌};
 ghost use Rattle.sampling_port.specs.declared.notes.PortFault.TheVariants.{NoMemory as OutOfMemory};
 
@@ -36,7 +36,7 @@ pub enum PortField {
     Length,
 }
 
-/// What a port notes after a step.
+/// The note of a port after a step.
 #[derive(Clone, Copy, Debug, PartialEq, Eq)]
 pub enum PortNote {
     /// The message with this number is published.

@@ -7,7 +7,7 @@ use Rattle.lawful_history.specs.Frames.{has_frame, HaveFrames}
 use Rattle.lawful_history.specs.Sessions.{opened_in, enters_run, marks_before, recorded_in}
 use Rattle.simulator.specs.declared.log.Log.{Log}
 
--- What a record of this version got so far: the lines that were drained.
+-- The output of a record of this version: the lines that were drained.
 pub record Output : Type 0 where
   pub version : ℕ
   pub drained : List Line

@@ -1,4 +1,4 @@
--- What the simulator represents: its world state and its peer states refine a history state.
+-- The history state that the simulator represents, by its world state and its peer states.
 use Rattle.std.specs.Prelude.{ℕ, ◌≡◌, ◌<◌, List, [], ◌∷◌, ◌++◌, Some, length, slice_get}
 use Rattle.std.specs.List.{AllByRecursion}
 use Rattle.scenario_text.specs.declared.acts.Act.{Act}
@@ -61,8 +61,8 @@ IsRunning s peer = (world : World) × (output : Output) × (events : List Event)
 abbrev pub IsAct : World → Act → Type 0
 IsAct world act = (before : List Act) × IsAllowed world before act
 
--- The events of the act happen: if the simulator refines the state after any events, the new one
--- refines the state after them and those of the act.
+-- The events of the act happen: if the simulator refines the state after any events, the new
+-- simulator refines the state after them and the events of the act.
 abbrev pub PlaysAct : Act → Simulator → Simulator → Type 0
 PlaysAct act old new = (world : World) (output : Output) (events : List Event) → IsAct world act → RunsTo world output events old
     → RunsTo world output (events ++ events_of act) new

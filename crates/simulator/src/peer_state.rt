@@ -21,7 +21,7 @@ use split_ring::Queue;
 use std::alloc::Global;
 use step_lines::Storm;
 
-/// What a peer does in its turns.
+/// The actions of a peer in its turns.
 #[derive(Drop)]
 pub enum PeerState {
     /// An honest end of the link makes the steps of its calls.

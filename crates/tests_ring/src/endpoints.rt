@@ -52,7 +52,7 @@ enum Act {
     Shows(Sight),
 }
 
-/// What an end shows.
+/// The observable state of an end.
 #[derive(Clone, Copy)]
 enum Sight {
     /// No call is open.

@@ -1,7 +1,8 @@
--- The weak memory. C11: all modifications of an object occur in one total order. Here each word
--- has one writer: a list of moments, one after each action of an end, says all that the end stored.
--- What an end knows of the other is a number of the other's moments, its view. C11's sentences are
--- of 5.1.2.4 and 7.17.3. docs/ORDERS.md has each rule in the words of Arm, and what is left out.
+-- The weak memory. C11: all modifications of an object occur in one total order. Here each word has
+-- one writer: a list of moments, one after each action of an end, says all that the end stored. An
+-- end's knowledge of the other is the number of the other's moments that it knows, its view. C11's
+-- sentences are of 5.1.2.4 and 7.17.3. docs/ORDERS.md has each rule in the words of Arm, and what
+-- is left out.
 use Rattle.std.specs.Prelude.{ℕ, suc, ◌≡◌, ◌+◌, ◌-◌, ◌<◌, ◌≤◌, ◌⊎◌, ◌==◌, ◌&&◌, ◌||◌, nat_le, nat_lt, Bool, true, false, if◌then◌else◌}
 use Rattle.split_ring.specs.declared.steps.Access.{Access}
 use Rattle.split_ring.specs.declared.steps.Access.TheVariants as access
@@ -12,8 +13,9 @@ use Rattle.link_invariant.specs.LinkConfig.{LinkConfig, section_of, config_of, I
 use Rattle.link_invariant.specs.Steps.{Stored, MemoryAfter}
 use Rattle.weak_orders.specs.Orders.{acquires, releases, owes}
 
--- An end starts, begins a call, takes the step at its place, whose load gives this value, makes a
--- full fence, receives the doorbell that the other rang as its action after moment k, or is reset.
+-- An end starts, begins a call, makes a full fence, or is reset. Or it takes the step at its place,
+-- whose load gives this value. Or it receives the doorbell that the other rang as its action after
+-- moment k.
 pub data Action : Type 0 where
   Starts : Action
   Begins : (call : Call) → Action
@@ -22,8 +24,8 @@ pub data Action : Type 0 where
   Hears : (k : ℕ) → Action
   Resets : Action
 
--- An end after an action: its words as it stored them, the end and its place, its view, its own
--- moment at its last full fence, and whether it makes a full fence before its next step.
+-- An end after an action: its words as it stored them, the end and its place, its view, and its own
+-- moment at its last full fence. `owed` is true if it makes a full fence before its next step.
 pub record Moment : Type 0 where
   pub action : Action
   pub words : ℕ → ℕ
@@ -63,9 +65,9 @@ abbrev pub Stores : LinkConfig → ℕ → (ℕ → Moment) → ℕ → ℕ → 
 Stores link_config q past k word = StoresTo q (access_of link_config q (past k).place (past (suc k)).action) word
 
 -- C11: a load takes the value of a store that it doesn't happen before, and that no other store
--- hides which happens before the load. Here: the word as it was at the view, or as any later store
--- of the other left it, in whatever order earlier loads saw them. C11: a release synchronizes with
--- the acquire that takes its value. Here: the view comes to that store.
+-- hides which happens before the load. Here: the word at the view, or after any later store of the
+-- other, in any order of earlier loads. C11: a release synchronizes with the acquire that takes its
+-- value. Here: the view comes to that store.
 abbrev pub Gives : LinkConfig → ℕ → (old new : Moment) → (base : ℕ) → (theirs : ℕ → Moment) → (now word value : ℕ) → Type 0
 Gives link_config p old new base theirs now word value =
     (value ≡ seen link_config p old.words (theirs base).words word) ⊎
@@ -93,9 +95,10 @@ abbrev pub FencedBy : (old new : Moment) → (at : ℕ) → (theirs : ℕ → Mo
 FencedBy old new at theirs now Fences = ((theirs now).fenced ≤ new.view) × (new.fenced ≡ at)
 FencedBy old new at theirs now _ = new.fenced ≡ old.fenced
 
--- What end p knows after its action, its moment `at`, if the other has come to `now`. C11: happens
--- before is transitive. Here: the view never falls. It may rise by more than the rules ask, so the
--- runs of stronger memory are here too. It is at most `now`: no load gives a later store.
+-- The knowledge of end p after its action, its moment `at`, if the other is at its moment `now`.
+-- C11: happens before is transitive. Here: the view never falls. It may rise by more than the rules
+-- ask, so the runs of stronger memory are here too. It is at most `now`: no load gives a later
+-- store.
 pub record Knows (link_config : LinkConfig) (p : ℕ) (old new : Moment) (at : ℕ) (theirs : ℕ → Moment) (now : ℕ) : Type 0 where
   pub base : ℕ
   pub rises : old.view ≤ base
@@ -104,8 +107,8 @@ pub record Knows (link_config : LinkConfig) (p : ℕ) (old new : Moment) (at : �
   pub fence : FencedBy old new at theirs now new.action
   pub loads : Loads link_config p old new base theirs now new.action
 
--- What end p does itself, by the call grammar. C11: a fence is sequenced between two accesses.
--- Here: the end takes no step while it owes a full fence.
+-- The actions of end p, by the call grammar. C11: a fence is sequenced between two accesses. Here:
+-- the end takes no step while it owes a full fence.
 abbrev pub Does : LinkConfig → ℕ → (old new : Moment) → Action → Type 0
 Does link_config p old new Starts = ⊥
 Does link_config p old new (Begins call) =

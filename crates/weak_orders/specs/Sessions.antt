@@ -18,8 +18,8 @@ opened past (suc k) = opened past k + opens_at (past k).place (past (suc k)).act
 
 -- The sessions of end p. Two moments, one of each end, are consistent if the view of neither goes
 -- past the other. While the end is attached, the other's session at each consistent moment is the
--- session at the end's view, and the frames delivered are a prefix of those accepted there. In a
--- later session of its own the end is attached to a later session of the other.
+-- session at the end's view. The frames delivered are a prefix of those accepted there. In a later
+-- session of its own the end is attached to a later session of the other.
 pub record SessionsAre (pasts : ℕ → ℕ → Moment) (now : ℕ → ℕ) (p : ℕ) : Type 0 where
   pub one : (a b : ℕ) → a ≤ now p → b ≤ now (1 - p) → IsAttached (pasts p a).end (pasts p a).place → (pasts p a).view ≤ b → (pasts (1 - p) b).view ≤ a →
       (opened (pasts (1 - p)) b ≡ opened (pasts (1 - p)) (pasts p a).view) × ((rest : List (List ℕ)) × ((pasts (1 - p) b).end.accepted ≡ (pasts p a).end.delivered ++ rest))

@@ -7,10 +7,10 @@
 //! - The memory (`specs/Memory`) has single writers, so an end's past is a list of moments, one
 //!   after each of its actions. The order of an access is `order_at` of its place (`specs/Orders`),
 //!   the definition that the contract of `Endpoint::order` cites.
-//! - The proof keeps the invariant of `link_invariant` at each consistent cut: a moment of each
-//!   end, of which neither end's view goes past the other's moment. The last two moments are such a
-//!   cut. A step goes from cut to cut by `link_invariant`'s own step. A load that acquires holds at
-//!   its own cut and at each later one; a relaxed load gives one result at each cut.
+//! - - The proof keeps the invariant of `link_invariant` at each consistent cut. A cut is a moment
+//!   of each end, so that neither end's view goes past the other's moment. The last two moments are
+//!   such a cut. A step goes from cut to cut by `link_invariant`'s own step. A load that acquires
+//!   holds at its own cut and at each later one; a relaxed load gives one result at each cut.
 //! - A proof that needs a row of the table cites the row's lemma (`proofs/Rows`). An edit for each
 //!   row takes the row away, and the prover refuses it at that lemma.
 //! - Stronger memories are instances: the sequentially consistent one of the other theorems, and
@@ -62,7 +62,7 @@ pub fn doorbells_follow_indexes()
 {}
 
 /// One honest end keeps its own invariant, stores to its own words alone, and stays refused until a
-/// reset, whatever its loads give.
+/// reset, for all values that its loads give.
 // claim: An honest end, whatever its loads return, keeps its own invariant, makes permitted
 //    accesses, stores to its own words alone, and keeps a refusal until a reset.
 pub fn ends_are_safe()

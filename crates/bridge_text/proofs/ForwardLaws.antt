@@ -7,6 +7,7 @@ use Rattle.std.proofs.lemmas.List.Elements.{recursion_from_All}
 use Rattle.line_format.specs.Rows.{Row, row}
 use Rattle.line_format.proofs.TextLaws.{IsForward}
 use Rattle.line_format.proofs.RowTexts.{Along, along-append, Reaches, rows_are_lines}
+use Rattle.bridge_text.specs.declared.limits.TheConstants.{MOST_FRAMES}
 use Rattle.bridge_text.specs.declared.scripts.Sent.{Sent}
 use Rattle.bridge_text.specs.declared.forms.Form.{Form}
 use Rattle.bridge_text.specs.declared.forms.Form.TheVariants.{Version, Ports, Rounds, Begin, End}
@@ -45,7 +46,7 @@ head_along w is =
 
 -- ---- the frames
 
-sent_along : (w : World) (front rest : List Sent) → AllByRecursion (IsAllowed w) rest → length front + length rest ≤ 10000
+sent_along : (w : World) (front rest : List Sent) → AllByRecursion (IsAllowed w) rest → length front + length rest ≤ MOST_FRAMES
     → Along rules (at_frames w front) (map row_of_sent rest) (at_frames w (front ++ rest))
 sent_along w front [] allowed few = ap (at_frames w) (sym (append-nil front))
 sent_along w front (s ∷ rest) allowed few =
@@ -53,10 +54,10 @@ sent_along w front (s ∷ rest) allowed few =
     let whole : (front ++ s ∷ []) ++ rest ≡ front ++ s ∷ rest = append_assoc front (s ∷ []) rest in
     let one : length (front ++ s ∷ []) ≡ length front + 1 = length-append front (s ∷ []) in
     let more : length (s ∷ rest) ≡ length rest + 1 = omega arith in
-    let below : length front < 10000 = omega arith in
+    let below : length front < MOST_FRAMES = omega arith in
     let later = subst (λ (all : List Sent). Along rules (at_frames w (front ++ s ∷ [])) (map row_of_sent rest) (at_frames w all)) whole
     (sent_along w (front ++ s ∷ []) rest allowed.1 (omega (arith, one, more, few))) in (
-      record { values = here.values; bytes = here.bytes; order = refl; numbers = rw here.range refl; size = here.size; row = rw (lt-leb 10000 (length front) below) refl },
+      record { values = here.values; bytes = here.bytes; order = refl; numbers = rw here.range refl; size = here.size; row = rw (lt-leb MOST_FRAMES (length front) below) refl },
       refl,
       later,
     )

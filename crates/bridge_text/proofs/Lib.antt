@@ -2,6 +2,5 @@ pub mod TableLaws
 pub mod Follows
 pub mod PositionLaws
 pub mod BackLaws
-pub mod ReadLaws
 pub mod WholeLaws
 pub mod ForwardLaws

@@ -1,15 +1,17 @@
 -- The invariant of the lines so far at each position. Each row that can follow preserves it.
-use Rattle.std.proofs.Common.{◌≡◌, ℕ, zero, suc, ◌<◌, ◌≤◌, true, eqb, List, [], ◌∷◌, ◌++◌, length, get_or, map, refl, sym, ap, subst, ◌∙◌, append_assoc, arith}
-use Rattle.std.specs.Prelude.{All}
-use Rattle.std.specs.List.{AllByRecursion}
-use Rattle.std.proofs.lemmas.Bool.{eqb-true, leb-false}
+use Rattle.std.proofs.Common.{◌≡◌, ℕ, ◌<◌, ◌≤◌, true, eqb, List, [], ◌∷◌, ◌++◌, length, get_or, map, Some, refl, sym, ap, subst, ◌∙◌, append_assoc, arith}
+use Rattle.std.specs.Prelude.{All, slice_get}
+use Rattle.std.proofs.lemmas.Bool.{leb-false}
 use Rattle.std.proofs.lemmas.List.{map-append, length-append}
-use Rattle.std.proofs.lemmas.List.Elements.{All-append, All-nil, recursion_from_All, All-from_recursion}
-use Rattle.line_format.specs.Forms.{Piece, Number, Fit}
+use Rattle.std.proofs.lemmas.List.Elements.{All-nil}
+use Rattle.line_format.specs.Forms.{Fit}
 use Rattle.line_format.specs.Rows.{Row, row}
-use Rattle.line_format.proofs.FitLaws.{counted, list_0, list_1}
+use Rattle.line_format.proofs.FitLaws.{counted, list_0, list_1, in_range, one_alone, same_row, the_number}
+use Rattle.line_format.proofs.ListLaws.{all_push}
 use Rattle.line_format.proofs.StepLaws.{not_false}
 use Rattle.line_format.proofs.RowTexts.{Keeps, AreKept}
+use Rattle.line_format.proofs.TableLaws.{same_place}
+use Rattle.bridge_text.specs.declared.limits.TheConstants.{MOST_FRAMES, MOST_ROUNDS}
 use Rattle.bridge_text.specs.declared.scripts.Sent.{Sent}
 use Rattle.bridge_text.specs.declared.forms.Form.{Form}
 use Rattle.bridge_text.specs.declared.forms.Form.TheVariants.{Version, Ports, Rounds, Begin, Frame, End}
@@ -42,7 +44,7 @@ abbrev pub Good : Position → SoFar → Type 0
 Good AtVersion d = d.sent ≡ []
 Good AtPorts d = d.sent ≡ []
 Good AtRounds d = (d.sent ≡ []) × IsFew d.ports
-Good AtBegin d = (d.sent ≡ []) × IsFew d.ports × (d.rounds ≤ 4000)
+Good AtBegin d = (d.sent ≡ []) × IsFew d.ports × (d.rounds ≤ MOST_ROUNDS)
 Good AtFrames d = IsWorld (world_so_far d)
 Good Ended d = IsWorld (world_so_far d)
 
@@ -51,41 +53,19 @@ Adds d r = Keeps rules (λ e. before e.position e) (λ e. Good e.position e) d r
 
 -- ---- positions
 
-position_at : ℕ → Position
-position_at zero = AtVersion
-position_at (suc zero) = AtPorts
-position_at (suc (suc zero)) = AtRounds
-position_at (suc (suc (suc zero))) = AtBegin
-position_at (suc (suc (suc (suc zero)))) = AtFrames
-position_at (suc (suc (suc (suc (suc n))))) = Ended
+positions : List Position
+positions = AtVersion ∷ AtPorts ∷ AtRounds ∷ AtBegin ∷ AtFrames ∷ Ended ∷ []
 
-at_place : (s : Position) → position_at (ordinal_of s) ≡ s
-unfolding position_at
-at_place AtVersion = refl
-at_place _ = refl
+listed : (s : Position) → slice_get positions (ordinal_of s) ≡ Some s
+unfolding positions
+listed AtVersion = refl
+listed _ = refl
 
 pub same_position : (s t : Position) → eqb (ordinal_of s) (ordinal_of t) ≡ true → t ≡ s
-same_position s t e = sym (at_place t) ∙ ap position_at (sym (eqb-true _ _ e)) ∙ at_place s
+same_position s t e = same_place positions ordinal_of listed s t e
 
 refines : (d : SoFar) (r : Row Form) → CanFollow d r → d.position ≡ position_of r.form
 refines d r can = same_position (position_of r.form) d.position (not_false _ can.order)
-
--- ---- numbers of a head line
-
-same_row : (form : Form) (ns ms bytes : List ℕ) → ns ≡ ms → [] ≡ bytes → row form ns [] ≡ row form ms bytes
-same_row form ns ms bytes e f = rw (e, f) refl
-
-in_range : (low high : ℕ) (ps : List Piece) (ns : List ℕ) → Fit (Number low high ∷ ps) ns → (low ≤ get_or ns 0 0) × (get_or ns 0 0 ≤ high)
-in_range low high ps [] fit = absurd fit
-in_range low high ps (n ∷ ns) fit = (fit.0, fit.1)
-
-one_alone : (ns : List ℕ) → Fit (Number 1 1 ∷ []) ns → 1 ∷ [] ≡ ns
-one_alone [] fit = absurd fit
-one_alone (n ∷ []) fit = ap (λ (k : ℕ). k ∷ []) (omega arith)
-one_alone (n ∷ m ∷ ns) fit = absurd fit.2
-
-the_number : (form : Form) (ns frame : List ℕ) → length ns ≡ 1 → frame ≡ [] → row form (get_or ns 0 0 ∷ []) [] ≡ row form ns frame
-the_number form ns frame one none = same_row form _ ns frame (list_1 ns one) (sym none)
 
 -- ---- frames
 
@@ -93,17 +73,8 @@ the_number form ns frame one none = same_row form _ ns frame (list_1 ns one) (sy
 allowed_in : (w : World) (later : List Sent) (s : Sent) → IsAllowed w s → IsAllowed (record w { sent = later }) s
 allowed_in w later s is = record { values = is.values; bytes = is.bytes; range = is.range; size = is.size }
 
-each : (w : World) (later sent : List Sent) → AllByRecursion (IsAllowed w) sent → AllByRecursion (IsAllowed (record w { sent = later })) sent
-each w later [] all = tt
-each w later (s ∷ rest) all = (allowed_in w later s all.0, each w later rest all.1)
-
-all_in : (w : World) (later sent : List Sent) → All (IsAllowed w) sent → All (IsAllowed (record w { sent = later })) sent
-all_in w later sent all = All-from_recursion (IsAllowed (record w { sent = later })) sent (each w later sent (recursion_from_All (IsAllowed w) sent all))
-
 allowed-push : (w : World) (s : Sent) → All (IsAllowed w) w.sent → IsAllowed w s → All (IsAllowed (record w { sent = w.sent ++ s ∷ [] })) (w.sent ++ s ∷ [])
-allowed-push w s all is =
-    let v : World = record w { sent = w.sent ++ s ∷ [] } in
-    All-append (IsAllowed v) w.sent (s ∷ []) (all_in w v.sent w.sent all) (All-from_recursion (IsAllowed v) (s ∷ []) (allowed_in w v.sent s is, tt))
+allowed-push w s all is = all_push (IsAllowed w) (IsAllowed (record w { sent = w.sent ++ s ∷ [] })) (allowed_in w (w.sent ++ s ∷ [])) w.sent s all is
 
 abbrev sent_of : List ℕ → List ℕ → Sent
 sent_of ns frame = record { port = get_or ns 0 0; frame = frame }
@@ -127,7 +98,7 @@ frame_rows d ns frame fit =
 
 frame_good : (d : SoFar) (ns frame : List ℕ) → CanFollow d (row Frame ns frame) → IsWorld (world_so_far d) → IsWorld (world_so_far (with_row (row Frame ns frame) d))
 frame_good d ns frame can good =
-    let below : length d.sent < 10000 = leb-false 10000 (length d.sent) (few d (row Frame ns frame) can) in
+    let below : length d.sent < MOST_FRAMES = leb-false MOST_FRAMES (length d.sent) (few d (row Frame ns frame) can) in
     record {
       least = good.least;
       most = good.most;
@@ -150,7 +121,7 @@ adds Rounds ns frame d can good =
     let at = refines d (row Rounds ns frame) can in
     let same = the_number Rounds ns frame (counted (pieces_of Rounds) ns can.values) can.bytes in
     let g = (rw at at good) in
-    record { rows = rw at (ap (λ (r : Row Form). row Version (1 ∷ []) [] ∷ row Ports (d.ports ∷ []) [] ∷ r ∷ []) same); good = (g.0, g.1, (in_range 0 4000 [] ns can.values).1) }
+    record { rows = rw at (ap (λ (r : Row Form). row Version (1 ∷ []) [] ∷ row Ports (d.ports ∷ []) [] ∷ r ∷ []) same); good = (g.0, g.1, (in_range 0 MOST_ROUNDS [] ns can.values).1) }
 adds Begin ns frame d can good =
     let at = refines d (row Begin ns frame) can in
     let same = same_row Begin [] ns frame (list_0 ns (counted (pieces_of Begin) ns can.values)) (sym can.bytes) in

@@ -1,34 +1,22 @@
 -- A text is read exactly if it is the spelling of what is read.
-use Rattle.std.proofs.Common.{◌≡◌, ℕ, List, Result, Ok, Err, sym, ap, subst, ◌∙◌}
-use Rattle.std.specs.Result.{IsErrAnd}
-use Rattle.line_format.specs.declared.reading.TextFault.{TextFault}
-use Rattle.line_format.specs.Reading.{Reads}
-use Rattle.line_format.specs.Machine.{Wrong, read}
-use Rattle.line_format.specs.Texts.{said}
-use Rattle.line_format.proofs.TextLaws.{spelled_is_read}
+use Rattle.std.proofs.Common.{◌≡◌, ℕ, false, List, Ok, refl, sym, subst}
+use Rattle.line_format.specs.Machine.{read}
+use Rattle.line_format.proofs.AnswerLaws.{IsApart}
 use Rattle.bridge_text.specs.declared.faults.Cause.{Cause}
-use Rattle.bridge_text.specs.declared.faults.BridgeFault.{BridgeFault}
-use Rattle.bridge_text.specs.declared.scripts.Script.{Script}
+use Rattle.bridge_text.specs.declared.faults.Cause.TheVariants.{BadLine}
+use Rattle.bridge_text.specs.declared.faults.BridgeFault.TheVariants as faults
 use Rattle.bridge_text.specs.Spelling.{World, IsSpelling}
-use Rattle.bridge_text.specs.Judge.{SoFar, world_so_far, at_start, machine, sense, answer}
-use Rattle.bridge_text.specs.Laws.{line_count}
-use Rattle.bridge_text.specs.Answers.{Refuses, Answers, fault_of_text}
-use Rattle.bridge_text.proofs.ReadLaws.{refuses}
-use Rattle.bridge_text.proofs.ForwardLaws.{is_forward}
+use Rattle.bridge_text.specs.Judge.{SoFar, world_so_far, at_start, fault_at, machine, sense}
+use Rattle.bridge_text.specs.Answers.{is_no_memory}
 use Rattle.bridge_text.proofs.BackLaws as back
 
-abbrev reading : List ℕ → Result SoFar (Wrong Cause)
-reading bytes = read machine at_start bytes
-
-is_answered : (w : World) (bytes : List ℕ) → IsSpelling w bytes → answer bytes ≡ Ok w
-is_answered w bytes is = spelled_is_read machine sense IsSpelling line_count is_forward w bytes is
-
-pub is_spelled : (bytes : List ℕ) (d : SoFar) (w : World) → reading bytes ≡ Ok d → w ≡ world_so_far d → IsSpelling w bytes
+pub is_spelled : (bytes : List ℕ) (d : SoFar) (w : World) → read machine at_start bytes ≡ Ok d → w ≡ world_so_far d → IsSpelling w bytes
 is_spelled bytes d w is same = subst (λ (x : World). IsSpelling x bytes) (sym same) (back.is_spelled bytes d is)
 
-pub only_ok : (bytes : List ℕ) (d : SoFar) (found w : World) → reading bytes ≡ Ok d → found ≡ world_so_far d → IsSpelling w bytes → ◌≡◌ {A = Result World BridgeFault} (Ok w) (Ok found)
-only_ok bytes d found w is same spelled = sym (is_answered w bytes spelled) ∙ ap (λ x. said sense x) is ∙ ap (λ (x : World). Ok x) (sym same)
-
-pub only_err : (bytes : List ℕ) (d : SoFar) (fault : TextFault Cause) (r : Result Script BridgeFault) → IsErrAnd r (λ e. e ≡ fault_of_text fault) → Reads {U = Unit {0}} d (Err fault) (reading bytes) → (w : World) → IsSpelling w bytes → Answers r (Ok w)
-only_err bytes d fault (Ok script) gives is w spelled = absurd gives
-only_err bytes d fault (Err e) gives is w spelled = rw gives (subst (λ (x : Result World BridgeFault). Refuses (fault_of_text fault) x) (is_answered w bytes spelled) (refuses d fault (reading bytes) is))
+-- The fault of a failed allocation is that alone.
+pub apart : IsApart sense is_no_memory faults.NoMemory
+apart = record { itself = refl; at = at; after = λ n. refl; no_end = refl }
+  where
+    at : (cause : Cause) (n : ℕ) → is_no_memory (fault_at cause n) ≡ false
+    at BadLine n = refl
+    at _ n = refl

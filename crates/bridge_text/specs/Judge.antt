@@ -6,6 +6,7 @@ use Rattle.line_format.specs.Machine.{Machine}
 use Rattle.line_format.specs.Grammar.{Rules, machine_of}
 use Rattle.line_format.specs.Texts as texts
 use Rattle.line_format.specs.Texts.{Sense}
+use Rattle.bridge_text.specs.declared.limits.TheConstants.{MOST_FRAMES}
 use Rattle.bridge_text.specs.declared.scripts.Sent.{Sent}
 use Rattle.bridge_text.specs.declared.forms.Form.{Form}
 use Rattle.bridge_text.specs.declared.forms.Form.TheVariants.{Version, Ports, Rounds, Begin, Frame, End}
@@ -61,7 +62,7 @@ is_frame Frame = true
 is_frame _ = false
 
 abbrev pub is_too_many : SoFar → Form → Bool
-is_too_many d form = is_frame form && nat_le 10000 (length d.sent)
+is_too_many d form = is_frame form && nat_le MOST_FRAMES (length d.sent)
 
 abbrev pub wrong_row : SoFar → Form → List ℕ → List ℕ → Option Cause
 wrong_row d form ns frame = if is_too_many d form then Some TooManyFrames else None

@@ -3,6 +3,7 @@
 use Rattle.std.specs.Prelude.{◌≡◌, ℕ, ◌≤◌, ◌&&◌, nat_lt, nat_le, Bool, true, List, [], ◌∷◌, ◌++◌, length, slice_index, map, All}
 use Rattle.line_format.specs.Forms.{Fit, FitBytes}
 use Rattle.line_format.specs.Rows.{Row, row, text_of}
+use Rattle.bridge_text.specs.declared.limits.TheConstants.{MOST_FRAMES, MOST_ROUNDS}
 use Rattle.bridge_text.specs.declared.forms.Form.{Form}
 use Rattle.bridge_text.specs.declared.forms.Form.TheVariants.{Version, Ports, Rounds, Begin, Frame, End}
 use Rattle.bridge_text.specs.declared.scripts.Sent.{Sent}
@@ -39,13 +40,14 @@ pub record IsAllowed (w : World) (sent : Sent) : Type 0 where
   pub range : is_in_range w Frame (sent.port ∷ []) ≡ true
   pub size : is_frame_length Frame (length sent.frame) ≡ true
 
--- A run of 2 to 8 ports, of at most 4,000 rounds and 10,000 frames, each of which may be sent.
+-- A run of 2 to 8 ports, of at most `MOST_ROUNDS` rounds and `MOST_FRAMES` frames, each of which
+-- may be sent.
 pub record IsWorld (w : World) : Type 0 where
   pub least : 2 ≤ w.ports
   pub most : w.ports ≤ 8
-  pub rounds : w.rounds ≤ 4000
+  pub rounds : w.rounds ≤ MOST_ROUNDS
   pub allowed : All (IsAllowed w) w.sent
-  pub few : length w.sent ≤ 10000
+  pub few : length w.sent ≤ MOST_FRAMES
 
 -- The head, `begin`, the frames, `end`.
 abbrev pub rows_of : World → List (Row Form)

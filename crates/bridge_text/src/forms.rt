@@ -3,6 +3,7 @@ ghost use Rattle.std.specs.Prelude.{◌≡◌, ◌≤◌, length};
 ghost use Rattle.line_format.specs.Forms.{pieces};
 ghost use Rattle.bridge_text.specs.Table.{pieces_of};
 
+use crate::limits::MOST_ROUNDS;
 use line_format::FieldKind;
 
 /// A form of a line.
@@ -40,7 +41,10 @@ impl Form {
         match self {
             Form::Version => &[FieldKind::Word(b"bridge"), FieldKind::Number(1, 1)],
             Form::Ports => &[FieldKind::Word(b"ports"), FieldKind::Number(2, 8)],
-            Form::Rounds => &[FieldKind::Word(b"rounds"), FieldKind::Number(0, 4_000)],
+            Form::Rounds => &[
+                FieldKind::Word(b"rounds"),
+                FieldKind::Number(0, MOST_ROUNDS),
+            ],
             Form::Begin => &[FieldKind::Word(b"begin")],
             Form::Frame => &[
                 FieldKind::Word(b"frame"),

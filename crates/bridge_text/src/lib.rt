@@ -13,6 +13,7 @@ mod drafts;
 mod faults;
 mod forms;
 mod laws;
+mod limits;
 mod positions;
 mod reading;
 mod scripts;
@@ -20,5 +21,6 @@ mod taking;
 
 pub use faults::{BridgeFault, Cause};
 pub use laws::{bytes_after_end_are_bad_line, cut_is_no_end, fault_is_first, spelled_is_read};
+pub use limits::{MOST_FRAMES, MOST_ROUNDS};
 pub use reading::parse;
 pub use scripts::{Script, Sent, SentFrames};

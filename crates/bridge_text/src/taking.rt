@@ -1,19 +1,17 @@
 //! A text of a bridge as a grammar: the tests of a line, and its effect on a draft.
 ghost use Rattle.std.proofs.Common.{rules as found};
-ghost use Rattle.bridge_text.specs.Judge.{SoFar, rules, machine};
+ghost use Rattle.bridge_text.specs.Judge.{SoFar, rules};
 ghost use Rattle.bridge_text.specs.Drafts.{so_far};
 
 use crate::drafts::Draft;
 use crate::faults::Cause;
 use crate::forms::{FORMS, Form};
+use crate::limits::MOST_FRAMES;
 use crate::positions::Position;
 use crate::scripts::Sent;
 use ivs_base::Frame;
-use line_format::{FieldKind, Grammar, LineFault, TakeLines, Test, number_at, take_line};
+use line_format::{FieldKind, Grammar, LineFault, Test, number_at};
 use std::alloc::Global;
-
-/// The most frames of a text.
-const MOST: usize = 10_000;
 
 impl Grammar for Draft {
     type Form = Form;
@@ -65,6 +63,10 @@ impl Grammar for Draft {
         }
     }
 
+    fn is_ended(&self) -> bool {
+        self.position == Position::Ended
+    }
+
     #[tactic(auto, using(crate::proofs::Follows::port_below))]
     fn add(
         &mut self,
@@ -89,7 +91,7 @@ impl Grammar for Draft {
             Form::Frame => {
                 // A port is below this number, so it has 32 bits.
                 let _ports = self.ports;
-                if self.sent.items().len() >= MOST {
+                if self.sent.items().len() >= MOST_FRAMES {
                     return Err(LineFault::Wrong(Cause::TooManyFrames));
                 }
                 self.sent.push(Sent {
@@ -100,23 +102,5 @@ impl Grammar for Draft {
             Form::End => self.position = Position::Ended,
         }
         Ok(())
-    }
-}
-
-impl TakeLines for Draft {
-    type Cause = Cause;
-
-    ghost SoFar = { SoFar };
-
-    ghost so_far = { so_far };
-
-    ghost machine = { machine };
-
-    fn take(&mut self, alloc: Global, line: &[u8]) -> Result<(), LineFault<Cause>> {
-        take_line(self, alloc, line)
-    }
-
-    fn has_ended(&self) -> bool {
-        self.position == Position::Ended
     }
 }

@@ -1,6 +1,7 @@
 -- The numbers of a form, one by one.
-use Rattle.std.proofs.Common.{◌≡◌, ℕ, suc, List, [], ◌∷◌, length, get_or, refl, ap, arith}
+use Rattle.std.proofs.Common.{◌≡◌, ℕ, suc, ◌≤◌, List, [], ◌∷◌, length, get_or, refl, sym, ap, arith}
 use Rattle.line_format.specs.Forms.{Piece, Word, Number, Hex, Fit}
+use Rattle.line_format.specs.Rows.{row}
 
 abbrev count : List Piece → ℕ
 count [] = 0
@@ -35,3 +36,20 @@ list_3 (a ∷ ns) e = ap (λ (t : List ℕ). a ∷ t) (list_2 ns (omega arith))
 pub list_4 : (ns : List ℕ) → length ns ≡ 4 → get_or ns 0 0 ∷ get_or ns 1 0 ∷ get_or ns 2 0 ∷ get_or ns 3 0 ∷ [] ≡ ns
 list_4 [] e = absurd (omega arith)
 list_4 (a ∷ ns) e = ap (λ (t : List ℕ). a ∷ t) (list_3 ns (omega arith))
+
+-- ---- a form with one number
+
+pub in_range : (low high : ℕ) (ps : List Piece) (ns : List ℕ) → Fit (Number low high ∷ ps) ns → (low ≤ get_or ns 0 0) × (get_or ns 0 0 ≤ high)
+in_range low high ps [] fit = absurd fit
+in_range low high ps (n ∷ ns) fit = (fit.0, fit.1)
+
+pub one_alone : (ns : List ℕ) → Fit (Number 1 1 ∷ []) ns → 1 ∷ [] ≡ ns
+one_alone [] fit = absurd fit
+one_alone (n ∷ []) fit = ap (λ (k : ℕ). k ∷ []) (omega arith)
+one_alone (n ∷ m ∷ ns) fit = absurd fit.2
+
+pub same_row : {F : Type 0} (form : F) (ns ms bytes : List ℕ) → ns ≡ ms → [] ≡ bytes → row form ns [] ≡ row form ms bytes
+same_row form ns ms bytes e f = rw (e, f) refl
+
+pub the_number : {F : Type 0} (form : F) (ns bytes : List ℕ) → length ns ≡ 1 → bytes ≡ [] → row form (get_or ns 0 0 ∷ []) [] ≡ row form ns bytes
+the_number form ns bytes one none = same_row form _ ns bytes (list_1 ns one) (sym none)

@@ -18,3 +18,6 @@ pub mod StepLaws
 pub mod FitLaws
 pub mod ShortLines
 pub mod Digits
+pub mod PartLaws
+pub mod AnswerLaws
+pub mod ListLaws

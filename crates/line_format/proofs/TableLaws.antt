@@ -1,8 +1,9 @@
 -- Tables of forms: a row's fields have the row's form and no other.
-use Rattle.std.proofs.Common.{◌≡◌, ℕ, zero, suc, ◌<◌, ◌≤◌, Bool, true, false, cond, ◌&&◌, not, List, [], ◌∷◌, length, Some, None, refl, sym, ap, subst, arith}
+use Rattle.std.proofs.Common.{◌≡◌, ℕ, zero, suc, ◌<◌, ◌≤◌, Bool, true, false, cond, ltb, leb, eqb, ◌&&◌, not, List, [], ◌∷◌, length, Some, None, refl, sym, ap, subst, ◌∙◌, arith}
 use Rattle.std.specs.Prelude.{slice_get}
 use Rattle.std.specs.List.{find, list_all}
 use Rattle.std.specs.Str.{bytes_eq}
+use Rattle.std.proofs.lemmas.Bool.{ltb-true, leb-true, eqb-true}
 use Rattle.line_format.specs.Forms.{Piece, Word, Number, Hex, matches, spell, Fit, is_form}
 use Rattle.line_format.specs.Rows.{find_form, overlaps, are_apart}
 use Rattle.line_format.proofs.SpellLaws.{both_true, matches-spell}
@@ -100,3 +101,25 @@ no_form pieces_of forms table fs lt = none_of pieces_of table.few forms fs lt
 pub no_form_of_few : {F : Type 0} (pieces_of : F → List Piece) (forms : List F) → ((f : F) → length (pieces_of f) ≤ 6) → (fs : List (List ℕ)) → 6 < length fs → find_form pieces_of forms fs ≡ None
 unfolding find_form
 no_form_of_few pieces_of forms few fs lt = none_of pieces_of few forms fs lt
+
+-- ---- how a text shows that its forms are a table
+
+-- Each form is allowed and has 1 to 6 fields.
+abbrev are_good : {F : Type 0} → (F → List Piece) → List F → Bool
+are_good pieces_of fs = list_all (λ f. is_form (pieces_of f) && (ltb 0 (length (pieces_of f)) && leb (length (pieces_of f)) 6)) fs
+
+pub table : {F : Type 0} (pieces_of : F → List Piece) (forms : List F) (place : F → ℕ) → ((f : F) → slice_get forms (place f) ≡ Some f) → are_apart pieces_of forms ≡ true → are_good pieces_of forms ≡ true → IsTable pieces_of forms
+table {F} pieces_of forms place listed apart all =
+    let each = λ (f : F). both_true (is_form (pieces_of f)) (ltb 0 (length (pieces_of f)) && leb (length (pieces_of f)) 6) (passes_at (λ g. is_form (pieces_of g) && (ltb 0 (length (pieces_of g)) && leb (length (pieces_of g)) 6)) forms (place f) f all (listed f)) in
+    record {
+      place = place;
+      listed = listed;
+      apart = apart;
+      good = λ f. (each f).0;
+      few = λ f. leb-true _ _ (both_true (ltb 0 (length (pieces_of f))) (leb (length (pieces_of f)) 6) (each f).1).1;
+      some = λ f. ltb-true _ _ (both_true (ltb 0 (length (pieces_of f))) (leb (length (pieces_of f)) 6) (each f).1).0;
+    }
+
+-- Items of a list with one place are one item.
+pub same_place : {F : Type 0} (fs : List F) (place : F → ℕ) → ((f : F) → slice_get fs (place f) ≡ Some f) → (f g : F) → eqb (place f) (place g) ≡ true → g ≡ f
+same_place fs place listed f g e = sym (same_some f g (sym (listed f) ∙ ap (slice_get fs) (eqb-true _ _ e) ∙ listed g))

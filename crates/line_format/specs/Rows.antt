@@ -1,5 +1,5 @@
 -- Lines as values: a table has the fields of each form, and a row is a form with its values.
-use Rattle.std.specs.Prelude.{ℕ, Bool, not, ◌&&◌, List, [], ◌∷◌, ◌++◌, true, false, Option}
+use Rattle.std.specs.Prelude.{ℕ, ◌+◌, Bool, not, ◌&&◌, List, [], ◌∷◌, ◌++◌, true, false, Option}
 use Rattle.std.specs.Str.{bytes_eq}
 use Rattle.std.specs.List.{find, flat_map, list_all}
 use Rattle.line_format.specs.Forms.{Piece, Word, matches, spell, line_of}
@@ -41,3 +41,8 @@ overlaps (p ∷ ps) (q ∷ qs) = overlaps ps qs
 abbrev pub are_apart : {F : Type 0} → (F → List Piece) → List F → Bool
 are_apart pieces_of [] = true
 are_apart pieces_of (f ∷ fs) = list_all (λ g. not (overlaps (pieces_of f) (pieces_of g))) fs && are_apart pieces_of fs
+
+-- A row for each item, made from its number and itself; the numbers go up from n.
+abbrev pub numbered : {A F : Type 0} → (ℕ → A → Row F) → ℕ → List A → List (Row F)
+numbered row_of n [] = []
+numbered row_of n (item ∷ items) = row_of n item ∷ numbered row_of (n + 1) items

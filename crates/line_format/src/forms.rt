@@ -1,7 +1,8 @@
 //! Forms of lines as tables, and the fields of a line by its form.
-ghost use Rattle.std.specs.Prelude.{◌≡◌, ◌+◌, ◌≤◌, ◌<◌, ◌++◌, length, IfSome, option_map, slice_index, MatchOption, IsTrue, IsFalse};
+ghost use Rattle.std.specs.Prelude.{◌≡◌, ◌+◌, ◌≤◌, ◌<◌, ◌++◌, length, IfSome, option_map, option_and_then, slice_get, slice_index, slice_index_or, false, MatchOption, IsTrue, IsFalse};
 ghost use Rattle.std.specs.List.{list_all};
 ghost use Rattle.arrayvec.specs.ArrayVec.{array_vec_len};
+ghost use Rattle.line_format.specs.Numbers.{number_of};
 ghost use Rattle.line_format.specs.Forms.{pieces, texts, fields_of, matches, numbers_of, hex_of, is_printable, AreInRange};
 
 use crate::cuts::cut;
@@ -115,6 +116,25 @@ pub fn numbers_in(slots: &[FieldKind], fields: &[&[u8]]) -> Option<ArrayVec<u64,
         return None;
     }
     Some(numbers)
+}
+
+/// Returns the number that field `i` spells, from 0, if it spells one.
+// claim with flag_at: A field is a number exactly if it spells one, and a flag that isn't in the
+//    list is false.
+pub fn number_in(fields: &[&[u8]], i: usize) -> Option<u64>
+    ensures { result ≡ option_and_then number_of (slice_get (texts fields.now) i) }
+{
+    match fields.get(i) {
+        None => None,
+        Some(field) => number(field),
+    }
+}
+
+/// Returns flag `i` of a list, from 0, or false if there is none.
+pub fn flag_at(flags: &[bool], i: u64) -> bool
+    ensures { result ≡ slice_index_or flags.now i false }
+{
+    flags.get(i as usize).copied().unwrap_or(false)
 }
 
 /// Returns number `i` of a line, from 0, or 0 if there is none.

@@ -4,11 +4,11 @@ ghost use Rattle.std.specs.List.{list_all};
 ghost use Rattle.line_format.specs.Forms.{pieces, texts, AreInRange, Piece};
 ghost use Rattle.line_format.specs.Rows.{find_form};
 ghost use Rattle.line_format.specs.Reading.{Gives};
-ghost use Rattle.line_format.specs.Grammar.{Rules, added, bytes_in, judge, step};
+ghost use Rattle.line_format.specs.Grammar.{Rules, added, bytes_in, judge, machine_of, step};
 
 use crate::forms::{FieldKind, fields, has_form, hex_field, is_printable, numbers_in};
 use crate::hex_digits::read_hex;
-use crate::reading::LineFault;
+use crate::reading::{LineFault, TakeLines};
 use std::alloc::{AllocError, Global};
 
 /// A test that each line of each text has to pass, in the order of the tests.
@@ -76,6 +76,10 @@ pub trait Grammar {
         requires good { rules.wrong_numbers (so_far self.old) form numbers.now ≡ None }
         ensures { Gives (so_far self.new) result (added rules (so_far self.old) form numbers.now bytes.items) };
 
+    /// Whether the last line was the end of the text.
+    fn is_ended(&self) -> bool
+        ensures { result ≡ rules.ended (so_far self.now) };
+
     /// No form has more fields than a line may have.
     ghost few: { (form : Self.Form) → length (rules.pieces_of form) ≤ 6 };
 }
@@ -135,9 +139,10 @@ fn judge<G: Grammar>(
 
 /// Takes the next line, without its newline: the tests in their order, and the effect of the line.
 // claim with Grammar::forms, Grammar::slots.value, Grammar::slots.few, Grammar::cause,
-//    Grammar::is_out_of_order, Grammar::wrong_numbers, Grammar::fits, Grammar::add: For every table
-//    of forms a line is judged by the same tests in the same order: its form, its position, its
-//    numbers, its bytes, the whole row. The first test that fails gives the fault.
+//    Grammar::is_out_of_order, Grammar::wrong_numbers, Grammar::fits, Grammar::add,
+//    Grammar::is_ended: For every table of forms a line is judged by the same tests in the same
+//    order: its form, its position, its numbers, its bytes, the whole row. The first test that
+//    fails gives the fault.
 #[tactic(auto, unfolding(crate::specs::Grammar::step))]
 pub fn take_line<G: Grammar>(
     draft: &mut G,
@@ -156,4 +161,22 @@ pub fn take_line<G: Grammar>(
         return Err(LineFault::Wrong(G::cause(Test::Line)));
     };
     judge(draft, alloc, form, &fields)
+}
+
+impl<G: Grammar> TakeLines for G {
+    type Cause = G::Cause;
+
+    ghost SoFar = { G.SoFar };
+
+    ghost so_far = { G.so_far };
+
+    ghost machine = { machine_of G.rules };
+
+    fn take(&mut self, alloc: Global, line: &[u8]) -> Result<(), LineFault<G::Cause>> {
+        take_line(self, alloc, line)
+    }
+
+    fn has_ended(&self) -> bool {
+        self.is_ended()
+    }
 }

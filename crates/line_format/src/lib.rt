@@ -22,7 +22,9 @@ mod short_lines;
 mod writing;
 
 pub use cuts::cut;
-pub use forms::{FieldKind, fields, has_form, hex_field, is_printable, number_at, numbers_in};
+pub use forms::{
+    FieldKind, fields, flag_at, has_form, hex_field, is_printable, number_at, number_in, numbers_in,
+};
 pub use grammar::{Grammar, Test, take_line};
 pub use hex_digits::read_hex;
 pub use line_tail::LineTail;

@@ -1,24 +1,22 @@
 -- Rows of acts: each act form's row is an act's, and an act is allowed exactly if its row can
 -- follow.
-use Rattle.std.proofs.Common.{◌≡◌, ℕ, ◌+◌, ◌≤◌, true, false, List, [], get_or, Some, None, Option, refl, sym, ap}
-use Rattle.std.specs.Option.{option_map_or}
+use Rattle.std.proofs.Common.{◌≡◌, ℕ, ◌+◌, ◌≤◌, true, false, List, [], get_or, Some, refl, sym, ap}
 use Rattle.line_format.specs.Forms.{Fit, FitBytes}
 use Rattle.line_format.specs.Rows.{row, fields_of_row}
-use Rattle.line_format.proofs.FitLaws.{counted, list_1, list_2, list_3}
+use Rattle.line_format.proofs.FitLaws.{counted, list_1, list_2, list_3, same_row}
+use Rattle.line_format.proofs.PartLaws.{no_rule}
 use Rattle.port_text.specs.declared.acts.Act.{Act}
 use Rattle.port_text.specs.declared.acts.Act.TheVariants as acts
 use Rattle.port_text.specs.declared.forms.Form.{Form}
 use Rattle.port_text.specs.declared.forms.Form.TheVariants.{Publish, Sample, Turn, Poke}
 use Rattle.port_text.specs.declared.positions.Position.TheVariants.{AtActs}
+use Rattle.port_text.specs.declared.limits.TheConstants.{MOST_TURNS}
 use Rattle.port_text.specs.Acts.{cost, turns_of}
 use Rattle.port_text.specs.Table.{pieces_of}
 use Rattle.port_text.specs.ActRows.{row_of_act}
 use Rattle.port_text.specs.Scenario.{IsAllowed}
 use Rattle.port_text.specs.Judge.{SoFar, world_so_far, is_out_of_order, act_of, is_act, fits_sizes}
 use Rattle.port_text.proofs.Follows.{CanFollow}
-
-pub same_row : (form : Form) (ns ms bytes : List ℕ) → ns ≡ ms → [] ≡ bytes → row form ns [] ≡ row form ms bytes
-same_row form ns ms bytes e f = rw (e, f) refl
 
 -- ---- the act of a row
 
@@ -46,21 +44,17 @@ sizes_fit d (acts.Sample p from) = refl
 sizes_fit d (acts.Turn p k) = refl
 sizes_fit d (acts.Poke p word value) = refl
 
-never : (o : Option ℕ) → option_map_or (λ p. false) o false ≡ false
-never (Some n) = refl
-never None = refl
-
 -- At the acts each act is in order.
 order_is : (d : SoFar) (a : Act) → d.position ≡ AtActs → is_out_of_order d (row_of_act a).form (fields_of_row pieces_of (row_of_act a)) ≡ false
-order_is d (acts.Publish p message) at = rw at (never _)
-order_is d (acts.Sample p from) at = rw at (never _)
-order_is d (acts.Turn p k) at = rw at (never _)
-order_is d (acts.Poke p word value) at = rw at (never _)
+order_is d (acts.Publish p message) at = rw at (no_rule _)
+order_is d (acts.Sample p from) at = rw at (no_rule _)
+order_is d (acts.Turn p k) at = rw at (no_rule _)
+order_is d (acts.Poke p word value) at = rw at (no_rule _)
 
 pub allowed_act : (d : SoFar) (a : Act) → CanFollow d (row_of_act a) → IsAllowed (world_so_far d) a
 allowed_act d a can = record { values = can.values; bytes = can.bytes; range = can.range; peer = can.peer; message = can.message }
 
-pub follows_act : (d : SoFar) (a : Act) → d.position ≡ AtActs → IsAllowed (world_so_far d) a → turns_of d.acts + cost a ≤ 4000000 → CanFollow d (row_of_act a)
+pub follows_act : (d : SoFar) (a : Act) → d.position ≡ AtActs → IsAllowed (world_so_far d) a → turns_of d.acts + cost a ≤ MOST_TURNS → CanFollow d (row_of_act a)
 follows_act d a at is few = record {
   values = is.values;
   bytes = is.bytes;

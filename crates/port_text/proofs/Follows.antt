@@ -10,6 +10,7 @@ use Rattle.line_format.proofs.StepLaws.{not_false, two_none}
 use Rattle.port_text.specs.declared.faults.Cause.TheVariants.{BadNumber, BadPeer}
 use Rattle.port_text.specs.declared.forms.Form.{Form}
 use Rattle.port_text.specs.declared.forms.Form.TheVariants.{Publish, Sample, Turn, Poke}
+use Rattle.port_text.specs.declared.limits.TheConstants.{MOST_TURNS}
 use Rattle.port_text.specs.Table.{pieces_of}
 use Rattle.port_text.specs.Scenario.{is_in_range, is_its_peer, is_message_length}
 use Rattle.port_text.specs.Judge.{SoFar, world_so_far, is_out_of_order, wrong_numbers, fits_sizes, act_of, is_act, is_sample, turns_with, rules}
@@ -23,7 +24,7 @@ pub record CanFollow (d : SoFar) (r : Row Form) : Type 0 where
   pub peer : is_its_peer (world_so_far d) r.form r.numbers ≡ true
   pub message : is_message_length (world_so_far d) r.form (length r.frame) ≡ true
   pub sizes : fits_sizes d r.form r.numbers ≡ true
-  pub turns : turns_with d (act_of r.form r.numbers r.frame) ≤ 4000000
+  pub turns : turns_with d (act_of r.form r.numbers r.frame) ≤ MOST_TURNS
 
 abbrev pub with_row : Row Form → SoFar → SoFar
 with_row r d = all.with_row rules r d

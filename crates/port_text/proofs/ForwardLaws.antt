@@ -1,26 +1,24 @@
 -- The rows of a schedule follow one another up to its end.
-use Rattle.std.proofs.Common.{mul-le-mul_right, ◌≡◌, ℕ, ◌+◌, ◌*◌, ◌/◌, ◌%◌, ◌^◌, ◌<◌, ◌≤◌, Bool, true, false, cond, eqb, not, List, [], ◌∷◌, ◌++◌, length, map, Option, Some, None, Ok, refl, sym, ap, subst, ◌∙◌, append_assoc, arith, eq-eqb}
-use Rattle.std.specs.Prelude.{decimal}
+use Rattle.std.proofs.Common.{mul-le-mul_right, ◌≡◌, ℕ, ◌+◌, ◌*◌, ◌/◌, ◌^◌, ◌<◌, ◌≤◌, Bool, true, false, cond, eqb, List, [], ◌∷◌, ◌++◌, length, map, Ok, refl, sym, ap, subst, ◌∙◌, append_assoc, arith, eq-eqb}
 use Rattle.std.specs.List.{AllByRecursion}
-use Rattle.std.specs.Option.{option_map_or}
 use Rattle.std.proofs.lemmas.Bool.{ne_eqb}
 use Rattle.std.proofs.lemmas.List.{append-nil, length-append}
 use Rattle.std.proofs.lemmas.List.Elements.{recursion_from_All}
 use Rattle.std.proofs.lemmas.List.Sums.{sum_by_push, sum_by-append}
-use Rattle.line_format.specs.Numbers.{number_of}
 use Rattle.line_format.specs.Rows.{Row, row}
-use Rattle.line_format.proofs.NumberLaws.{number_of-decimal}
+use Rattle.line_format.proofs.PartLaws.{no_rule, same_number}
 use Rattle.line_format.proofs.TextLaws.{IsForward}
 use Rattle.line_format.proofs.RowTexts as all
 use Rattle.line_format.proofs.RowTexts.{Reaches, rows_are_lines}
-use Rattle.section_map.specs.Geometry.{Shape, IsShape}
 use Rattle.scenario_text.specs.Sizes.{is_geometry}
 use Rattle.scenario_text.proofs.SizeLaws.{HasRegion, is_geometry-true}
+use Rattle.scenario_text.proofs.ForwardLaws.{region_of}
 use Rattle.port_text.specs.declared.acts.Act.{Act}
 use Rattle.port_text.specs.declared.forms.Form.{Form}
 use Rattle.port_text.specs.declared.forms.Form.TheVariants.{Version, Peers, Out, Longest, Begin, End}
 use Rattle.port_text.specs.declared.positions.Position.TheVariants.{AtPeer, AtBegin, AtActs, Ended}
 use Rattle.port_text.specs.Sizes.{has_port}
+use Rattle.port_text.specs.declared.limits.TheConstants.{MOST_TURNS}
 use Rattle.port_text.specs.Acts.{cost, turns_of}
 use Rattle.port_text.specs.Table.{pieces_of, all_forms}
 use Rattle.port_text.specs.ActRows.{row_of_act}
@@ -41,10 +39,6 @@ along-append d rs ss e f here later = all.along-append rules d rs ss e f here la
 
 -- ---- the head
 
-quiet : (o : Option ℕ) → option_map_or (λ p. false) o false ≡ false
-quiet (Some n) = refl
-quiet None = refl
-
 -- With these first flags; if each peer has one, `begin` comes next.
 abbrev at_peers : (peers out most : ℕ) → List Bool → SoFar
 at_peers peers out most front = record { position = cond (eqb (length front) peers) AtBegin AtPeer; peers = peers; out = out; most = most; honest = front; acts = [] }
@@ -56,16 +50,16 @@ sizes_along : (peers out most : ℕ) → (2 ≤ peers) × (peers ≤ 8) → out 
     → Along at_start (sizes_rows peers out most) (at_peers peers out most [])
 sizes_along peers out most few o m geometry port =
     let open_ : eqb 0 peers ≡ false = ne_eqb 0 peers (λ none. omega arith) in (
-      follows _ _ (record { values = (omega arith, omega arith, tt); bytes = refl; order = quiet _; range = refl; peer = refl; message = refl; sizes = refl; turns = omega arith }),
+      follows _ _ (record { values = (omega arith, omega arith, tt); bytes = refl; order = no_rule _; range = refl; peer = refl; message = refl; sizes = refl; turns = omega arith }),
       refl,
       (
-        follows _ _ (record { values = (few.0, few.1, tt); bytes = refl; order = quiet _; range = refl; peer = refl; message = refl; sizes = refl; turns = omega arith }),
+        follows _ _ (record { values = (few.0, few.1, tt); bytes = refl; order = no_rule _; range = refl; peer = refl; message = refl; sizes = refl; turns = omega arith }),
         refl,
         (
-          follows _ _ (record { values = (omega arith, omega arith, tt); bytes = refl; order = quiet _; range = refl; peer = refl; message = refl; sizes = geometry; turns = omega arith }),
+          follows _ _ (record { values = (omega arith, omega arith, tt); bytes = refl; order = no_rule _; range = refl; peer = refl; message = refl; sizes = geometry; turns = omega arith }),
           refl,
           (
-            follows _ _ (record { values = (omega arith, omega arith, tt); bytes = refl; order = quiet _; range = refl; peer = refl; message = refl; sizes = port; turns = omega arith }),
+            follows _ _ (record { values = (omega arith, omega arith, tt); bytes = refl; order = no_rule _; range = refl; peer = refl; message = refl; sizes = port; turns = omega arith }),
             refl,
             rw open_ refl,
           ),
@@ -76,9 +70,6 @@ sizes_along peers out most few o m geometry port =
 not_ended : (full : Bool) → eqb (ordinal_of (cond full AtBegin AtPeer)) 7 ≡ false
 not_ended true = refl
 not_ended false = refl
-
-same_number : (p n : ℕ) → p ≡ n → p < 2 ^ 64 → option_map_or (λ q. not (eqb q n)) (number_of (decimal p)) false ≡ false
-same_number p n same small = rw (number_of-decimal p small, same, eq-eqb n n refl) refl
 
 peer_follows : (peers out most : ℕ) (front : List Bool) (p : ℕ) (b : Bool) → p ≡ length front → length front < peers → peers ≤ 8 → CanFollow (at_peers peers out most front) (row_of_peer p b)
 peer_follows peers out most front p true same less few =
@@ -131,35 +122,13 @@ acts_along w front (a ∷ rest) is allowed all =
     let up_to : turns_of (front ++ a ∷ []) ≡ turns_of front + cost a = sum_by_push cost front a in
     let turns : turns_of (front ++ a ∷ []) + turns_of rest ≡ turns_of w.acts = sym (sum_by-append cost (front ++ a ∷ []) rest) ∙ ap turns_of (whole ∙ sym all) in
     let most = is.turns in
-    let few : turns_of front + cost a ≤ 4000000 = omega arith in
+    let few : turns_of front + cost a ≤ MOST_TURNS = omega arith in
     let later = subst (λ (acts : List Act). Along (at_acts w (front ++ a ∷ [])) (map row_of_act rest) (at_acts w acts)) whole (acts_along w (front ++ a ∷ []) rest is allowed.1 (all ∙ sym whole)) in
     let P : SoFar → Type 0 = λ x. (has_ended x ≡ false) × Along x (map row_of_act rest) (at_acts w (front ++ a ∷ rest)) in
     let t = subst P (sym (act_gives (at_acts w front) a)) (refl, later) in
     (follows _ _ (follows_act (at_acts w front) a refl then_ few), t.0, t.1)
 
 -- ---- the whole text
-
-whole_pages : (n : ℕ) → n % 1024 ≡ 0 → (4 * n) % 4096 ≡ 0
-whole_pages n is = omega arith
-
-region_of : (g : Shape) → IsShape g → g.table ≡ 1024 → g.common ≡ 0 → HasRegion g.peers 4096 0 (4 * g.out)
-region_of g is table common =
-    let outs = is.out_pages in
-    let o_some = is.out_page in
-    let states = is.states in
-    let room = is.room in
-    let sections : g.peers * (4 * g.out) ≡ 4 * (g.peers * g.out) = swap g.peers g.out in
-    record {
-      count = (is.two_peers, is.most_peers);
-      table_pages = (omega arith, refl);
-      common_pages = refl;
-      out_pages = (omega arith, whole_pages g.out outs);
-      states = omega arith;
-      room = omega arith;
-    }
-  where
-    swap : (p n : ℕ) → p * (4 * n) ≡ 4 * (p * n)
-    swap p n = omega arith
 
 abbrev pub at_end : World → SoFar
 at_end w = record { position = Ended; peers = w.geometry.peers; out = 4 * w.geometry.out; most = w.most; honest = w.honest; acts = w.acts }
@@ -180,7 +149,7 @@ acted w = begun w ++ map row_of_act w.acts
 head_along : (w : World) → IsWorld w → Along at_start (begun w) (at_acts w [])
 head_along w is =
     let g = w.geometry in
-    let region = region_of g is.geometry is.table is.common in
+    let region : HasRegion g.peers 4096 0 (4 * g.out) = subst (λ (table : ℕ). HasRegion g.peers (4 * table) 0 (4 * g.out)) is.table (subst (λ (common : ℕ). HasRegion g.peers (4 * g.table) (4 * common) (4 * g.out)) is.common (region_of g is.geometry)) in
     let two = is.geometry.two_peers in
     let few = is.few in
     let room = is.geometry.room in

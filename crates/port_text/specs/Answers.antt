@@ -1,32 +1,27 @@
 -- What a call returns, against the definitions. A failed allocation is the one free answer.
-use Rattle.std.specs.Prelude.{◌≡◌, Result, Ok, Err}
+use Rattle.std.specs.Prelude.{Bool, true, false, Result}
 use Rattle.line_format.specs.declared.reading.TextFault.{TextFault}
-use Rattle.line_format.specs.declared.reading.TextFault.TheVariants as texts
+use Rattle.line_format.specs.Answers as texts
 use Rattle.port_text.specs.declared.faults.Cause.{Cause}
 use Rattle.port_text.specs.declared.faults.PortsFault.{PortsFault}
 use Rattle.port_text.specs.declared.faults.PortsFault.TheVariants as faults
 use Rattle.port_text.specs.declared.scenarios.Scenario.{Scenario}
 use Rattle.port_text.specs.Scenario.{World}
 use Rattle.port_text.specs.Spelling.{world_of}
-use Rattle.port_text.specs.Judge.{fault_at}
+use Rattle.port_text.specs.Judge.{sense}
 
+abbrev pub is_no_memory : PortsFault → Bool
+is_no_memory faults.NoMemory = true
+is_no_memory _ = false
+
+-- The fault is that of the definition, unless an allocation failed.
 abbrev pub Refuses : {Y : Type 0} → PortsFault → Result Y PortsFault → Type 0
-Refuses faults.NoMemory said = Unit {0}
-Refuses fault said = said ≡ Err fault
-
--- The value of a whole text, through a view, is that of the definition, unless an allocation
--- failed.
-abbrev pub Reads : {X Y : Type 0} → (X → Y) → Result X PortsFault → Result Y PortsFault → Type 0
-Reads view (Ok x) said = said ≡ Ok (view x)
-Reads view (Err e) said = Refuses e said
+Refuses fault said = texts.Refuses is_no_memory fault said
 
 -- The schedule or the fault is that of the definition, unless an allocation failed.
 abbrev pub Answers : Result Scenario PortsFault → Result World PortsFault → Type 0
-Answers result said = Reads world_of result said
+Answers result said = texts.Answers is_no_memory world_of result said
 
 -- Bytes after the end are a faulty line.
 abbrev pub fault_of_text : TextFault Cause → PortsFault
-fault_of_text texts.NoMemory = faults.NoMemory
-fault_of_text (texts.At cause n) = fault_at cause n
-fault_of_text (texts.After n) = faults.BadLine n
-fault_of_text texts.NoEnd = faults.NoEnd
+fault_of_text fault = texts.fault_of_text sense faults.NoMemory fault

@@ -19,6 +19,7 @@ use Rattle.port_text.specs.declared.faults.Cause.{Cause}
 use Rattle.port_text.specs.declared.faults.Cause.TheVariants.{BadLine, BadOrder, BadNumber, BadPeer, BadMessage, BadGeometry, TooManyTurns}
 use Rattle.port_text.specs.declared.faults.PortsFault.{PortsFault}
 use Rattle.port_text.specs.declared.faults.PortsFault.TheVariants as faults
+use Rattle.port_text.specs.declared.limits.TheConstants.{MOST_TURNS}
 use Rattle.port_text.specs.Sizes.{ports_shape, has_port}
 use Rattle.port_text.specs.Table.{pieces_of, all_forms}
 use Rattle.port_text.specs.Acts.{cost, turns_of}
@@ -144,7 +145,7 @@ add form ns None d = add_head form ns d
 abbrev pub wrong_row : SoFar → Form → List ℕ → List ℕ → Option Cause
 wrong_row d form ns bytes =
     if not (fits_sizes d form ns) then Some BadGeometry
-    else if nat_lt 4000000 (turns_with d (act_of form ns bytes)) then Some TooManyTurns
+    else if nat_lt MOST_TURNS (turns_with d (act_of form ns bytes)) then Some TooManyTurns
     else None
 
 -- The fault of a line that fails a test

@@ -3,6 +3,7 @@
 use Rattle.std.specs.Prelude.{◌≡◌, ℕ, ◌≤◌, ◌&&◌, not, nat_lt, nat_le, Bool, true, false, List, length, slice_index, slice_index_or, All}
 use Rattle.line_format.specs.Forms.{Fit, FitBytes}
 use Rattle.section_map.specs.Geometry.{Shape, IsShape, word_count}
+use Rattle.port_text.specs.declared.limits.TheConstants.{MOST_TURNS}
 use Rattle.port_text.specs.declared.acts.Act.{Act}
 use Rattle.port_text.specs.declared.forms.Form.{Form}
 use Rattle.port_text.specs.declared.forms.Form.TheVariants.{Publish, Sample, Turn, Poke}
@@ -58,7 +59,7 @@ pub record IsAllowed (w : World) (act : Act) : Type 0 where
 
 -- A schedule of ports. Its region has a State Table of 4,096 bytes and no common section, and each
 -- section has space for a port. Each peer has a flag. Each act is allowed, and all acts together
--- count for at most 4,000,000.
+-- count for at most `MOST_TURNS`.
 pub record IsWorld (w : World) : Type 0 where
   pub geometry : IsShape w.geometry
   pub few : w.geometry.peers ≤ 8
@@ -68,4 +69,4 @@ pub record IsWorld (w : World) : Type 0 where
   pub room : port_words w.most ≤ w.geometry.out
   pub flags : length w.honest ≡ w.geometry.peers
   pub allowed : All (IsAllowed w) w.acts
-  pub turns : turns_of w.acts ≤ 4000000
+  pub turns : turns_of w.acts ≤ MOST_TURNS

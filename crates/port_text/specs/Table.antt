@@ -2,6 +2,7 @@
 use Rattle.std.specs.Prelude.{List, [], ◌∷◌, codes}
 use Rattle.line_format.specs.Forms.{Piece, Word, Number, Hex}
 use Rattle.scenario_text.specs.Table.{any_number, u32_number}
+use Rattle.port_text.specs.declared.limits.TheConstants.{MOST_TURNS}
 use Rattle.port_text.specs.declared.forms.Form.{Form}
 use Rattle.port_text.specs.declared.forms.Form.TheVariants.{Version, Peers, Out, Longest, Honest, Hostile, Begin, Publish, Sample, Turn, Poke, End}
 
@@ -16,7 +17,7 @@ pieces_of Hostile = Word (codes "peer") ∷ any_number ∷ Word (codes "hostile"
 pieces_of Begin = Word (codes "begin") ∷ []
 pieces_of Publish = Word (codes "publish") ∷ any_number ∷ Hex ∷ []
 pieces_of Sample = Word (codes "sample") ∷ any_number ∷ any_number ∷ []
-pieces_of Turn = Word (codes "turn") ∷ any_number ∷ Number 0 4000000 ∷ []
+pieces_of Turn = Word (codes "turn") ∷ any_number ∷ Number 0 MOST_TURNS ∷ []
 pieces_of Poke = Word (codes "poke") ∷ any_number ∷ u32_number ∷ u32_number ∷ []
 pieces_of End = Word (codes "end") ∷ []
 

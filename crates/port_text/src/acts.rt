@@ -1,9 +1,8 @@
 //! The acts of a schedule: the lines after `begin`.
-ghost use Rattle.std.specs.Prelude.{◌≡◌, ◌++◌, [], ◌∷◌, OnOk, OnErr};
+ghost use Rattle.std.specs.Prelude.{◌≡◌};
 ghost use Rattle.port_text.specs.Acts.{cost};
 
-use ivs_base::NoMemory;
-use std::alloc::Global;
+use line_format::List;
 use std::marker::Model;
 
 /// A message of a port: a list of any bytes.
@@ -29,6 +28,7 @@ impl Message {
     }
 
     /// Returns the bytes of the message, in their order.
+    // claim with Message::of, Act::cost: A message has its bytes, and an act its cost in steps.
     pub fn bytes(&self) -> &[u8]
         ensures { result.now ≡ self.now }
     {
@@ -43,7 +43,7 @@ pub enum Act {
     Publish { peer: u32, message: Message },
     /// Queues a sample of the peer `from`, which may be `peer` itself. The peer is honest.
     Sample { peer: u32, from: u32 },
-    /// Takes `steps` turns of the peer, at most 4,000,000.
+    /// Takes `steps` turns of the peer, at most `MOST_TURNS`.
     Turn { peer: u32, steps: u32 },
     /// The peer, a hostile one, writes a word of the region, or is denied the write.
     Poke { peer: u32, word: u32, value: u32 },
@@ -62,48 +62,4 @@ impl Act {
 }
 
 /// Acts in their order.
-#[derive(Debug, Drop)]
-pub struct Acts {
-    items: Vec<Act>,
-}
-
-impl Model for Acts {
-    ghost use Rattle.std.specs.Prelude.{List};
-    ghost use Rattle.port_text.specs.declared.acts.Act.{Act};
-
-    ghost Value = { List Act };
-
-    ghost view = { λ acts. acts.items.items };
-}
-
-impl Acts {
-    /// Returns the empty list.
-    pub fn new(alloc: Global) -> Self
-        ensures { result ≡ [] }
-    {
-        Acts {
-            items: Vec::new(alloc),
-        }
-    }
-
-    /// Appends the act. After `NoMemory` the list is unchanged and the act is dropped.
-    // claim ok, err with Acts::new, Acts::items, Message::of, Message::bytes, Act::cost: A list has
-    //    the items that were appended, in order; a failed call changes nothing. A message has its
-    //    bytes, and an act its cost in steps.
-    pub fn push(&mut self, item: Act) -> Result<(), NoMemory>
-        ensures ok { OnOk result (self.new ≡ self.old ++ item ∷ []) }
-        ensures err { OnErr result (self.new ≡ self.old) }
-    {
-        match self.items.push(item) {
-            Ok(()) => Ok(()),
-            Err(_) => Err(NoMemory),
-        }
-    }
-
-    /// Returns the whole list.
-    pub fn items(&self) -> &[Act]
-        ensures { result.now ≡ self.now }
-    {
-        self.items.as_slice()
-    }
-}
+pub type Acts = List<Act>;

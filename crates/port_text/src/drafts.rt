@@ -1,5 +1,7 @@
 //! The value of the lines so far.
 ghost use Rattle.std.specs.Prelude.{◌≡◌, ◌≤◌, ◌^◌};
+ghost use Rattle.section_map.specs.declared.limits.TheConstants.{LARGEST_REGION};
+ghost use Rattle.port_text.specs.declared.limits.TheConstants.{MOST_TURNS};
 ghost use Rattle.port_text.specs.Acts.{turns_of};
 
 use crate::acts::Acts;
@@ -19,7 +21,7 @@ pub struct Draft {
     /// The number that the acts count for.
     pub(crate) turns: u64,
     ghost few: { peers ≤ 8 },
-    ghost section: { out ≤ 2 ^ 24 },
+    ghost section: { out ≤ LARGEST_REGION },
     ghost counted: { turns ≡ turns_of acts },
-    ghost most_turns: { turns ≤ 4000000 },
+    ghost most_turns: { turns ≤ MOST_TURNS },
 }

@@ -3,6 +3,7 @@ ghost use Rattle.std.specs.Prelude.{◌≡◌, ◌≤◌, length};
 ghost use Rattle.line_format.specs.Forms.{pieces};
 ghost use Rattle.port_text.specs.Table.{pieces_of};
 
+use crate::limits::MOST_TURNS;
 use line_format::FieldKind;
 
 /// A form of a line. Two words at one position make two forms.
@@ -72,7 +73,7 @@ impl Form {
             Form::Turn => &[
                 FieldKind::Word(b"turn"),
                 ANY,
-                FieldKind::Number(0, 4_000_000),
+                FieldKind::Number(0, MOST_TURNS),
             ],
             Form::Poke => &[FieldKind::Word(b"poke"), ANY, U32, U32],
             Form::End => &[FieldKind::Word(b"end")],

@@ -12,22 +12,13 @@ ghost use Rattle.port_text.specs.Drafts.{so_far};
 use crate::acts::{Act, Message};
 use crate::drafts::Draft;
 use crate::forms::Form;
+use crate::limits::LONGEST_MESSAGE;
 use crate::positions::Position;
-use line_format::{number, number_at};
-use section_map::Geometry;
+use line_format::{flag_at, number_at, number_in};
+use section_map::{Geometry, PAGE};
 
-/// The size of the region's State Table, in bytes.
-pub const TABLE: u32 = 4_096;
-
-/// The greatest size of a port's messages, in bytes.
-const LONGEST: u32 = 65_536;
-
-/// Returns the flag of peer `p`, or false if there is none.
-fn flag(flags: &[bool], p: u64) -> bool
-    ensures { result ≡ slice_index_or flags.now p false }
-{
-    flags.get(p as usize).copied().unwrap_or(false)
-}
+/// The size of the region's State Table, in bytes: one page.
+pub const TABLE: u32 = PAGE;
 
 /// Whether the order rules about peer `p` forbid the line here.
 fn is_out_of_turn(draft: &Draft, form: Form, p: u64) -> bool
@@ -46,12 +37,9 @@ pub fn is_out_of_order(draft: &Draft, form: Form, fields: &[&[u8]]) -> bool
     if Position::of(form) != draft.position {
         return true;
     }
-    match fields.get(1) {
+    match number_in(fields, 1) {
         None => false,
-        Some(field) => match number(field) {
-            None => false,
-            Some(p) => is_out_of_turn(draft, form, p),
-        },
+        Some(p) => is_out_of_turn(draft, form, p),
     }
 }
 
@@ -83,13 +71,13 @@ fn is_peer(draft: &Draft, p: u64) -> bool
 fn is_honest(draft: &Draft, p: u64) -> bool
     ensures { result ≡ is_honest (world_so_far (so_far draft.now)) p }
 {
-    is_peer(draft, p) && flag(draft.honest.items(), p)
+    is_peer(draft, p) && flag_at(draft.honest.items(), p)
 }
 
 fn is_hostile(draft: &Draft, p: u64) -> bool
     ensures { result ≡ is_hostile (world_so_far (so_far draft.now)) p }
 {
-    is_peer(draft, p) && !flag(draft.honest.items(), p)
+    is_peer(draft, p) && !flag_at(draft.honest.items(), p)
 }
 
 /// Whether the region has the peer, and the peer is of the kind that the form requires.
@@ -127,7 +115,7 @@ fn is_geometry(peers: u32, out: u64) -> bool
 fn has_port(most: u32, out: u64) -> bool
     ensures { result ≡ has_port most out }
 {
-    most % 4 == 0 && 4 <= most && most <= LONGEST && 4 * (3 + u64::from(most) / 2) <= out
+    most % 4 == 0 && 4 <= most && most <= LONGEST_MESSAGE && 4 * (3 + u64::from(most) / 2) <= out
 }
 
 /// Whether the sizes fit after a line `out` or `message`.

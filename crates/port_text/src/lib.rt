@@ -12,6 +12,7 @@ mod faults;
 mod forms;
 mod judging;
 mod laws;
+mod limits;
 mod positions;
 mod printing;
 mod reading;
@@ -23,6 +24,7 @@ pub use faults::{Cause, PortsFault};
 pub use laws::{
     bytes_after_end_are_bad_line, cut_is_no_end, fault_is_first, printed_is_read_again,
 };
+pub use limits::{LONGEST_MESSAGE, MOST_TURNS};
 pub use printing::put_scenario;
 pub use reading::parse;
 pub use scenarios::Scenario;

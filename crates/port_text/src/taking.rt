@@ -2,9 +2,10 @@
 ghost use Rattle.std.specs.Prelude.{◌≡◌, ◌≤◌, ◌+◌, OnOk, true};
 ghost use Rattle.std.proofs.Common.{rules as found};
 ghost use Rattle.line_format.specs.Forms.{AreInRange};
+ghost use Rattle.port_text.specs.declared.limits.TheConstants.{MOST_TURNS};
 ghost use Rattle.port_text.specs.Table.{pieces_of};
 ghost use Rattle.port_text.specs.Acts.{cost};
-ghost use Rattle.port_text.specs.Judge.{SoFar, add_head, with_act, with_peer, fits_sizes, rules, machine};
+ghost use Rattle.port_text.specs.Judge.{SoFar, add_head, with_act, with_peer, fits_sizes, rules};
 ghost use Rattle.port_text.specs.Drafts.{so_far};
 
 use crate::acts::{Act, Message};
@@ -14,13 +15,11 @@ use crate::forms::{FORMS, Form};
 use crate::judging::{
     act_of, fits_sizes, is_in_range, is_its_peer, is_message_length, is_out_of_order,
 };
+use crate::limits::MOST_TURNS;
 use crate::positions::Position;
 use ivs_base::NoMemory;
-use line_format::{FieldKind, Grammar, LineFault, TakeLines, Test, number_at, take_line};
+use line_format::{FieldKind, Grammar, LineFault, Test, number_at};
 use std::alloc::Global;
-
-/// The most acts of a schedule.
-const MOST_TURNS: u64 = 4_000_000;
 
 impl Draft {
     fn push_peer(&mut self, is_honest: bool) -> Result<(), NoMemory>
@@ -36,7 +35,7 @@ impl Draft {
     }
 
     fn push_act(&mut self, act: Act) -> Result<(), NoMemory>
-        requires turns { self.old.turns + cost act ≤ 4000000 }
+        requires turns { self.old.turns + cost act ≤ MOST_TURNS }
         ensures { OnOk result (so_far self.new ≡ with_act act (so_far self.old)) }
     {
         let cost = act.cost();
@@ -123,6 +122,10 @@ impl Grammar for Draft {
         is_message_length(self, form, size)
     }
 
+    fn is_ended(&self) -> bool {
+        self.position == Position::Ended
+    }
+
     #[tactic(auto, using(crate::proofs::Follows::small_peer, crate::proofs::Follows::small_from))]
     fn add(
         &mut self,
@@ -145,23 +148,5 @@ impl Grammar for Draft {
             }
         }
         Ok(())
-    }
-}
-
-impl TakeLines for Draft {
-    type Cause = Cause;
-
-    ghost SoFar = { SoFar };
-
-    ghost so_far = { so_far };
-
-    ghost machine = { machine };
-
-    fn take(&mut self, alloc: Global, line: &[u8]) -> Result<(), LineFault<Cause>> {
-        take_line(self, alloc, line)
-    }
-
-    fn has_ended(&self) -> bool {
-        self.position == Position::Ended
     }
 }

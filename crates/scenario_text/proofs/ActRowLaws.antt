@@ -1,27 +1,25 @@
 -- Rows of acts: each act form's row is an act's, and an act is allowed exactly if its row can
 -- follow.
-use Rattle.std.proofs.Common.{◌≡◌, ℕ, ◌+◌, ◌-◌, ◌^◌, ◌≤◌, Bool, true, false, List, [], get_or, Some, refl, sym, ap, ◌∙◌, arith}
-use Rattle.std.specs.Prelude.{option_and_then, slice_get, decimal}
+use Rattle.std.proofs.Common.{◌≡◌, ℕ, ◌+◌, ◌≤◌, Bool, true, false, List, [], get_or, Some, refl, sym, ap, ◌∙◌}
+use Rattle.std.specs.Prelude.{option_and_then, slice_get}
 use Rattle.std.specs.Option.{option_map_or}
 use Rattle.line_format.specs.Numbers.{number_of}
 use Rattle.line_format.specs.Forms.{Fit, FitBytes}
 use Rattle.line_format.specs.Rows.{row, fields_of_row}
-use Rattle.line_format.proofs.FitLaws.{counted, list_1, list_2, list_3, list_4}
-use Rattle.line_format.proofs.NumberLaws.{number_of-decimal}
+use Rattle.line_format.proofs.FitLaws.{counted, list_1, list_2, list_3, list_4, same_row}
+use Rattle.line_format.proofs.PartLaws.{rule_of}
 use Rattle.scenario_text.specs.declared.acts.Act.{Act}
 use Rattle.scenario_text.specs.declared.acts.Act.TheVariants as acts
 use Rattle.scenario_text.specs.declared.forms.Form.{Form}
 use Rattle.scenario_text.specs.declared.forms.Form.TheVariants.{Tick, Offer, Poll, Stop, Auto, Storm, Turn, Reset, Poke, Peek, Set, Ring, CfgRead, CfgWrite, MmioRead, MmioWrite, MsixRead, MsixWrite, Lose, Again}
 use Rattle.scenario_text.specs.declared.positions.Position.TheVariants.{AtActs}
+use Rattle.scenario_text.specs.declared.limits.TheConstants.{MOST_ACTS}
 use Rattle.scenario_text.specs.Acts.{cost, turns_of, peer_of}
 use Rattle.scenario_text.specs.Table.{pieces_of}
 use Rattle.scenario_text.specs.ActRows.{row_of_act}
 use Rattle.scenario_text.specs.Scenario.{is_too_late, IsAllowed}
 use Rattle.scenario_text.specs.Judge.{SoFar, world_so_far, is_out_of_turn, is_out_of_order, act_of, is_act, fits_sizes}
 use Rattle.scenario_text.proofs.Follows.{CanFollow}
-
-pub same_row : (form : Form) (ns ms frame : List ℕ) → ns ≡ ms → [] ≡ frame → row form ns [] ≡ row form ms frame
-same_row form ns ms frame e f = rw (e, f) refl
 
 -- ---- the act of a row
 
@@ -99,31 +97,28 @@ sizes_fit d (acts.Again p vector) = refl
 
 -- ---- the order of acts
 
-late : (f : ℕ → Bool) (p : ℕ) → p ≤ 2 ^ 64 - 1 → option_map_or f (number_of (decimal p)) false ≡ f p
-late f p le = rw (number_of-decimal p (omega arith)) refl
-
 pub turn_is : (d : SoFar) (a : Act) → Fit (pieces_of (row_of_act a).form) (row_of_act a).numbers
     → option_map_or (is_out_of_turn d (row_of_act a).form) (option_and_then number_of (slice_get (fields_of_row pieces_of (row_of_act a)) 1)) false ≡ is_too_late d.acts (row_of_act a).form (peer_of a)
-turn_is d (acts.Tick p) fit = late (is_out_of_turn d Tick) p fit.1
-turn_is d (acts.Offer p frame) fit = late (is_out_of_turn d Offer) p fit.1
-turn_is d (acts.Poll p) fit = late (is_out_of_turn d Poll) p fit.1
-turn_is d (acts.Stop p) fit = late (is_out_of_turn d Stop) p fit.1
-turn_is d (acts.Auto p expect) fit = late (is_out_of_turn d Auto) p fit.1
-turn_is d (acts.Storm p seed) fit = late (is_out_of_turn d Storm) p fit.1
-turn_is d (acts.Turn p k) fit = late (is_out_of_turn d Turn) p fit.1
-turn_is d (acts.Reset p) fit = late (is_out_of_turn d Reset) p fit.1
-turn_is d (acts.Poke p word value) fit = late (is_out_of_turn d Poke) p fit.1
-turn_is d (acts.Peek p word) fit = late (is_out_of_turn d Peek) p fit.1
-turn_is d (acts.Set p value) fit = late (is_out_of_turn d Set) p fit.1
-turn_is d (acts.Ring p target vector) fit = late (is_out_of_turn d Ring) p fit.1
-turn_is d (acts.CfgRead p offset width) fit = late (is_out_of_turn d CfgRead) p fit.1
-turn_is d (acts.CfgWrite p offset width value) fit = late (is_out_of_turn d CfgWrite) p fit.1
-turn_is d (acts.MmioRead p offset) fit = late (is_out_of_turn d MmioRead) p fit.1
-turn_is d (acts.MmioWrite p offset value) fit = late (is_out_of_turn d MmioWrite) p fit.1
-turn_is d (acts.MsixRead p offset) fit = late (is_out_of_turn d MsixRead) p fit.1
-turn_is d (acts.MsixWrite p offset value) fit = late (is_out_of_turn d MsixWrite) p fit.1
-turn_is d (acts.Lose p) fit = late (is_out_of_turn d Lose) p fit.1
-turn_is d (acts.Again p vector) fit = late (is_out_of_turn d Again) p fit.1
+turn_is d (acts.Tick p) fit = rule_of (is_out_of_turn d Tick) p fit.1
+turn_is d (acts.Offer p frame) fit = rule_of (is_out_of_turn d Offer) p fit.1
+turn_is d (acts.Poll p) fit = rule_of (is_out_of_turn d Poll) p fit.1
+turn_is d (acts.Stop p) fit = rule_of (is_out_of_turn d Stop) p fit.1
+turn_is d (acts.Auto p expect) fit = rule_of (is_out_of_turn d Auto) p fit.1
+turn_is d (acts.Storm p seed) fit = rule_of (is_out_of_turn d Storm) p fit.1
+turn_is d (acts.Turn p k) fit = rule_of (is_out_of_turn d Turn) p fit.1
+turn_is d (acts.Reset p) fit = rule_of (is_out_of_turn d Reset) p fit.1
+turn_is d (acts.Poke p word value) fit = rule_of (is_out_of_turn d Poke) p fit.1
+turn_is d (acts.Peek p word) fit = rule_of (is_out_of_turn d Peek) p fit.1
+turn_is d (acts.Set p value) fit = rule_of (is_out_of_turn d Set) p fit.1
+turn_is d (acts.Ring p target vector) fit = rule_of (is_out_of_turn d Ring) p fit.1
+turn_is d (acts.CfgRead p offset width) fit = rule_of (is_out_of_turn d CfgRead) p fit.1
+turn_is d (acts.CfgWrite p offset width value) fit = rule_of (is_out_of_turn d CfgWrite) p fit.1
+turn_is d (acts.MmioRead p offset) fit = rule_of (is_out_of_turn d MmioRead) p fit.1
+turn_is d (acts.MmioWrite p offset value) fit = rule_of (is_out_of_turn d MmioWrite) p fit.1
+turn_is d (acts.MsixRead p offset) fit = rule_of (is_out_of_turn d MsixRead) p fit.1
+turn_is d (acts.MsixWrite p offset value) fit = rule_of (is_out_of_turn d MsixWrite) p fit.1
+turn_is d (acts.Lose p) fit = rule_of (is_out_of_turn d Lose) p fit.1
+turn_is d (acts.Again p vector) fit = rule_of (is_out_of_turn d Again) p fit.1
 
 is_at : (d : SoFar) (a : Act) → d.position ≡ AtActs → (b c : Bool) → b ≡ c
     → option_map_or (is_out_of_turn d (row_of_act a).form) (option_and_then number_of (slice_get (fields_of_row pieces_of (row_of_act a)) 1)) false ≡ b
@@ -157,7 +152,7 @@ order_is d a at fit = is_at d a at _ _ refl (turn_is d a fit)
 pub allowed_act : (d : SoFar) (a : Act) → d.position ≡ AtActs → CanFollow d (row_of_act a) → IsAllowed (world_so_far d) d.acts a
 allowed_act d a at can = record { values = can.values; bytes = can.bytes; order = sym (order_is d a at can.values) ∙ can.order; range = can.range; peer = can.peer; frame = can.frame }
 
-pub follows_act : (d : SoFar) (a : Act) → d.position ≡ AtActs → IsAllowed (world_so_far d) d.acts a → turns_of d.acts + cost a ≤ 4000000 → CanFollow d (row_of_act a)
+pub follows_act : (d : SoFar) (a : Act) → d.position ≡ AtActs → IsAllowed (world_so_far d) d.acts a → turns_of d.acts + cost a ≤ MOST_ACTS → CanFollow d (row_of_act a)
 follows_act d a at is few = record {
   values = is.values;
   bytes = is.bytes;

@@ -12,6 +12,7 @@ use Rattle.scenario_text.specs.declared.acts.Act.{Act}
 use Rattle.scenario_text.specs.declared.faults.Cause.TheVariants.{BadNumber, BadPeer}
 use Rattle.scenario_text.specs.declared.forms.Form.{Form}
 use Rattle.scenario_text.specs.declared.forms.Form.TheVariants.{Out, Mtu, Tick, Offer, Poll, Stop, Auto, Storm, Turn, Reset, Poke, Peek, Set, Ring, CfgRead, CfgWrite, MmioRead, MmioWrite, MsixRead, MsixWrite, Lose, Again}
+use Rattle.scenario_text.specs.declared.limits.TheConstants.{MOST_ACTS}
 use Rattle.scenario_text.specs.Acts.{cost, turns_of}
 use Rattle.scenario_text.specs.Table.{pieces_of}
 use Rattle.scenario_text.specs.Scenario.{is_in_range, is_its_peer, is_frame_size}
@@ -26,7 +27,7 @@ pub record CanFollow (d : SoFar) (r : Row Form) : Type 0 where
   pub peer : is_its_peer (world_so_far d) r.form r.numbers ≡ true
   pub frame : is_frame_size (world_so_far d) r.form (length r.frame) ≡ true
   pub sizes : fits_sizes d r.form r.numbers ≡ true
-  pub turns : turns_with d (act_of r.form r.numbers r.frame) ≤ 4000000
+  pub turns : turns_with d (act_of r.form r.numbers r.frame) ≤ MOST_ACTS
 
 abbrev pub with_row : Row Form → SoFar → SoFar
 with_row r d = all.with_row rules r d
@@ -93,9 +94,9 @@ fits d Mtu ns frame act is = absurd cc
 fits d _ ns frame act is = refl
 
 -- The act of a row is added if all acts still count for few enough.
-pub act_added : (d e : SoFar) (form : Form) (ns frame : List ℕ) (act : Act) (turns k : ℕ) → Some act ≡ act_of form ns frame → turns ≡ turns_of d.acts → k ≡ cost act → turns + k ≤ 4000000 → e ≡ with_act act d
+pub act_added : (d e : SoFar) (form : Form) (ns frame : List ℕ) (act : Act) (turns k : ℕ) → Some act ≡ act_of form ns frame → turns ≡ turns_of d.acts → k ≡ cost act → turns + k ≤ MOST_ACTS → e ≡ with_act act d
     → added rules d form ns frame ≡ Ok e
 act_added d e form ns frame act turns k is counted costs few adds =
     let of : act_of form ns frame ≡ Some act = sym is in
-    let few' : turns_of d.acts + cost act ≤ 4000000 = rw (← counted, ← costs) few in
+    let few' : turns_of d.acts + cost act ≤ MOST_ACTS = rw (← counted, ← costs) few in
     rw (fits d form ns frame act of, of, le-ltb _ _ few', adds) refl

@@ -1,14 +1,12 @@
 -- The spelling of a scenario is read as the scenario.
-use Rattle.std.proofs.Common.{◌≡◌, ℕ, ◌+◌, ◌*◌, ◌/◌, ◌%◌, ◌^◌, ◌<◌, ◌≤◌, Bool, true, false, cond, eqb, not, List, [], ◌∷◌, ◌++◌, length, take, map, Option, Some, None, Ok, refl, sym, ap, subst, ◌∙◌, append_assoc, arith, eq-eqb}
-use Rattle.std.specs.Prelude.{slice_get, decimal, max}
-use Rattle.std.specs.Option.{option_map_or}
+use Rattle.std.proofs.Common.{◌≡◌, ℕ, ◌+◌, ◌*◌, ◌/◌, ◌%◌, ◌^◌, ◌<◌, ◌≤◌, Bool, true, false, cond, eqb, List, [], ◌∷◌, ◌++◌, length, take, map, Some, Ok, refl, sym, ap, subst, ◌∙◌, append_assoc, arith, eq-eqb}
+use Rattle.std.specs.Prelude.{slice_get, max}
 use Rattle.std.proofs.lemmas.Bool.{ne_eqb}
 use Rattle.std.proofs.lemmas.List.{append-nil, length-append}
 use Rattle.std.proofs.lemmas.List.Sums.{sum_by_push, sum_by-append}
-use Rattle.line_format.specs.Numbers.{number_of}
 use Rattle.line_format.specs.Rows.{Row, row}
 use Rattle.line_format.specs.Machine.{Leads, text_of_lines}
-use Rattle.line_format.proofs.NumberLaws.{number_of-decimal}
+use Rattle.line_format.proofs.PartLaws.{no_rule, same_number}
 use Rattle.line_format.proofs.RowLaws.{bare, text_is_lines}
 use Rattle.line_format.proofs.TextLaws.{IsForward, spelled_is_read}
 use Rattle.line_format.proofs.RowTexts as all
@@ -22,6 +20,7 @@ use Rattle.scenario_text.specs.declared.acts.Act.{Act}
 use Rattle.scenario_text.specs.declared.forms.Form.{Form}
 use Rattle.scenario_text.specs.declared.forms.Form.TheVariants.{Version, Peers, Table, Common, Out, Mtu, Begin, End}
 use Rattle.scenario_text.specs.declared.positions.Position.TheVariants.{AtWiring, AtPeer, AtBegin, AtActs, Ended, AtPeers}
+use Rattle.scenario_text.specs.declared.limits.TheConstants.{MOST_ACTS}
 use Rattle.scenario_text.specs.Acts.{cost, turns_of}
 use Rattle.scenario_text.specs.Table.{pieces_of}
 use Rattle.scenario_text.specs.ActRows.{row_of_act}
@@ -43,10 +42,6 @@ along-append d rs ss e f here later = all.along-append rules d rs ss e f here la
 
 -- ---- the head
 
-quiet : (o : Option ℕ) → option_map_or (λ p. false) o false ≡ false
-quiet (Some n) = refl
-quiet None = refl
-
 -- A head of these sizes, up to the wiring.
 abbrev at_wiring : (version peers table common out mtu : ℕ) → SoFar
 at_wiring version peers table common out mtu = record { position = AtWiring; version = version; peers = peers; table = table; common = common; out = out; mtu = mtu; wiring = wirings.Intx; honest = []; acts = [] }
@@ -62,19 +57,19 @@ after_version : (version peers table common out mtu : ℕ) → (2 ≤ peers) × 
     → is_geometry peers table common out ≡ true → is_queue (record { version = version; out = out; mtu = mtu }) ≡ true
     → Along (at_version version) (row Peers (peers ∷ []) [] ∷ row Table (table ∷ []) [] ∷ row Common (common ∷ []) [] ∷ row Out (out ∷ []) [] ∷ row Mtu (mtu ∷ []) [] ∷ []) (at_wiring version peers table common out mtu)
 after_version version peers table common out mtu few t c o m geometry queue = (
-  follows _ _ (record { values = (few.0, few.1, tt); bytes = refl; order = quiet _; range = refl; peer = refl; frame = refl; sizes = refl; turns = omega arith }),
+  follows _ _ (record { values = (few.0, few.1, tt); bytes = refl; order = no_rule _; range = refl; peer = refl; frame = refl; sizes = refl; turns = omega arith }),
   refl,
   (
-    follows _ _ (record { values = (omega arith, omega arith, tt); bytes = refl; order = quiet _; range = refl; peer = refl; frame = refl; sizes = refl; turns = omega arith }),
+    follows _ _ (record { values = (omega arith, omega arith, tt); bytes = refl; order = no_rule _; range = refl; peer = refl; frame = refl; sizes = refl; turns = omega arith }),
     refl,
     (
-      follows _ _ (record { values = (omega arith, omega arith, tt); bytes = refl; order = quiet _; range = refl; peer = refl; frame = refl; sizes = refl; turns = omega arith }),
+      follows _ _ (record { values = (omega arith, omega arith, tt); bytes = refl; order = no_rule _; range = refl; peer = refl; frame = refl; sizes = refl; turns = omega arith }),
       refl,
       (
-        follows _ _ (record { values = (omega arith, omega arith, tt); bytes = refl; order = quiet _; range = refl; peer = refl; frame = refl; sizes = geometry; turns = omega arith }),
+        follows _ _ (record { values = (omega arith, omega arith, tt); bytes = refl; order = no_rule _; range = refl; peer = refl; frame = refl; sizes = geometry; turns = omega arith }),
         refl,
         (
-          follows _ _ (record { values = (omega arith, omega arith, tt); bytes = refl; order = quiet _; range = refl; peer = refl; frame = refl; sizes = queue; turns = omega arith }),
+          follows _ _ (record { values = (omega arith, omega arith, tt); bytes = refl; order = no_rule _; range = refl; peer = refl; frame = refl; sizes = queue; turns = omega arith }),
           refl,
           refl,
         ),
@@ -89,7 +84,7 @@ sizes_along : (version peers table common out mtu : ℕ) → (2 ≤ peers) × (p
 sizes_along version peers table common out mtu few t c o m geometry known queue =
     let itself : version ≡ max 1 version = omega (arith, known.0) in
     let later : List (Row Form) = row Peers (peers ∷ []) [] ∷ row Table (table ∷ []) [] ∷ row Common (common ∷ []) [] ∷ row Out (out ∷ []) [] ∷ row Mtu (mtu ∷ []) [] ∷ [] in (
-      follows _ _ (record { values = (known.0, known.1, tt); bytes = refl; order = quiet _; range = refl; peer = refl; frame = refl; sizes = refl; turns = omega arith }),
+      follows _ _ (record { values = (known.0, known.1, tt); bytes = refl; order = no_rule _; range = refl; peer = refl; frame = refl; sizes = refl; turns = omega arith }),
       refl,
       subst (λ v. Along (at_version v) later (at_wiring version peers table common out mtu)) itself (after_version version peers table common out mtu few t c o m geometry queue),
     )
@@ -101,17 +96,14 @@ at_peers version peers table common out mtu wiring front = record { position = c
 wiring_along : (version peers table common out mtu : ℕ) (wiring : Wiring) → 2 ≤ peers → IsWiring wiring → Along (at_wiring version peers table common out mtu) (row_of_wiring wiring ∷ []) (at_peers version peers table common out mtu wiring [])
 wiring_along version peers table common out mtu (wirings.Msix vectors) some is =
     let open_ : eqb 0 peers ≡ false = ne_eqb 0 peers (λ none. omega arith) in
-    (follows _ _ (record { values = (is.0, is.1, tt); bytes = refl; order = quiet _; range = refl; peer = refl; frame = refl; sizes = refl; turns = omega arith }), refl, rw open_ refl)
+    (follows _ _ (record { values = (is.0, is.1, tt); bytes = refl; order = no_rule _; range = refl; peer = refl; frame = refl; sizes = refl; turns = omega arith }), refl, rw open_ refl)
 wiring_along version peers table common out mtu wirings.Intx some is =
     let open_ : eqb 0 peers ≡ false = ne_eqb 0 peers (λ none. omega arith) in
-    (follows _ _ (record { values = tt; bytes = refl; order = quiet _; range = refl; peer = refl; frame = refl; sizes = refl; turns = omega arith }), refl, rw open_ refl)
+    (follows _ _ (record { values = tt; bytes = refl; order = no_rule _; range = refl; peer = refl; frame = refl; sizes = refl; turns = omega arith }), refl, rw open_ refl)
 
 not_ended : (full : Bool) → eqb (ordinal_of (cond full AtBegin AtPeer)) 10 ≡ false
 not_ended true = refl
 not_ended false = refl
-
-same_number : (p n : ℕ) → p ≡ n → p < 2 ^ 64 → option_map_or (λ q. not (eqb q n)) (number_of (decimal p)) false ≡ false
-same_number p n same small = rw (number_of-decimal p small, same, eq-eqb n n refl) refl
 
 peer_follows : (version peers table common out mtu : ℕ) (wiring : Wiring) (front : List Bool) (p : ℕ) (b : Bool) → p ≡ length front → length front < peers → peers ≤ 8 → CanFollow (at_peers version peers table common out mtu wiring front) (row_of_peer p b)
 peer_follows version peers table common out mtu wiring front p true same less few =
@@ -174,7 +166,7 @@ acts_along w front (a ∷ rest) is all =
     let up_to : turns_of (front ++ a ∷ []) ≡ turns_of front + cost a = sum_by_push cost front a in
     let turns : turns_of (front ++ a ∷ []) + turns_of rest ≡ turns_of w.acts = sym (sum_by-append cost (front ++ a ∷ []) rest) ∙ ap turns_of (whole ∙ sym all) in
     let most = is.turns in
-    let few : turns_of front + cost a ≤ 4000000 = omega arith in
+    let few : turns_of front + cost a ≤ MOST_ACTS = omega arith in
     let later = subst (λ (acts : List Act). Along (at_acts w (front ++ a ∷ [])) (map row_of_act rest) (at_acts w acts)) whole (acts_along w (front ++ a ∷ []) rest is (all ∙ sym whole)) in
     let P : SoFar → Type 0 = λ x. (has_ended x ≡ false) × Along x (map row_of_act rest) (at_acts w (front ++ a ∷ rest)) in
     let t = subst P (sym (act_gives (at_acts w front) a)) (refl, later) in
@@ -185,7 +177,7 @@ acts_along w front (a ∷ rest) is all =
 whole_pages : (n : ℕ) → n % 1024 ≡ 0 → (4 * n) % 4096 ≡ 0
 whole_pages n is = omega arith
 
-region_of : (g : Shape) → IsShape g → HasRegion g.peers (4 * g.table) (4 * g.common) (4 * g.out)
+pub region_of : (g : Shape) → IsShape g → HasRegion g.peers (4 * g.table) (4 * g.common) (4 * g.out)
 region_of g is =
     let tables = is.table_pages in
     let commons = is.common_pages in

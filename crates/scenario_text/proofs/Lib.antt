@@ -6,7 +6,6 @@ pub mod Follows
 pub mod ActRowLaws
 pub mod PositionLaws
 pub mod BackLaws
-pub mod ReadLaws
 pub mod WholeLaws
 pub mod ForwardLaws
 pub mod PrintLaws

@@ -1,17 +1,15 @@
 -- The invariant of the lines so far at each position. Each row that can follow preserves it.
-use Rattle.std.proofs.Common.{◌≡◌, ℕ, zero, suc, ◌+◌, ◌^◌, ◌<◌, ◌≤◌, Bool, true, false, cond, eqb, ◌||◌, not, List, [], ◌∷◌, ◌++◌, length, get_or, take, map, Some, refl, sym, ap, subst, ◌∙◌, append_assoc, arith, ◌⊎◌, inl, inr}
-use Rattle.std.specs.Prelude.{option_and_then, slice_get, codes, max}
-use Rattle.std.specs.Option.{option_map_or}
+use Rattle.std.proofs.Common.{◌≡◌, ℕ, zero, suc, ◌+◌, ◌<◌, ◌≤◌, Bool, true, false, cond, eqb, ◌||◌, List, [], ◌∷◌, ◌++◌, length, get_or, take, map, Some, refl, sym, ap, subst, ◌∙◌, append_assoc, arith, ◌⊎◌, inl, inr}
+use Rattle.std.specs.Prelude.{slice_get, codes, max}
 use Rattle.std.proofs.lemmas.Bool.{eqb-true, eqb-false, cases_lt}
 use Rattle.std.proofs.lemmas.List.{append-nil, map-append, length-append}
 use Rattle.std.proofs.lemmas.List.Sums.{sum_by_push}
-use Rattle.line_format.specs.Numbers.{number_of}
-use Rattle.line_format.specs.Forms.{Piece, Word, Number, Fit, spell}
 use Rattle.line_format.specs.Rows.{Row, row}
-use Rattle.line_format.proofs.FitLaws.{counted, list_0, list_1}
-use Rattle.line_format.proofs.NumberLaws.{number_of-decimal}
+use Rattle.line_format.proofs.FitLaws.{counted, list_0, in_range, same_row, the_number}
+use Rattle.line_format.proofs.PartLaws.{numbered-push, next_number}
 use Rattle.line_format.proofs.StepLaws.{not_false, same_some}
 use Rattle.line_format.proofs.RowTexts.{Keeps, AreKept}
+use Rattle.line_format.proofs.TableLaws.{same_place}
 use Rattle.pci_space.specs.declared.wiring.Wiring.{Wiring}
 use Rattle.pci_space.specs.Wiring.{IsWiring}
 use Rattle.split_ring.specs.Layout.{IsVersion, IsQueue}
@@ -20,15 +18,16 @@ use Rattle.scenario_text.specs.declared.forms.Form.{Form}
 use Rattle.scenario_text.specs.declared.forms.Form.TheVariants.{Version, Peers, Table, Common, Out, Mtu, Msix, Intx, Honest, Hostile, Begin, End}
 use Rattle.scenario_text.specs.declared.positions.Position.{Position}
 use Rattle.scenario_text.specs.declared.positions.Position.TheVariants.{AtVersion, AtPeers, AtTable, AtCommon, AtOut, AtMtu, AtWiring, AtPeer, AtBegin, AtActs, Ended}
+use Rattle.scenario_text.specs.declared.limits.TheConstants.{MOST_ACTS}
 use Rattle.scenario_text.specs.Acts.{cost, turns_of}
-use Rattle.scenario_text.specs.Table.{pieces_of, any_number}
+use Rattle.scenario_text.specs.Table.{pieces_of}
 use Rattle.scenario_text.specs.ActRows.{row_of_act}
 use Rattle.scenario_text.specs.Scenario.{World, IsAllowed, AreAllowed}
 use Rattle.scenario_text.specs.Spelling.{row_of_wiring, row_of_peer, rows_of_peers}
 use Rattle.scenario_text.specs.Judge.{SoFar, world_so_far, ordinal_of, position_of, is_act, with_act, rules}
 use Rattle.scenario_text.proofs.SizeLaws.{HasRegion, has_region, has_queue, small_section}
 use Rattle.scenario_text.proofs.Follows.{CanFollow, tests}
-use Rattle.scenario_text.proofs.ActRowLaws.{same_row, act_row, allowed_act}
+use Rattle.scenario_text.proofs.ActRowLaws.{act_row, allowed_act}
 
 -- ---- the rows before a position
 
@@ -83,7 +82,7 @@ IsMeasured d = Measured d.version d.peers d.table d.common d.out d.mtu d.wiring
 pub record Acted (d : SoFar) : Type 0 where
   pub flags : length d.honest ≡ d.peers
   pub allowed : AreAllowed (world_so_far d)
-  pub turns : turns_of d.acts ≤ 4000000
+  pub turns : turns_of d.acts ≤ MOST_ACTS
 
 abbrev pub Good : Position → SoFar → Type 0
 Good AtVersion d = Clean d.honest d.acts
@@ -109,26 +108,16 @@ Adds d r = Keeps rules rows_so_far IsGood d r
 
 -- ---- positions
 
-position_at : ℕ → Position
-position_at zero = AtVersion
-position_at (suc zero) = AtPeers
-position_at (suc (suc zero)) = AtTable
-position_at (suc (suc (suc zero))) = AtCommon
-position_at (suc (suc (suc (suc zero)))) = AtOut
-position_at (suc (suc (suc (suc (suc zero))))) = AtMtu
-position_at (suc (suc (suc (suc (suc (suc zero)))))) = AtWiring
-position_at (suc (suc (suc (suc (suc (suc (suc zero))))))) = AtPeer
-position_at (suc (suc (suc (suc (suc (suc (suc (suc zero)))))))) = AtBegin
-position_at (suc (suc (suc (suc (suc (suc (suc (suc (suc zero))))))))) = AtActs
-position_at (suc (suc (suc (suc (suc (suc (suc (suc (suc (suc n)))))))))) = Ended
+positions : List Position
+positions = AtVersion ∷ AtPeers ∷ AtTable ∷ AtCommon ∷ AtOut ∷ AtMtu ∷ AtWiring ∷ AtPeer ∷ AtBegin ∷ AtActs ∷ Ended ∷ []
 
-at_ordinal : (s : Position) → position_at (ordinal_of s) ≡ s
-unfolding position_at
-at_ordinal AtVersion = refl
-at_ordinal _ = refl
+listed : (s : Position) → slice_get positions (ordinal_of s) ≡ Some s
+unfolding positions
+listed AtVersion = refl
+listed _ = refl
 
 pub same_position : (s t : Position) → eqb (ordinal_of s) (ordinal_of t) ≡ true → t ≡ s
-same_position s t e = sym (at_ordinal t) ∙ ap position_at (sym (eqb-true _ _ e)) ∙ at_ordinal s
+same_position s t e = same_place positions ordinal_of listed s t e
 
 pub either_false : (a b : Bool) → (a || b) ≡ false → (a ≡ false) × (b ≡ false)
 either_false true b e = absurd cc
@@ -137,34 +126,10 @@ either_false false b e = (refl, e)
 stands : (d : SoFar) (r : Row Form) → CanFollow d r → d.position ≡ position_of r.form
 stands d r can = same_position (position_of r.form) d.position (not_false _ (either_false _ _ can.order).0)
 
--- ---- numbers of a head line
-
-in_range : (low high : ℕ) (ps : List Piece) (ns : List ℕ) → Fit (Number low high ∷ ps) ns → (low ≤ get_or ns 0 0) × (get_or ns 0 0 ≤ high)
-in_range low high ps [] fit = absurd fit
-in_range low high ps (n ∷ ns) fit = (fit.0, fit.1)
-
-the_number : (form : Form) (ns frame : List ℕ) → length ns ≡ 1 → frame ≡ [] → row form (get_or ns 0 0 ∷ []) [] ≡ row form ns frame
-the_number form ns frame one none = same_row form _ ns frame (list_1 ns one) (sym none)
-
 -- ---- peers
 
-pub peers-push : (k : ℕ) (bs : List Bool) (b : Bool) → rows_of_peers k (bs ++ b ∷ []) ≡ rows_of_peers k bs ++ row_of_peer (k + length bs) b ∷ []
-peers-push k [] b = ap (λ (p : ℕ). row_of_peer p b ∷ []) (omega arith)
-peers-push k (c ∷ bs) b = ap (λ (t : List (Row Form)). row_of_peer k c ∷ t) (peers-push (k + 1) bs b ∙ ap (λ (p : ℕ). rows_of_peers (k + 1) bs ++ row_of_peer p b ∷ []) (omega arith))
-
 head-push : (d : SoFar) (b : Bool) → sizes_rows d ++ row_of_wiring d.wiring ∷ rows_of_peers 0 (d.honest ++ b ∷ []) ≡ head_so_far d ++ row_of_peer (length d.honest) b ∷ []
-head-push d b = rw (peers-push 0 d.honest b) (ap (λ (p : ℕ). head_so_far d ++ row_of_peer p b ∷ []) (omega arith))
-
--- A peer line has the number of the next peer.
-next_peer : (d : SoFar) (w v : List ℕ) (ns frame : List ℕ) → Fit (Word w ∷ any_number ∷ Word v ∷ []) ns
-    → option_map_or (λ p. not (eqb p (length d.honest))) (option_and_then number_of (slice_get (spell (Word w ∷ any_number ∷ Word v ∷ []) ns frame) 1)) false ≡ false
-    → length d.honest ∷ [] ≡ ns
-next_peer d w v [] frame fit e = absurd fit
-next_peer d w v (p ∷ q ∷ ns) frame fit e = absurd fit.2
-next_peer d w v (p ∷ []) frame fit e =
-    let small : p < 2 ^ 64 = omega (arith, fit.1) in
-    let same : p ≡ length d.honest = eqb-true _ _ (not_false _ (rw (number_of-decimal p small) at e)) in
-    ap (λ (k : ℕ). k ∷ []) (sym same)
+head-push d b = rw (numbered-push row_of_peer 0 d.honest b) (ap (λ (p : ℕ). head_so_far d ++ row_of_peer p b ∷ []) (omega arith))
 
 peer_rows : (d : SoFar) (b : Bool) (r : Row Form) → d.position ≡ AtPeer → row_of_peer (length d.honest) b ≡ r → (full : Bool)
     → before (cond full AtBegin AtPeer) (record d { position = cond full AtBegin AtPeer; honest = d.honest ++ b ∷ [] }) ≡ before d.position d ++ r ∷ []
@@ -214,7 +179,7 @@ act_rows d a r e = rw (map-append, ← e) (sym (append_assoc (head_so_far d ++ r
 act_before : (d : SoFar) (a : Act) (r : Row Form) → d.position ≡ AtActs → row_of_act a ≡ r → before d.position (with_act a d) ≡ before d.position d ++ r ∷ []
 act_before d a r at e = rw at (act_rows d a r e)
 
-act_good : (d : SoFar) (a : Act) → d.position ≡ AtActs → CanFollow d (row_of_act a) → turns_of d.acts + cost a ≤ 4000000 → Good d.position d → Good d.position (with_act a d)
+act_good : (d : SoFar) (a : Act) → d.position ≡ AtActs → CanFollow d (row_of_act a) → turns_of d.acts + cost a ≤ MOST_ACTS → Good d.position d → Good d.position (with_act a d)
 act_good d a at can few good =
     let g = (rw at at good) in
     rw at (g.0, record { flags = g.1.flags; allowed = allowed-push (world_so_far d) a g.1.allowed (allowed_act d a at can); turns = rw (sum_by_push cost d.acts a) few })
@@ -223,7 +188,7 @@ adds_act : (d : SoFar) (form : Form) (ns frame : List ℕ) → is_act form ≡ t
 adds_act d form ns frame is where_ can good =
     let at = stands d (row form ns frame) can ∙ where_ in
     let t = act_row form ns frame is can.values can.bytes in
-    let few : turns_of d.acts + cost t.act ≤ 4000000 = (rw t.is_act_of at can.turns) in
+    let few : turns_of d.acts + cost t.act ≤ MOST_ACTS = (rw t.is_act_of at can.turns) in
     let can' : CanFollow d (row_of_act t.act) = subst (λ (r : Row Form). CanFollow d r) (sym t.row_is) can in
     record {
       rows = rw t.is_act_of (act_before d t.act (row form ns frame) at t.row_is);
@@ -275,11 +240,11 @@ adds Intx ns frame d can good =
     record { rows = rw (at, g.0.honest_none) (ap (λ (r : Row Form). sizes_rows d ++ r ∷ []) same); good = (record { few = g.1; region = g.2; queue = g.3; wired = tt }, g.0.acts_none, omega (arith, ap length g.0.honest_none, g.1.0)) }
 adds Honest ns frame d can good =
     let at = stands d (row Honest ns frame) can in
-    let number = next_peer d (codes "peer") _ ns frame can.values (either_false _ _ can.order).1 in
+    let number = next_number (length d.honest) (codes "peer") _ ns frame can.values (either_false _ _ can.order).1 in
     record { rows = peer_rows d true (row Honest ns frame) at (same_row Honest _ ns frame number (sym can.bytes)) _; good = peer_good d true (rw at at good) _ refl }
 adds Hostile ns frame d can good =
     let at = stands d (row Hostile ns frame) can in
-    let number = next_peer d (codes "peer") _ ns frame can.values (either_false _ _ can.order).1 in
+    let number = next_number (length d.honest) (codes "peer") _ ns frame can.values (either_false _ _ can.order).1 in
     record { rows = peer_rows d false (row Hostile ns frame) at (same_row Hostile _ ns frame number (sym can.bytes)) _; good = peer_good d false (rw at at good) _ refl }
 adds Begin ns frame d can good =
     let at = stands d (row Begin ns frame) can in

@@ -5,6 +5,7 @@ use Rattle.std.specs.Result.{is_ok}
 use Rattle.std.proofs.lemmas.Bool.{leb-true, le-leb, ltb-true, lt-ltb, eqb-true}
 use Rattle.line_format.proofs.SpellLaws.{both_true}
 use Rattle.line_format.proofs.LineLaws.{are_true}
+use Rattle.section_map.specs.declared.limits.TheConstants.{LARGEST_REGION}
 use Rattle.section_map.specs.Geometry.{Shape, IsShape}
 use Rattle.section_map.specs.Faults.{IsPeerCount, IsPages, IsSomePages, byte_count, shape_of, IsFirstFault}
 use Rattle.section_map.specs.declared.sizes.Part.TheVariants.{Table, Common, Out}
@@ -27,7 +28,7 @@ pub record HasRegion (peers table common out : ℕ) : Type 0 where
   pub common_pages : IsPages common
   pub out_pages : IsSomePages out
   pub states : 4 * peers ≤ table
-  pub room : byte_count peers table common out ≤ 16777216
+  pub room : byte_count peers table common out ≤ LARGEST_REGION
 
 some_pages : (size : ℕ) → is_some_pages size ≡ true → IsSomePages size
 some_pages size e =
@@ -108,7 +109,7 @@ pub some_size : (o : Option ℕ) → is_some o ≡ true → o ≡ Some (unwrap_o
 some_size (Some n) e = refl
 some_size None e = absurd cc
 
-pub has_queue : (q : Sizes) → IsVersion q.version → q.out ≤ 2 ^ 24 → is_queue q ≡ true → IsQueue q
+pub has_queue : (q : Sizes) → IsVersion q.version → q.out ≤ LARGEST_REGION → is_queue q ≡ true → IsQueue q
 unfolding is_queue
 has_queue q known section e =
     let a = both_true _ _ e in
@@ -125,12 +126,12 @@ queue_refused q (queue_faults.BadMtu mtu) is has = is.0 (has.mtu_least, has.mtu_
 queue_refused q (queue_faults.TooSmall bytes) is has = let none : Some (size_of q) ≡ None = sym has.fits ∙ is.1 in absurd cc
 queue_refused q (queue_faults.NoSlot slot room) is has = let less = is.2 in let le = has.one_slot in omega arith
 
-pub queue_is : (q : Sizes) (r : Result Sizes QueueFault) → IsVersion q.version → q.out ≤ 2 ^ 24 → IfOk r (λ made. (made ≡ q) × IsQueue made) → IfErr r (IsQueueFault q) → is_ok r ≡ is_queue q
+pub queue_is : (q : Sizes) (r : Result Sizes QueueFault) → IsVersion q.version → q.out ≤ LARGEST_REGION → IfOk r (λ made. (made ≡ q) × IsQueue made) → IfErr r (IsQueueFault q) → is_ok r ≡ is_queue q
 queue_is q (Ok made) known section is fault = sym (is_queue-true q (subst IsQueue is.0 is.1))
 queue_is q (Err e) known section is fault = sym (never _ (λ yes. queue_refused q e fault (has_queue q known section yes)))
 
--- A section of a region has at most 16,777,216 bytes.
-pub small_section : (peers table common out : ℕ) → HasRegion peers table common out → out ≤ 2 ^ 24
+-- A section is at most as long as the longest region.
+pub small_section : (peers table common out : ℕ) → HasRegion peers table common out → out ≤ LARGEST_REGION
 small_section peers table common out is =
     let room = is.room in
     let two = is.count.0 in

@@ -22,6 +22,7 @@ use Rattle.scenario_text.specs.declared.faults.Cause.{Cause}
 use Rattle.scenario_text.specs.declared.faults.Cause.TheVariants.{BadLine, BadOrder, BadNumber, BadPeer, BadFrame, BadGeometry, TooManyTurns}
 use Rattle.scenario_text.specs.declared.faults.ScenarioFault.{ScenarioFault}
 use Rattle.scenario_text.specs.declared.faults.ScenarioFault.TheVariants as faults
+use Rattle.scenario_text.specs.declared.limits.TheConstants.{MOST_ACTS}
 use Rattle.scenario_text.specs.Table.{pieces_of, all_forms}
 use Rattle.scenario_text.specs.Acts.{cost, turns_of}
 use Rattle.scenario_text.specs.Sizes.{is_geometry, is_queue}
@@ -185,7 +186,7 @@ add form ns None d = add_head form ns d
 abbrev pub wrong_row : SoFar → Form → List ℕ → List ℕ → Option Cause
 wrong_row d form ns frame =
     if not (fits_sizes d form ns) then Some BadGeometry
-    else if nat_lt 4000000 (turns_with d (act_of form ns frame)) then Some TooManyTurns
+    else if nat_lt MOST_ACTS (turns_with d (act_of form ns frame)) then Some TooManyTurns
     else None
 
 -- ---- the fault of a line that fails a test

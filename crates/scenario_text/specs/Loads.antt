@@ -6,6 +6,7 @@ use Rattle.section_map.specs.Faults.{shape_of}
 use Rattle.pci_space.specs.declared.wiring.Wiring.TheVariants.{Msix}
 use Rattle.scenario_text.specs.declared.acts.Act.{Act}
 use Rattle.scenario_text.specs.declared.acts.Act.TheVariants.{Auto, Offer, Turn}
+use Rattle.scenario_text.specs.declared.limits.TheConstants.{LOAD_STEPS}
 use Rattle.scenario_text.specs.Scenario.{World}
 
 -- The frames, from frame 0: each has 14 to 16 bytes.
@@ -16,16 +17,16 @@ load_frame k = map (λ j. (31 * k + 7 * j) % 256) (range_with_len 0 (14 + k % 3)
 unfoldable pub load_offers : ℕ → List Act
 load_offers count = map (λ k. Offer 0 (load_frame k)) (range_with_len 0 count)
 
--- `count` rounds of one turn of each peer.
-unfoldable pub load_rounds : ℕ → List Act
-load_rounds count = flat_map (λ _. Turn 0 64 ∷ Turn 1 64 ∷ []) (range_with_len 0 count)
+-- `count` rounds of one turn of each peer, with this number of steps.
+unfoldable pub rounds : (steps count : ℕ) → List Act
+rounds steps count = flat_map (λ _. Turn 0 steps ∷ Turn 1 steps ∷ []) (range_with_len 0 count)
 
 -- Both peers choose their calls, peer 1 until it has delivered all frames. After the offers come
 -- 200 rounds, and one more for each three frames.
 abbrev pub load_acts : ℕ → List Act
-load_acts count = Auto 0 0 ∷ Auto 1 count ∷ load_offers count ++ load_rounds (200 + (count + 2) / 3)
+load_acts count = Auto 0 0 ∷ Auto 1 count ∷ load_offers count ++ rounds LOAD_STEPS (200 + (count + 2) / 3)
 
--- The scenario of a load of `count` frames, 1 to 80,000; sizes are in bytes.
+-- The scenario of a load of `count` frames, 1 to `MOST_LOAD`; sizes are in bytes.
 unfoldable pub load_world : ℕ → World
 load_world count = record {
   version = 1;

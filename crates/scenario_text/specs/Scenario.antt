@@ -9,6 +9,7 @@ use Rattle.pci_space.specs.Wiring.{IsWiring}
 use Rattle.scenario_text.specs.declared.acts.Act.{Act}
 use Rattle.scenario_text.specs.declared.forms.Form.{Form}
 use Rattle.scenario_text.specs.declared.forms.Form.TheVariants.{Tick, Offer, Poll, Stop, Auto, Storm, Turn, Reset, Poke, Peek, Set, Ring, CfgRead, CfgWrite, MmioRead, MmioWrite, MsixRead, MsixWrite, Lose, Again}
+use Rattle.scenario_text.specs.declared.limits.TheConstants.{MOST_ACTS}
 use Rattle.scenario_text.specs.Table.{pieces_of}
 use Rattle.scenario_text.specs.Acts.{turns_of, peer_of, has_auto, has_storm, has_call}
 use Rattle.scenario_text.specs.ActRows.{row_of_act}
@@ -113,7 +114,7 @@ AreAllowed w = (k : ℕ) (act : Act) → slice_get w.acts k ≡ Some act → IsA
 
 -- A scenario. Its version is that of its link, and its sizes have a region and a queue. Each peer
 -- has a flag. Each act is allowed at its position, and all acts together count for at most
--- 4,000,000.
+-- `MOST_ACTS`.
 pub record IsWorld (w : World) : Type 0 where
   pub version : w.version ≡ w.queue.version
   pub geometry : IsShape w.geometry
@@ -123,4 +124,4 @@ pub record IsWorld (w : World) : Type 0 where
   pub wiring : IsWiring w.wiring
   pub flags : length w.honest ≡ w.geometry.peers
   pub allowed : AreAllowed w
-  pub turns : turns_of w.acts ≤ 4000000
+  pub turns : turns_of w.acts ≤ MOST_ACTS

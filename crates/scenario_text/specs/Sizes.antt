@@ -1,5 +1,6 @@
 -- The sizes that a head may give, as tests of its numbers. Sizes are in bytes.
 use Rattle.std.specs.Prelude.{ℕ, ◌*◌, ◌%◌, ◌==◌, ◌&&◌, nat_lt, nat_le, is_some, Bool}
+use Rattle.section_map.specs.declared.limits.TheConstants.{LARGEST_REGION}
 use Rattle.section_map.specs.Faults.{byte_count}
 use Rattle.split_ring.specs.Layout.{Sizes, queue_size, slot_of, data_area_len}
 
@@ -15,7 +16,7 @@ is_some_pages size = nat_lt 0 size && is_pages size
 unfoldable pub is_geometry : ℕ → ℕ → ℕ → ℕ → Bool
 is_geometry peers table common out =
     nat_le 2 peers && nat_le peers 65536 && is_some_pages table && is_pages common && is_some_pages out
-    && nat_le (4 * peers) table && nat_le (byte_count peers table common out) 16777216
+    && nat_le (4 * peers) table && nat_le (byte_count peers table common out) LARGEST_REGION
 
 -- A section of this size has a queue for this MTU.
 unfoldable pub is_queue : Sizes → Bool

@@ -1,6 +1,6 @@
 -- Scenarios as texts: the rows of a scenario, one line each. So a scenario has one spelling.
-use Rattle.std.specs.Prelude.{◌≡◌, ℕ, ◌+◌, ◌*◌, Bool, true, false, List, [], ◌∷◌, ◌++◌, map}
-use Rattle.line_format.specs.Rows.{Row, row, text_of}
+use Rattle.std.specs.Prelude.{◌≡◌, ℕ, ◌*◌, Bool, true, false, List, [], ◌∷◌, ◌++◌, map}
+use Rattle.line_format.specs.Rows.{Row, row, text_of, numbered}
 use Rattle.pci_space.specs.declared.wiring.Wiring.{Wiring}
 use Rattle.pci_space.specs.declared.wiring.Wiring.TheVariants as wirings
 use Rattle.scenario_text.specs.declared.forms.Form.{Form}
@@ -24,8 +24,7 @@ row_of_peer p false = row Hostile (p ∷ []) []
 
 -- The peers in their order, from p on.
 abbrev pub rows_of_peers : ℕ → List Bool → List (Row Form)
-rows_of_peers p [] = []
-rows_of_peers p (b ∷ bs) = row_of_peer p b ∷ rows_of_peers (p + 1) bs
+rows_of_peers p honest = numbered row_of_peer p honest
 
 -- The version and the sizes, in bytes.
 abbrev pub sizes_rows : World → List (Row Form)

@@ -3,6 +3,7 @@ use Rattle.std.specs.Prelude.{◌^◌, ◌-◌, List, [], ◌∷◌, codes}
 use Rattle.line_format.specs.Forms.{Piece, Word, Number, Hex}
 use Rattle.scenario_text.specs.declared.forms.Form.{Form}
 use Rattle.scenario_text.specs.declared.forms.Form.TheVariants.{Version, Peers, Table, Common, Out, Mtu, Msix, Intx, Honest, Hostile, Begin, Tick, Offer, Poll, Stop, Auto, Storm, Turn, Reset, Poke, Peek, Set, Ring, CfgRead, CfgWrite, MmioRead, MmioWrite, MsixRead, MsixWrite, Lose, Again, End}
+use Rattle.scenario_text.specs.declared.limits.TheConstants.{MOST_ACTS}
 
 abbrev pub any_number : Piece
 any_number = Number 0 (2 ^ 64 - 1)
@@ -40,7 +41,7 @@ pieces_of Poll = Word (codes "poll") ∷ any_number ∷ []
 pieces_of Stop = Word (codes "stop") ∷ any_number ∷ []
 pieces_of Auto = Word (codes "auto") ∷ any_number ∷ any_number ∷ []
 pieces_of Storm = Word (codes "storm") ∷ any_number ∷ any_number ∷ []
-pieces_of Turn = Word (codes "turn") ∷ any_number ∷ Number 0 4000000 ∷ []
+pieces_of Turn = Word (codes "turn") ∷ any_number ∷ Number 0 MOST_ACTS ∷ []
 pieces_of Reset = Word (codes "reset") ∷ any_number ∷ []
 pieces_of Poke = Word (codes "poke") ∷ any_number ∷ u32_number ∷ u32_number ∷ []
 pieces_of Peek = Word (codes "peek") ∷ any_number ∷ u32_number ∷ []

@@ -37,7 +37,7 @@ pub enum Act {
         peer: u32,
         seed: u64,
     },
-    /// Takes `steps` turns of the peer, at most 4,000,000.
+    /// Takes `steps` turns of the peer, at most `MOST_ACTS`.
     Turn {
         peer: u32,
         steps: u32,

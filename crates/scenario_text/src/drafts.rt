@@ -1,7 +1,9 @@
 //! The value of the lines so far.
 ghost use Rattle.std.specs.Prelude.{◌≡◌, ◌≤◌, ◌<◌, ◌^◌, ℕ, Some, slice_index_or, false};
+ghost use Rattle.section_map.specs.declared.limits.TheConstants.{LARGEST_REGION};
 ghost use Rattle.section_map.specs.Faults.{shape_of};
 ghost use Rattle.split_ring.specs.Layout.{IsVersion};
+ghost use Rattle.scenario_text.specs.declared.limits.TheConstants.{MOST_ACTS};
 ghost use Rattle.scenario_text.specs.Acts.{turns_of, has_auto, has_storm, has_call};
 ghost use Rattle.scenario_text.specs.Judge.{ordinal_of};
 
@@ -39,11 +41,11 @@ pub struct Draft {
     pub(crate) called: [bool; 8],
     ghost known: { IsVersion version },
     ghost few: { peers ≤ 8 },
-    ghost section: { out ≤ 2 ^ 24 },
+    ghost section: { out ≤ LARGEST_REGION },
     ghost region: { 4 < ordinal_of position → geometry ≡ Some (shape_of peers table common out) },
     ghost ring: { 5 < ordinal_of position → queue ≡ Some (record { version = version; out = out; mtu = mtu }) },
     ghost counted: { turns ≡ turns_of acts },
-    ghost most: { turns ≤ 4000000 },
+    ghost most: { turns ≤ MOST_ACTS },
     ghost autos_of: { (p : ℕ) → slice_index_or autos p false ≡ has_auto acts p },
     ghost storms_of: { (p : ℕ) → slice_index_or storms p false ≡ has_storm acts p },
     ghost calls_of: { (p : ℕ) → slice_index_or called p false ≡ has_call acts p },

@@ -66,7 +66,7 @@ pub enum ScenarioFault {
     /// The form isn't allowed at this position.
     #[error("line {0} is out of order")]
     BadOrder(u64),
-    /// With this line the acts count for more than 4,000,000.
+    /// With this line the acts count for more than `MOST_ACTS`.
     #[error("line {0} makes too many turns")]
     TooManyTurns(u64),
     /// No line is faulty, and there is no `end` line.

@@ -3,6 +3,7 @@ ghost use Rattle.std.specs.Prelude.{◌≡◌, ◌≤◌, length};
 ghost use Rattle.line_format.specs.Forms.{pieces};
 ghost use Rattle.scenario_text.specs.Table.{pieces_of};
 
+use crate::limits::MOST_ACTS;
 use line_format::FieldKind;
 
 /// A form of a scenario's lines. Two words at one position make two forms.
@@ -152,7 +153,7 @@ impl Form {
             Form::Turn => &[
                 FieldKind::Word(b"turn"),
                 ANY,
-                FieldKind::Number(0, 4_000_000),
+                FieldKind::Number(0, MOST_ACTS),
             ],
             Form::Reset => &[FieldKind::Word(b"reset"), ANY],
             Form::Poke => &[FieldKind::Word(b"poke"), ANY, U32, U32],

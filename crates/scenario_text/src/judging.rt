@@ -14,14 +14,7 @@ use crate::drafts::Draft;
 use crate::forms::Form;
 use crate::positions::Position;
 use ivs_base::Frame;
-use line_format::{number, number_at};
-
-/// Returns the flag of peer `p`, or false if there is none.
-fn flag(flags: &[bool], p: u64) -> bool
-    ensures { result ≡ slice_index_or flags.now p false }
-{
-    flags.get(p as usize).copied().unwrap_or(false)
-}
+use line_format::{flag_at, number_at, number_in};
 
 /// Whether the order rules about peer `p` forbid the line here.
 fn is_out_of_turn(draft: &Draft, form: Form, p: u64) -> bool
@@ -29,9 +22,9 @@ fn is_out_of_turn(draft: &Draft, form: Form, p: u64) -> bool
 {
     match form {
         Form::Honest | Form::Hostile => p != draft.honest.items().len() as u64,
-        Form::Tick | Form::Poll | Form::Stop => flag(&draft.autos, p),
-        Form::Auto => flag(&draft.autos, p) || flag(&draft.called, p),
-        Form::Storm => flag(&draft.storms, p),
+        Form::Tick | Form::Poll | Form::Stop => flag_at(&draft.autos, p),
+        Form::Auto => flag_at(&draft.autos, p) || flag_at(&draft.called, p),
+        Form::Storm => flag_at(&draft.storms, p),
         _ => false,
     }
 }
@@ -43,12 +36,9 @@ pub fn is_out_of_order(draft: &Draft, form: Form, fields: &[&[u8]]) -> bool
     if Position::of(form) != draft.position {
         return true;
     }
-    match fields.get(1) {
+    match number_in(fields, 1) {
         None => false,
-        Some(field) => match number(field) {
-            None => false,
-            Some(p) => is_out_of_turn(draft, form, p),
-        },
+        Some(p) => is_out_of_turn(draft, form, p),
     }
 }
 
@@ -89,13 +79,13 @@ fn is_peer(draft: &Draft, p: u64) -> bool
 fn is_link(draft: &Draft, p: u64) -> bool
     ensures { result ≡ is_link (world_so_far (so_far draft.now)) p }
 {
-    p < 2 && flag(draft.honest.items(), p)
+    p < 2 && flag_at(draft.honest.items(), p)
 }
 
 fn is_hostile(draft: &Draft, p: u64) -> bool
     ensures { result ≡ is_hostile (world_so_far (so_far draft.now)) p }
 {
-    is_peer(draft, p) && !flag(draft.honest.items(), p)
+    is_peer(draft, p) && !flag_at(draft.honest.items(), p)
 }
 
 /// Whether the scenario has the peer, and the peer is of the kind that the form requires.

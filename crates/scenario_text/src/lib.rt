@@ -26,6 +26,7 @@ mod faults;
 mod forms;
 mod judging;
 mod laws;
+mod limits;
 mod loads;
 mod positions;
 mod printing;
@@ -40,7 +41,8 @@ pub use faults::{Cause, ScenarioFault};
 pub use laws::{
     bytes_after_end_are_bad_line, cut_is_no_end, fault_is_first, printed_is_read_again,
 };
-pub use loads::load;
+pub use limits::{LOAD_STEPS, LONGEST_TEXT, MOST_ACTS, MOST_LOAD};
+pub use loads::{load, push_rounds};
 pub use printing::{print, put_scenario};
 pub use reading::parse;
 pub use running::not_running;

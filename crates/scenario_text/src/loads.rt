@@ -1,19 +1,18 @@
 //! The scenario of a load: peer 0 offers frames, peer 1 delivers them, and both choose their calls.
 ghost use Rattle.std.specs.Prelude.{◌≡◌, ◌≤◌, ◌<◌, ◌++◌, IfOk, OnOk};
 ghost use Rattle.section_map.specs.Faults.{shape_of};
+ghost use Rattle.scenario_text.specs.declared.limits.TheConstants.{MOST_LOAD};
 ghost use Rattle.scenario_text.specs.Spelling.{world_of};
-ghost use Rattle.scenario_text.specs.Loads.{load_frame, load_offers, load_rounds, load_acts, load_world};
+ghost use Rattle.scenario_text.specs.Loads.{load_frame, load_offers, rounds, load_acts, load_world};
 
 use crate::acts::{Act, Acts, Flags};
+use crate::limits::LOAD_STEPS;
 use crate::scenarios::Scenario;
 use ivs_base::{Frame, NoMemory};
 use pci_space::Wiring;
 use section_map::Geometry;
 use split_ring::Queue;
 use std::alloc::{AllocError, Global};
-
-/// The number of steps in a peer's turn line.
-const STEPS: u32 = 64;
 
 /// Returns the bytes of frame `number`, from 0.
 fn frame_bytes(alloc: Global, number: u32) -> Result<Vec<u8>, AllocError>
@@ -45,26 +44,21 @@ fn push_offers(alloc: Global, acts: &mut Acts, count: u32) -> Result<(), NoMemor
     Ok(())
 }
 
-/// Appends `count` rounds. In each round both peers take their turns.
-fn push_rounds(acts: &mut Acts, count: u32) -> Result<(), NoMemory>
-    ensures { OnOk result (acts.new ≡ acts.old ++ load_rounds count) }
+/// Appends `count` rounds. In each round both peers take a turn of this number of steps.
+// claim: Rounds are appended as turn lines: one of each of two peers, as often as asked for.
+pub fn push_rounds(acts: &mut Acts, steps: u32, count: u32) -> Result<(), NoMemory>
+    ensures { OnOk result (acts.new ≡ acts.old ++ rounds steps count) }
 {
     for _ in 0..count {
-        acts.push(Act::Turn {
-            peer: 0,
-            steps: STEPS,
-        })?;
-        acts.push(Act::Turn {
-            peer: 1,
-            steps: STEPS,
-        })?;
+        acts.push(Act::Turn { peer: 0, steps })?;
+        acts.push(Act::Turn { peer: 1, steps })?;
     }
     Ok(())
 }
 
 /// Returns the acts of a load of `count` frames.
 fn acts(alloc: Global, count: u32) -> Result<Acts, NoMemory>
-    requires { count ≤ 80000 }
+    requires { count ≤ MOST_LOAD }
     ensures { IfOk result (λ acts. acts ≡ load_acts count) }
 {
     let mut acts = Acts::new(alloc);
@@ -74,7 +68,7 @@ fn acts(alloc: Global, count: u32) -> Result<Acts, NoMemory>
         expect: u64::from(count),
     })?;
     push_offers(alloc, &mut acts, count)?;
-    push_rounds(&mut acts, 200 + (count + 2) / 3)?;
+    push_rounds(&mut acts, LOAD_STEPS, 200 + (count + 2) / 3)?;
     Ok(acts)
 }
 
@@ -98,14 +92,14 @@ fn section() -> Queue
     }
 }
 
-/// Returns the scenario of a load of `count` frames, 1 to 80,000 (profile). Peer 0 offers them, and
-/// peer 1 chooses its calls until it has delivered them. After the offers come 200 rounds of turns,
-/// and one more for each three frames. Returns `NoMemory` if an allocation fails.
+/// Returns the scenario of a load of `count` frames, 1 to `MOST_LOAD` (profile). Peer 0 offers
+/// them, and peer 1 chooses its calls until it has delivered them. After the offers come 200 rounds
+/// of turns, and one more for each three frames. Returns `NoMemory` if an allocation fails.
 // claim: The scenario of a load of N frames has two automatic peers, N offers of peer 0, and 200
 //    rounds of turns plus one more for each three frames.
 pub fn load(alloc: Global, count: u32) -> Result<Scenario, NoMemory>
     requires some { 1 ≤ count }
-    requires few { count ≤ 80000 }
+    requires few { count ≤ MOST_LOAD }
     ensures { IfOk result (λ scenario. world_of scenario ≡ load_world count) }
 {
     let mut honest = Flags::new(alloc);

@@ -3,9 +3,10 @@ ghost use Rattle.std.specs.Prelude.{ℕ, ◌==◌, ◌||◌, ◌&&◌, slice_ind
 ghost use Rattle.std.proofs.Common.{rules as found};
 ghost use Rattle.line_format.specs.Forms.{AreInRange};
 ghost use Rattle.scenario_text.specs.declared.forms.Form.TheVariants.{Out, Mtu};
+ghost use Rattle.scenario_text.specs.declared.limits.TheConstants.{MOST_ACTS};
 ghost use Rattle.scenario_text.specs.Table.{pieces_of};
 ghost use Rattle.scenario_text.specs.Acts.{cost, peer_of, is_auto, is_storm, is_call};
-ghost use Rattle.scenario_text.specs.Judge.{SoFar, ordinal_of, position_of, head_with, with_act, with_peer, rules, machine};
+ghost use Rattle.scenario_text.specs.Judge.{SoFar, ordinal_of, position_of, head_with, with_act, with_peer, rules};
 ghost use Rattle.line_format.specs.Reading.{Gives};
 ghost use Rattle.scenario_text.specs.Drafts.{so_far};
 
@@ -14,16 +15,14 @@ use crate::drafts::Draft;
 use crate::faults::Cause;
 use crate::forms::{FORMS, Form};
 use crate::judging::{act_of, is_frame_size, is_in_range, is_its_peer, is_out_of_order};
+use crate::limits::MOST_ACTS;
 use crate::positions::Position;
 use ivs_base::{Frame, NoMemory};
-use line_format::{FieldKind, Grammar, LineFault, TakeLines, Test, number_at, take_line};
+use line_format::{FieldKind, Grammar, LineFault, Test, number_at};
 use pci_space::Wiring;
 use section_map::Geometry;
 use split_ring::Queue;
 use std::alloc::Global;
-
-/// The most acts of a scenario.
-const MOST_TURNS: u64 = 4_000_000;
 
 impl Act {
     /// Whether the act makes its peer choose its calls.
@@ -76,7 +75,7 @@ impl Draft {
     }
 
     fn push_act(&mut self, act: Act) -> Result<(), NoMemory>
-        requires turns { self.old.turns + cost act ≤ 4000000 }
+        requires turns { self.old.turns + cost act ≤ MOST_ACTS }
         requires peer { peer_of act < 8 }
         ensures { OnOk result (so_far self.new ≡ with_act act (so_far self.old)) }
     {
@@ -211,6 +210,10 @@ impl Grammar for Draft {
         is_frame_size(self, form, size)
     }
 
+    fn is_ended(&self) -> bool {
+        self.position == Position::Ended
+    }
+
     #[tactic(auto, using(crate::proofs::Follows::small_peer))]
     fn add(
         &mut self,
@@ -223,30 +226,12 @@ impl Grammar for Draft {
         match act_of(form, numbers, Frame::of(alloc, &bytes)?) {
             None => self.add_head(form, numbers),
             Some(act) => {
-                if MOST_TURNS < self.turns + act.cost() {
+                if MOST_ACTS < self.turns + act.cost() {
                     return Err(LineFault::Wrong(Cause::TooManyTurns));
                 }
                 self.push_act(act)?;
                 Ok(())
             }
         }
-    }
-}
-
-impl TakeLines for Draft {
-    type Cause = Cause;
-
-    ghost SoFar = { SoFar };
-
-    ghost so_far = { so_far };
-
-    ghost machine = { machine };
-
-    fn take(&mut self, alloc: Global, line: &[u8]) -> Result<(), LineFault<Cause>> {
-        take_line(self, alloc, line)
-    }
-
-    fn has_ended(&self) -> bool {
-        self.position == Position::Ended
     }
 }

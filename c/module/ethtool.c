@@ -93,4 +93,5 @@ const struct ethtool_ops ivshm_net_ethtool_ops = {
 	.get_sset_count		= ivshm_net_stat_count,
 	.get_strings		= ivshm_net_stat_names,
 	.get_ethtool_stats	= ivshm_net_stat_values,
+	.get_ts_info		= ethtool_op_get_ts_info,
 };

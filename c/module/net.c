@@ -360,10 +360,12 @@ static int ivshm_net_open(struct net_device *net)
 	return error;
 }
 
+/* A device that is detached is down already: it sleeps, or couldn't be resumed. */
 static int ivshm_net_stop(struct net_device *net)
 {
 	netif_stop_queue(net);
-	ivshm_net_down(netdev_priv(net));
+	if (netif_device_present(net))
+		ivshm_net_down(netdev_priv(net));
 	return 0;
 }
 

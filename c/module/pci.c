@@ -228,7 +228,8 @@ static int ivshm_net_resume(struct device *device)
 	rtnl_lock();
 	if (netif_running(n->net))
 		error = ivshm_net_up(n);
-	netif_device_attach(n->net);
+	if (!error)
+		netif_device_attach(n->net);
 	rtnl_unlock();
 	return error;
 }

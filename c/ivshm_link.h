@@ -26,8 +26,9 @@
  *                          repository are about such accesses; by default each access has the
  *                          order that it needs (docs/ORDERS.md)
  *     IVSHM_LINK_SINGLE    no bursts: each word is accessed by itself
- *     IVSHM_LINK_MEMCPY    a burst is one memcpy; by default it is accesses of 32 bits. A word
- *                          that memcpy tears is one more value that the other peer might store */
+ *     IVSHM_LINK_MEMCPY    a burst is one memcpy; by default it is accesses of one word or, on a
+ *                          processor with registers of 64 bits, of two. A word that memcpy tears is
+ *                          one more value that the other peer might store */
 #ifndef IVSHM_LINK_H
 #define IVSHM_LINK_H
 
@@ -145,12 +146,28 @@ static inline void ivshm_link_store(uint32_t *word, const ivshm_access *access) 
 #endif
 }
 
+/* Two words in one access. It is aligned to 8 bytes, so neither word is torn. */
+#if defined __SIZEOF_LONG__ && __SIZEOF_LONG__ >= 8
+#define IVSHM_LINK_PAIRS 1
+#else
+#define IVSHM_LINK_PAIRS 0
+#endif
+typedef uint64_t __attribute__((may_alias)) ivshm_link_pair;
+
 /* Copies `count` words out of the other section. */
 static inline void ivshm_link_copy_out(uint32_t *to, const uint32_t *from, uint32_t count) {
 #ifdef IVSHM_LINK_MEMCPY
     memcpy(to, from, 4 * (size_t)count);
 #else
-    for (uint32_t i = 0; i < count; i++) to[i] = __atomic_load_n(&from[i], __ATOMIC_RELAXED);
+    uint32_t i = 0;
+    if (IVSHM_LINK_PAIRS) {
+        if (count > 0 && (uintptr_t)from % 8 != 0) to[i++] = __atomic_load_n(from, __ATOMIC_RELAXED);
+        for (; count - i >= 2; i += 2) {
+            uint64_t pair = __atomic_load_n((const ivshm_link_pair *)(const void *)&from[i], __ATOMIC_RELAXED);
+            __builtin_memcpy(&to[i], &pair, 8);
+        }
+    }
+    for (; i < count; i++) to[i] = __atomic_load_n(&from[i], __ATOMIC_RELAXED);
 #endif
 }
 
@@ -159,9 +176,20 @@ static inline void ivshm_link_copy_in(uint32_t *to, const uint8_t *from, uint32_
 #ifdef IVSHM_LINK_MEMCPY
     memcpy(to, from, 4 * (size_t)count);
 #else
-    for (uint32_t i = 0; i < count; i++) {
-        uint32_t word;
-        memcpy(&word, from + 4 * (size_t)i, 4);
+    uint32_t i = 0, word;
+    if (IVSHM_LINK_PAIRS) {
+        uint64_t pair;
+        if (count > 0 && (uintptr_t)to % 8 != 0) {
+            __builtin_memcpy(&word, from, 4);
+            __atomic_store_n(&to[i++], word, __ATOMIC_RELAXED);
+        }
+        for (; count - i >= 2; i += 2) {
+            __builtin_memcpy(&pair, from + 4 * (size_t)i, 8);
+            __atomic_store_n((ivshm_link_pair *)(void *)&to[i], pair, __ATOMIC_RELAXED);
+        }
+    }
+    for (; i < count; i++) {
+        __builtin_memcpy(&word, from + 4 * (size_t)i, 4);
         __atomic_store_n(&to[i], word, __ATOMIC_RELAXED);
     }
 #endif

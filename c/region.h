@@ -6,7 +6,7 @@
  * WAY says how the accesses are made (cc -DWAY=1):
  *   0, the default: each word by itself, sequentially consistent, as in the proofs
  *   1: each word by itself, in the order that it needs (docs/ORDERS.md)
- *   2: the same, and bursts as accesses of 32 bits
+ *   2: the same, and bursts by accesses of one word or two
  *   3: the same, and bursts by memcpy
  *
  * VERSION is the version of the link, 1 by default. Both ends have the same one. PIECE bounds the

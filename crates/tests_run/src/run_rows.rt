@@ -3,7 +3,7 @@
 use crate::gates::{Counter, Meeting, Near, NearAssembly};
 use crate::heads::{HONEST, HOSTILE, IN_BYTES, WITH_EVENTS};
 use ivs_base::{MemorySink, MemorySource};
-use ivshm_cli::{Ran, Status, ivshm};
+use ivshm_cli::{Status, ivshm};
 use peer_runner::{Gate, OpenGate};
 use std::alloc::{AllocError, Global};
 use std::process::Abort;
@@ -14,12 +14,17 @@ use std::thread::Threads;
 /// The frame of the worked examples.
 const FRAME: &str = "ffffffffffff0200000000010800";
 
-/// The result of a run: its status, its text, and the words and pass of its peers.
+/// Whether the line is one of a session or a reset, or says that a peer is spent.
+fn is_of_session(line: &[u8]) -> bool {
+    line.starts_with(b"session ") || line.starts_with(b"x ") || line == b"spent".as_slice()
+}
+
+/// The result of a run: its status, its text, and whether it left the words and pass of its peers.
 #[derive(Drop)]
 struct Told {
     status: Status,
     text: Vec<u8>,
-    ran: Option<Ran>,
+    has_ran: bool,
 }
 
 impl Told {
@@ -31,12 +36,16 @@ impl Told {
             .count()
     }
 
+    /// Whether the number of lines that begin with this start is this one.
+    fn counts(&self, (start, number): (&str, usize)) -> bool {
+        self.count(start.as_bytes()) == number
+    }
+
     /// Returns the lines of sessions, of resets and of peers that are spent, in their order.
     fn sessions(&self, alloc: Global) -> Result<Vec<u8>, AllocError> {
         let mut found = Vec::new(alloc);
         for line in self.text.split(|byte| *byte == b'\n') {
-            let is_one = line.starts_with(b"session ") || line.starts_with(b"x ");
-            if is_one || line == b"spent".as_slice() {
+            if is_of_session(line) {
                 found.extend_from_slice(line)?;
                 found.push(b'\n')?;
             }
@@ -75,7 +84,12 @@ fn run<R: Threads + Sync, G: Gate + Sync>(
         &mut ran,
     );
     let text = sink.bytes().to_vec(alloc)?;
-    Ok(Told { status, text, ran })
+    let has_ran = ran.is_some();
+    Ok(Told {
+        status,
+        text,
+        has_ran,
+    })
 }
 
 /// Returns a scenario of two honest automatic peers, with this head and these acts. Each offers its
@@ -98,40 +112,101 @@ fn automatic(
     Ok(text)
 }
 
+/// Checks that the run is done, and how many of its lines begin with each of these starts.
+fn check_counts(rt: &impl Abort, told: &Told, rows: &[(&str, usize)]) {
+    assert!(rt; told.status == Status::Done);
+    for at in 0..rows.len() {
+        assert!(rt; told.counts(rows[at]), "row {at}");
+    }
+}
+
 /// Checks that both peers finished, and that each delivered what the other offered.
-fn check_delivered<R: Abort>(rt: &R, told: &Told, frames: [u32; 2]) {
+fn check_delivered(rt: &impl Abort, told: &Told, frames: [u32; 2]) {
     let [first, second] = frames;
-    assert_eq!(rt; told.status, Status::Done);
-    assert!(rt; told.ran.is_some());
-    assert_eq!(rt; told.count(b"finished"), 2);
-    assert_eq!(rt; told.count(b"spent"), 0);
-    assert_eq!(rt; told.count(b"refuse "), 0);
-    assert_eq!(rt; told.count(b"accept 0 "), first as usize);
-    assert_eq!(rt; told.count(b"deliver 1 "), first as usize);
-    assert_eq!(rt; told.count(b"accept 1 "), second as usize);
-    assert_eq!(rt; told.count(b"deliver 0 "), second as usize);
+    let rows = [
+        ("finished", 2),
+        ("spent", 0),
+        ("refuse ", 0),
+        ("accept 0 ", first as usize),
+        ("deliver 1 ", first as usize),
+        ("accept 1 ", second as usize),
+        ("deliver 0 ", second as usize),
+    ];
+    check_counts(rt, told, &rows);
+    assert!(rt; told.has_ran);
+}
+
+/// Peers that exchange frames: the head of their scenario, the numbers of their frames, and their
+/// turns.
+type Exchange = (&'static str, [u32; 2], u32);
+
+const EXCHANGES: [Exchange; 6] = [
+    (HONEST, [1000, 1000], 1_500_000),
+    (HONEST, [40, 0], 100_000),
+    (WITH_EVENTS, [1000, 1000], 1_500_000),
+    (WITH_EVENTS, [40, 0], 100_000),
+    (IN_BYTES, [1000, 1000], 1_500_000),
+    (IN_BYTES, [40, 0], 100_000),
+];
+
+/// Runs peers that are kept within this span of each other, and checks that each delivers all.
+fn check_near<R: Threads + Sync + Abort>(
+    rt: &R,
+    alloc: Global,
+    (head, frames, turns): Exchange,
+    span: u64,
+) -> Result<(), Fail> {
+    let scenario = automatic(alloc, head, frames, turns)?;
+    let gate = Near::new(span);
+    let told = run(rt, alloc, &scenario, &gate)?;
+    assert!(rt; !gate.is_spent());
+    check_delivered(rt, &told, frames);
+    Ok(())
 }
 
 // claim ivshm_cli.ivshm.running
 #[test]
 fn near_peers_exchange_frames(rt: HostRuntime) -> Result<(), Fail> {
-    let alloc = rt.alloc();
-    for (head, frames, turns) in [
-        (HONEST, [1000, 1000], 1_500_000),
-        (HONEST, [40, 0], 100_000),
-        (WITH_EVENTS, [1000, 1000], 1_500_000),
-        (WITH_EVENTS, [40, 0], 100_000),
-        (IN_BYTES, [1000, 1000], 1_500_000),
-        (IN_BYTES, [40, 0], 100_000),
-    ] {
-        let scenario = automatic(alloc, head, frames, turns)?;
-        let gate = Near::new(64);
-        let told = run(&rt, alloc, scenario.as_str(), &gate)?;
-        assert!(rt; !gate.is_spent());
-        check_delivered(&rt, &told, frames);
+    for exchange in EXCHANGES {
+        check_near(&rt, rt.alloc(), exchange, 64)?;
     }
     Ok(())
 }
+
+/// Runs a scenario whose peers meet at their first turn, and checks that it is done and refuses
+/// nothing.
+fn check_meeting<R: Threads + Sync + Abort>(
+    rt: &R,
+    alloc: Global,
+    scenario: &str,
+) -> Result<(), Fail> {
+    let gate = Meeting::new();
+    let told = run(rt, alloc, scenario, &gate)?;
+    assert!(rt; gate.was_passed());
+    check_counts(rt, &told, &[("refuse ", 0)]);
+    Ok(())
+}
+
+/// Runs a scenario whose peers meet at their first turn and stay near each other.
+fn run_near_assembly<R: Threads + Sync + Abort>(
+    rt: &R,
+    alloc: Global,
+    scenario: &str,
+    peers: u64,
+) -> Result<Told, Fail> {
+    let gate = NearAssembly::new(peers, 64);
+    let told = run(rt, alloc, scenario, &gate)?;
+    assert!(rt; gate.assembly.was_passed() && !gate.near.is_spent());
+    Ok(told)
+}
+
+/// Peers that exchange frames, and meet at their first turns.
+const MEETINGS: [Exchange; 4] = [
+    (HONEST, [1000, 1000], 1_500_000),
+    (HONEST, [40, 0], 100_000),
+    (WITH_EVENTS, [1000, 1000], 1_500_000),
+    (IN_BYTES, [1000, 1000], 1_500_000),
+];
 
 /// Both come to their first turn before either takes it, so they run at the same time. The
 /// scheduler decides how far one gets while the other waits for a processor. That both come to
@@ -140,21 +215,10 @@ fn near_peers_exchange_frames(rt: HostRuntime) -> Result<(), Fail> {
 #[test]
 fn peers_run_beside_one_another(rt: HostRuntime) -> Result<(), Fail> {
     let alloc = rt.alloc();
-    for (head, frames, turns) in [
-        (HONEST, [1000, 1000], 1_500_000),
-        (HONEST, [40, 0], 100_000),
-        (WITH_EVENTS, [1000, 1000], 1_500_000),
-        (IN_BYTES, [1000, 1000], 1_500_000),
-    ] {
+    for (head, frames, turns) in MEETINGS {
         let scenario = automatic(alloc, head, frames, turns)?;
-        let gate = Meeting::new();
-        let told = run(&rt, alloc, scenario.as_str(), &gate)?;
-        assert!(rt; gate.was_passed());
-        assert_eq!(rt; told.status, Status::Done);
-        assert_eq!(rt; told.count(b"refuse "), 0);
-        let gate = NearAssembly::new(2, 64);
-        let told = run(&rt, alloc, scenario.as_str(), &gate)?;
-        assert!(rt; gate.assembly.was_passed() && !gate.near.is_spent());
+        check_meeting(&rt, alloc, &scenario)?;
+        let told = run_near_assembly(&rt, alloc, &scenario, 2)?;
         check_delivered(&rt, &told, frames);
     }
     Ok(())
@@ -163,13 +227,14 @@ fn peers_run_beside_one_another(rt: HostRuntime) -> Result<(), Fail> {
 // claim ivshm_cli.ivshm.running
 #[test]
 fn lockstep_through_a_session(rt: HostRuntime) -> Result<(), Fail> {
-    let alloc = rt.alloc();
-    let scenario = automatic(alloc, HONEST, [5, 5], 100_000)?;
-    let gate = Near::new(0);
-    let told = run(&rt, alloc, scenario.as_str(), &gate)?;
-    assert!(rt; !gate.is_spent());
-    check_delivered(&rt, &told, [5, 5]);
-    Ok(())
+    check_near(&rt, rt.alloc(), (HONEST, [5, 5], 100_000), 0)
+}
+
+/// Whether the gate was called once at the end of the peer, and the peer's line has the number of
+/// its turns.
+fn is_counted(alloc: Global, gate: &Counter, told: &Told, peer: u32) -> Result<bool, Fail> {
+    let line = format!(in alloc; "turns {}", gate.turns.of(peer))?;
+    Ok(gate.ends.of(peer) == 1 && told.count(line.as_bytes()) > 0)
 }
 
 #[test]
@@ -177,15 +242,11 @@ fn a_gate_is_called_before_each_turn(rt: HostRuntime) -> Result<(), Fail> {
     let alloc = rt.alloc();
     let scenario = automatic(alloc, HONEST, [3, 0], 100_000)?;
     let gate = Counter::new();
-    let told = run(&rt, alloc, scenario.as_str(), &gate)?;
-    assert!(rt; !gate.near.is_spent());
+    let told = run(&rt, alloc, &scenario, &gate)?;
     check_delivered(&rt, &told, [3, 0]);
-    assert_eq!(rt; gate.faults.load(Ordering::SeqCst), 0);
-    for peer in 0..2 {
-        assert_eq!(rt; gate.ends.of(peer), 1);
-        let line = format!(in alloc; "turns {}", gate.turns.of(peer))?;
-        assert!(rt; told.count(line.as_bytes()) > 0);
-    }
+    assert!(rt; !gate.near.is_spent() && gate.faults.load(Ordering::SeqCst) == 0);
+    assert!(rt; is_counted(alloc, &gate, &told, 0)?);
+    assert!(rt; is_counted(alloc, &gate, &told, 1)?);
     Ok(())
 }
 
@@ -196,31 +257,61 @@ fn restarting(alloc: Global) -> Result<String, AllocError> {
     for _ in 0..40 {
         write!(text, "offer 0 {FRAME}\n")?;
     }
-    write!(text, "turn 0 6000\nturn 1 400000\nreset 0\nturn 0 400000\n")?;
+    text.push_str("turn 0 6000\nturn 1 400000\nreset 0\nturn 0 400000\nend\n")?;
     Ok(text)
+}
+
+/// The lines of sessions and resets of this run.
+const ANEW: &[u8] =
+    b"session 0 1 1\nx 0\nsession 0 2 2\nspent\nsession 1 1 1\nsession 1 2 2\nspent\n";
+
+/// Whether the record is one of a run, and has these lines of sessions.
+fn has_sessions(alloc: Global, told: &Told, wanted: &[u8]) -> Result<bool, Fail> {
+    let found = told.sessions(alloc)?;
+    Ok(told.text.starts_with(b"run 2\n") && found.as_slice() == wanted)
 }
 
 // claim peer_runner.drive
 #[test]
 fn a_reset_peer_opens_a_session_anew(rt: HostRuntime) -> Result<(), Fail> {
     let alloc = rt.alloc();
-    let scenario = format!(in alloc; "{}end\n", restarting(alloc)?.as_str())?;
+    let scenario = restarting(alloc)?;
     let gate = Near::new(64);
-    let told = run(&rt, alloc, scenario.as_str(), &gate)?;
+    let told = run(&rt, alloc, &scenario, &gate)?;
     assert!(rt; !gate.is_spent());
-    assert_eq!(rt; told.status, Status::Done);
-    assert!(rt; told.text.starts_with(b"run 2\n"));
-    let order: &[u8] =
-        b"session 0 1 1\nx 0\nsession 0 2 2\nspent\nsession 1 1 1\nsession 1 2 2\nspent\n";
-    assert!(rt; told.sessions(alloc)?.as_slice() == order);
-    assert_eq!(rt; told.count(b"refuse "), 0);
-    assert_eq!(rt; told.lines(b"turns 406001"), 1);
+    assert!(rt; has_sessions(alloc, &told, ANEW)?);
+    check_counts(&rt, &told, &[("refuse ", 0)]);
+    assert!(rt; told.lines(b"turns 406001") == 1);
     Ok(())
 }
 
 /// Returns the number in a field of a line, counted from 0.
 fn number(line: &[u8], field: usize) -> Option<u64> {
     line_format::number(line.split(|byte| *byte == b' ').nth(field)?)
+}
+
+/// Whether the line writes a word of the peer's own section, if it is a write.
+fn is_own(line: &[u8]) -> bool {
+    if line.starts_with(b"w 0 ") {
+        return number(line, 2).is_some_and(|word| (1024..5120).contains(&word));
+    }
+    if line.starts_with(b"w 1 ") {
+        return number(line, 2).is_some_and(|word| (5120..9216).contains(&word));
+    }
+    true
+}
+
+/// Whether each peer of the run writes its own section alone, and the last part is that of the
+/// storm.
+fn is_storm(told: &Told) -> Result<bool, Fail> {
+    let is_last = str::from_utf8(&told.text)?.contains("turns 20000\nspent\nend ");
+    Ok(
+        is_last
+            && told
+                .text
+                .split(|byte| *byte == b'\n')
+                .all(|line| is_own(line)),
+    )
 }
 
 // claim ivshm_cli.ivshm.running
@@ -231,62 +322,45 @@ fn a_storm_beside_an_honest_peer(rt: HostRuntime) -> Result<(), Fail> {
     let scenario = format!(in alloc;
         "{HOSTILE}auto 0 0\noffer 0 {FRAME}\noffer 0 {FRAME}\noffer 0 {FRAME}\nstorm 1 7\nturn 0 20000\nturn 1 20000\nend\n"
     )?;
-    let told = run(&rt, alloc, scenario.as_str(), &OpenGate)?;
-    assert_eq!(rt; told.status, Status::Done);
-    assert!(rt; told.ran.is_some());
+    let told = run(&rt, alloc, &scenario, &OpenGate)?;
+    assert!(rt; told.status == Status::Done && told.has_ran);
     assert!(rt; told.count(b"w 1 ") > 0);
-    // the last part is that of the storm
-    assert!(rt; str::from_utf8(&told.text)?.contains("turns 20000\nspent\nend "));
-    for line in told.text.split(|byte| *byte == b'\n') {
-        if line.starts_with(b"w 0 ") {
-            assert!(rt; number(line, 2).is_some_and(|word| (1024..5120).contains(&word)));
-        }
-        if line.starts_with(b"w 1 ") {
-            assert!(rt; number(line, 2).is_some_and(|word| (5120..9216).contains(&word)));
-        }
-    }
+    assert!(rt; is_storm(&told)?);
     Ok(())
 }
+
+/// The acts of the peers of the link: five frames each way.
+const FIVE_EACH_WAY: &str =
+    "auto 0 5\nauto 1 5\noffer 0 ffffffffffff0200000000010800\noffer 1 ffffffffffff0200000000010800\noffer 0 ffffffffffff0200000000010800\noffer 1 ffffffffffff0200000000010800\noffer 0 ffffffffffff0200000000010800\noffer 1 ffffffffffff0200000000010800\noffer 0 ffffffffffff0200000000010800\noffer 1 ffffffffffff0200000000010800\noffer 0 ffffffffffff0200000000010800\noffer 1 ffffffffffff0200000000010800\n";
+
+/// The six storms, and the turns of all.
+const SIX_STORMS: &str =
+    "storm 2 9\nstorm 3 9\nstorm 4 9\nstorm 5 9\nstorm 6 9\nstorm 7 9\nturn 0 900000\nturn 1 900000\nturn 2 1000\nturn 3 1000\nturn 4 1000\nturn 5 1000\nturn 6 1000\nturn 7 1000\nend\n";
 
 /// Returns a scenario of two peers of the link, with five frames each way, and six storms of 1,000
 /// turns. `acts` come first.
 fn eight(alloc: Global, wiring: &str, acts: &str) -> Result<String, AllocError> {
-    let mut text = format!(in alloc;
-        "ivshm 1\npeers 8\ntable 4096\ncommon 0\nout 16384\nmtu 256\nirq {wiring}\npeer 0 honest\npeer 1 honest\n"
-    )?;
-    for peer in 2..8 {
-        write!(text, "peer {peer} hostile\n")?;
-    }
-    write!(text, "begin\n{acts}auto 0 5\nauto 1 5\n")?;
-    for _ in 0..5 {
-        write!(text, "offer 0 {FRAME}\noffer 1 {FRAME}\n")?;
-    }
-    for peer in 2..8 {
-        write!(text, "storm {peer} 9\n")?;
-    }
-    write!(text, "turn 0 900000\nturn 1 900000\n")?;
-    for peer in 2..8 {
-        write!(text, "turn {peer} 1000\n")?;
-    }
-    write!(text, "end\n")?;
-    Ok(text)
+    format!(in alloc;
+        "ivshm 1\npeers 8\ntable 4096\ncommon 0\nout 16384\nmtu 256\nirq {wiring}\npeer 0 honest\npeer 1 honest\npeer 2 hostile\npeer 3 hostile\npeer 4 hostile\npeer 5 hostile\npeer 6 hostile\npeer 7 hostile\nbegin\n{acts}{FIVE_EACH_WAY}{SIX_STORMS}"
+    )
 }
 
 #[test]
 fn eight_peers_run_at_once(rt: HostRuntime) -> Result<(), Fail> {
     let alloc = rt.alloc();
     let scenario = eight(alloc, "msix 2", "")?;
-    let gate = NearAssembly::new(8, 64);
-    let told = run(&rt, alloc, scenario.as_str(), &gate)?;
-    assert!(rt; gate.assembly.was_passed() && !gate.near.is_spent());
-    assert_eq!(rt; told.status, Status::Done);
-    assert_eq!(rt; told.lines(b"turns 1000"), 6);
-    assert_eq!(rt; told.lines(b"finished"), 2);
-    for start in ["accept 0 ", "accept 1 ", "deliver 0 ", "deliver 1 "] {
-        assert_eq!(rt; told.count(start.as_bytes()), 5, "{start}");
-    }
-    assert_eq!(rt; told.count(b"refuse "), 0);
-    assert_eq!(rt; told.count(b"i "), 0);
+    let told = run_near_assembly(&rt, alloc, &scenario, 8)?;
+    let rows = [
+        ("accept 0 ", 5),
+        ("accept 1 ", 5),
+        ("deliver 0 ", 5),
+        ("deliver 1 ", 5),
+        ("refuse ", 0),
+        ("i ", 0),
+    ];
+    check_counts(&rt, &told, &rows);
+    assert!(rt; told.lines(b"turns 1000") == 6);
+    assert!(rt; told.lines(b"finished") == 2);
     Ok(())
 }
 
@@ -294,11 +368,10 @@ fn eight_peers_run_at_once(rt: HostRuntime) -> Result<(), Fail> {
 fn a_peer_in_one_shot_mode_is_interrupted_once(rt: HostRuntime) -> Result<(), Fail> {
     let alloc = rt.alloc();
     let scenario = eight(alloc, "intx", "cfg 1 w 67 1 1\nmmio 1 w 8 1\n")?;
-    let told = run(&rt, alloc, scenario.as_str(), &OpenGate)?;
-    assert_eq!(rt; told.status, Status::Done);
-    assert_eq!(rt; told.lines(b"turns 1000"), 6);
-    assert_eq!(rt; told.count(b"refuse "), 0);
-    assert!(rt; told.count(b"i 1 0") <= 1);
-    assert_eq!(rt; told.count(b"i "), told.count(b"i 1 0"));
+    let told = run(&rt, alloc, &scenario, &OpenGate)?;
+    check_counts(&rt, &told, &[("refuse ", 0)]);
+    assert!(rt; told.lines(b"turns 1000") == 6);
+    let interrupts = told.count(b"i 1 0");
+    assert!(rt; interrupts <= 1 && told.count(b"i ") == interrupts);
     Ok(())
 }

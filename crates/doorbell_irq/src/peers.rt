@@ -91,6 +91,7 @@ pub fn register_read<E: MsixTable + Drop>(
 //    reset.refines, reset.count, disconnect.effect, disconnect.refines, disconnect.count,
 //    connect.refines, connect.count: A slice of peers' devices of any length answers each call as
 //    `Device` does: by the device's rules over all events before it. The number of peers stays.
+#[inline(always)]
 pub fn register_write<E: MsixTable + Drop>(
     registers: &mut [PeerDevice<E>],
     peers: u32,

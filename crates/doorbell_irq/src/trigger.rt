@@ -72,6 +72,7 @@ impl Trigger {
 }
 
 /// Triggers the first `peers` peers in ascending order, and returns the deliveries.
+#[inline(always)]
 pub(crate) fn deliver<E: MsixTable + Drop>(
     registers: &mut [PeerDevice<E>],
     peers: u32,

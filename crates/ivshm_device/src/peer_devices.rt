@@ -154,6 +154,7 @@ impl PeerDevices {
         peers::register_read(&self.registers[..], self.peers, self.wiring, peer, offset)
     }
 
+    #[inline(always)]
     pub(crate) fn register_write(&mut self, peer: u32, offset: u32, value: u32) -> Effect
         requires { peer < peer_count self.old }
         ensures effect { (w : Devices) (events : List Event) → Refines w events self.old → result ≡ effect_of w events (RegisterWritten peer offset value) }

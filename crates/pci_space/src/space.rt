@@ -1,7 +1,7 @@
 //! The bytes of a field table: reads and writes.
-ghost use Rattle.std.specs.Prelude.{◌≡◌, ℕ, ◌+◌, ◌<◌, ◌≤◌, ◌↔◌, length, slice_index, IfOk, IfErr, OnOk, IsOk, IsTrue};
-ghost use Rattle.pci_space.specs.Numbers.{number_from};
-ghost use Rattle.pci_space.specs.Fields.{reset_byte, mask_byte, merged, is_access, merged_byte, KeepsUnmasked};
+ghost use Rattle.std.specs.Prelude.{◌≡◌, ℕ, ◌+◌, ◌-◌, ◌<◌, ◌≤◌, ◌↔◌, length, slice_index, if◌then◌else◌, IfOk, IfErr, OnOk, IsOk, IsTrue};
+ghost use Rattle.pci_space.specs.Numbers.{number_byte, number_from};
+ghost use Rattle.pci_space.specs.Fields.{covers, reset_byte, mask_byte, merged, is_access, merged_byte, KeepsUnmasked};
 
 use crate::field::Field;
 use crate::number::{byte_of, number_in};
@@ -168,28 +168,29 @@ fn mask_at(rows: &[Field], k: usize) -> u8
     0
 }
 
-/// Returns byte `k` at reset.
-fn reset_at(rows: &[Field], k: usize) -> u8
-    requires { k < 65536 }
-    ensures { result ≡ reset_byte rows.now k }
+/// Writes the reset value of a field to its bytes.
+fn write_reset(bytes: &mut [u8], row: &Field)
+    ensures long { length bytes.new ≡ length bytes.old }
+    ensures bytes { (k : ℕ) → k < length bytes.old →
+        slice_index bytes.new k ≡ (if covers row.now k then number_byte row.now.reset (k - row.now.place) else slice_index bytes.old k) }
 {
-    for row in rows {
-        if row.has_byte(k) {
-            return byte_of(row.reset, k - usize::from(row.place));
-        }
+    let place = usize::from(row.place);
+    let end = (place + usize::from(row.width)).min(bytes.len());
+    for k in place..end {
+        bytes[k] = byte_of(row.reset, k - place);
     }
-    0
 }
 
-/// Returns all bytes at reset.
+/// Returns all bytes at reset. The last row is written first: `reset_byte` has the first row with a
+/// byte.
 fn bytes_at_reset<const B: usize>(rows: &[Field]) -> [u8; B]
     requires { B < 65536 }
     ensures long { length result ≡ B }
     ensures bytes { (k : ℕ) → k < B → slice_index result k ≡ reset_byte rows.now k }
 {
     let mut bytes = [0; B];
-    for k in 0..B {
-        bytes[k] = reset_at(rows, k);
+    for n in 0..rows.len() {
+        write_reset(&mut bytes, &rows[rows.len() - 1 - n]);
     }
     bytes
 }

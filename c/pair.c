@@ -5,13 +5,13 @@
  * Each end sends FRAMES frames of SIZE bytes, and compares each frame that it takes with the one
  * that the other sent at that place. An end has exit number 1 if it lost, changed or refused
  * anything, or if the library's counts differ from the link's. With --record the record of both
- * ends is written to FILE: see record.h. With BURST an end measures: it polls after that many
- * offers, in place of 16. Its frames are made beforehand, and the comparison is short: frames.h. */
+ * ends is written to FILE: see record.h. With BURST an end measures, on a processor of its own: it
+ * polls after that many offers, in place of 16. Its frames are made beforehand, and the comparison
+ * is short: frames.h. */
 #include "region.h" /* first: it asks for POSIX */
 
 #include "frames.h"
-
-#include <sched.h>
+#include "processor.h"
 
 struct side {
     struct region region;
@@ -96,7 +96,10 @@ static int report(const struct side *s, double seconds) {
 /* One end. With `burst` above 0 it measures. */
 static int one(const char *path, uint32_t me, char **sizes, uint64_t burst) {
     static struct side s;
-    if (burst > 0) keep_frames(&s.kept, strtoull(sizes[3], NULL, 10));
+    if (burst > 0) {
+        take_processor(me);
+        keep_frames(&s.kept, strtoull(sizes[3], NULL, 10));
+    }
     begin(&s, path, me, sizes, NULL);
     double started = now();
     while (!is_running(&s.region) && now() - started < 20) {

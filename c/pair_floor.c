@@ -5,8 +5,8 @@
 #include "plain_rings.h"
 
 #include "frames.h"
+#include "processor.h"
 
-#include <sched.h>
 #include <sys/wait.h>
 
 static struct kept_frames kept;
@@ -17,6 +17,7 @@ static int is_right(const struct side *s, const uint8_t *frame, size_t length) {
 /* Sends and takes all frames of this peer, and returns the seconds that it took. */
 static double run(uint32_t me, uint64_t frames, uint64_t burst) {
     struct side *s = &sides[me];
+    take_processor(me);
     uint64_t sent = 0, idle = 0;
     double start = now();
     while (sent < frames || s->delivered < frames) {

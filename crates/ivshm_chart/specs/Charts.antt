@@ -14,7 +14,7 @@ use Rattle.ivshm_chart.specs.declared.replies.Drawn.{Drawn}
 use Rattle.program_edge.specs.declared.limits.TheConstants.{RECORD_LIMIT}
 use Rattle.program_edge.specs.declared.exit.Status.{Status}
 use Rattle.program_edge.specs.declared.exit.Status.TheVariants.{Done, Differs, Usage, Refused, ReadFault, WriteFault, NoMemory}
-use Rattle.ivshm_chart.specs.Refusals.{line_of}
+use Rattle.program_edge.specs.Refusals.{refusal_line_of, of_record}
 
 abbrev pub usage_line : List ℕ
 usage_line = codes "usage: ivshm_chart [--text] [FROM TO]\n"
@@ -36,7 +36,7 @@ Draws span bytes (Some drawn) =
 
 -- The bytes spell no record, and the text is the line that says why.
 abbrev pub IsRefusal : List ℕ → (text : List ℕ) → Type 0
-IsRefusal bytes text = (fault : RecordFault) × (answer bytes ≡ Err fault) × (text ≡ line_of fault)
+IsRefusal bytes text = (fault : RecordFault) × (answer bytes ≡ Err fault) × (text ≡ refusal_line_of (of_record fault))
 
 -- The reply to the input: its status, its text and its picture.
 abbrev pub IsReply : Span → List ℕ → Status → (text : List ℕ) → Option Drawn → Type 0

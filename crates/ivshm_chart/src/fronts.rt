@@ -4,7 +4,7 @@ ghost use Rattle.scenario_text.specs.Scenario.{World};
 ghost use Rattle.record_text.specs.Judge.{answer};
 ghost use Rattle.record_text.specs.Answers.{Refuses};
 ghost use Rattle.record_text.specs.Readers.{IsReading};
-ghost use Rattle.ivshm_chart.specs.Fronts.{IsFront, IsFrontOf};
+ghost use Rattle.ivshm_chart.specs.Fronts.{AtEachReading, IsFront, IsFrontOf};
 
 use lawful_history::{Line, Lines};
 use record_text::{Reader, RecordFault, Trace};
@@ -38,8 +38,10 @@ fn keep(lines: &mut Lines, line: Line, most: u64) -> Result<(), RecordFault>
 
 /// Reads the rest of the lines: keeps the first ones, at most `most`, and counts the others.
 fn read_lines(alloc: Global, reader: &mut Reader, most: u64) -> Result<(Lines, u64), RecordFault>
-    ensures read { (bytes : List ℕ) (version : ℕ) (world : World) → IsReading bytes version world [] reader.old → IfOk result (λ p. IsFront bytes version world p.0 p.1) }
-    ensures refused { (bytes : List ℕ) (version : ℕ) (world : World) → IsReading bytes version world [] reader.old → IfErr result (λ fault. Refuses fault (answer bytes)) }
+    ensures read { AtEachReading reader.old (λ bytes version world.
+        IfOk result (λ p. IsFront bytes version world p.0 p.1)) }
+    ensures refused { AtEachReading reader.old (λ bytes _ _.
+        IfErr result (λ fault. Refuses fault (answer bytes))) }
 {
     let mut lines = Lines::new(alloc);
     while let Some(line) = reader.next(alloc)? {

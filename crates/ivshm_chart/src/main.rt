@@ -7,7 +7,6 @@
 
 mod fronts;
 mod program;
-mod refusals;
 mod replies;
 #[cfg(test)]
 mod tests;

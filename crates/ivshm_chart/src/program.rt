@@ -1,8 +1,9 @@
 //! The top call.
-ghost use Rattle.std.specs.Prelude.{◌≡◌, ◌⊎◌, None, IfOk, IsErrOf, map};
+ghost use Rattle.std.specs.Prelude.{◌≡◌, None, IfOk, IsErrOf, map};
 ghost use Rattle.std.specs.String.{string_bytes};
 ghost use Rattle.ivshm_chart.specs.Forms.{form_of};
 ghost use Rattle.ivshm_chart.specs.Charts.{HasCause};
+ghost use Rattle.program_edge.specs.Exit.{IsUsage};
 
 use crate::replies::{Drawn, Reply, reply_to};
 use crate::words::read_form;
@@ -20,8 +21,8 @@ const USAGE: &[u8] = b"usage: ivshm_chart [--text] [FROM TO]\n";
 /// `drawn` is `None` before the call. After the call it holds the picture and the line that it
 /// marks, if the text that was due is a picture.
 // claim cause: If the chart is done, the source was read to its end, its bytes spell a record, and
-//    a picture of the lines asked for was written. The line that it marks is that of the verdict of
-//    `ivshm replay`. A text that spells no record is refused by the line of its first fault.
+//    a picture of the lines asked for was written. It marks the line of the verdict of `ivshm
+//    replay`. Another text is refused by its first fault's line.
 // claim unread, usage: The words are none, or FROM and TO with 1 ≤ FROM ≤ TO, after `--text` or
 //    without it. Words that are no form read nothing.
 pub fn chart<S: Source, K: Sink>(
@@ -35,7 +36,7 @@ pub fn chart<S: Source, K: Sink>(
     ensures cause { HasCause result (form_of (map string_bytes words.now)) (S.input source.old) (S.input source.new)
         (K.output sink.old) (K.output sink.new) drawn.new }
     // For words that the program doesn't know nothing is read, and NoMemory is never the answer.
-    ensures usage { form_of (map string_bytes words.now) ≡ None → (result ≡ Status.Usage) ⊎ (result ≡ Status.WriteFault) }
+    ensures usage { form_of (map string_bytes words.now) ≡ None → IsUsage result }
     ensures unread { form_of (map string_bytes words.now) ≡ None → source.new ≡ source.old }
 {
     let Some(form) = read_form(words) else {
@@ -71,11 +72,12 @@ pub fn status_of_words<S: Source, K: Sink>(
     drawn: &mut Option<Drawn>,
 ) -> Status
     requires { drawn.old ≡ None }
-    ensures words { IfOk words (λ w. HasCause result (form_of (map string_bytes w.items)) (S.input source.old) (S.input source.new)
-        (K.output sink.old) (K.output sink.new) drawn.new) }
+    ensures words { IfOk words (λ w. HasCause result (form_of (map string_bytes w.items))
+        (S.input source.old) (S.input source.new) (K.output sink.old) (K.output sink.new) drawn.new) }
     ensures not_text { IsErrOf words WordsFault.NotText → HasCause result None (S.input source.old) (S.input source.new)
         (K.output sink.old) (K.output sink.new) drawn.new }
-    ensures no_memory { IsErrOf words WordsFault.NoMemory → (result ≡ Status.NoMemory) × (source.new ≡ source.old) × (sink.new ≡ sink.old) }
+    ensures no_memory { IsErrOf words WordsFault.NoMemory →
+        (result ≡ Status.NoMemory) × (source.new ≡ source.old) × (sink.new ≡ sink.old) }
 {
     match words {
         Ok(words) => chart(alloc, words.as_slice(), source, sink, drawn),

@@ -1,13 +1,12 @@
 //! The reply to the input: a picture, or a refusal.
 ghost use Rattle.std.specs.Prelude.{◌≡◌, ◌≤◌, None, IfOk};
-ghost use Rattle.ivshm_chart.specs.Refusals.{line_of};
+ghost use Rattle.program_edge.specs.Refusals.{refusal_line_of, of_record};
 ghost use Rattle.ivshm_chart.specs.Charts.{differing, IsMark, IsReply};
 
 use crate::fronts::{Front, front_of};
-use crate::refusals::refusal_line;
 use crate::words::{Form, Kind};
 use ivs_base::NoMemory;
-use program_edge::Status;
+use program_edge::{Refusal, Status, refusal_line};
 use record_chart::{Picture, draw, draw_text, picture_of, picture_of_front};
 use record_text::{RecordFault, Trace, parse};
 use std::alloc::Global;
@@ -31,9 +30,11 @@ pub struct Reply {
 
 /// Returns the reply to a text that is refused.
 fn reply_to_fault(alloc: Global, fault: RecordFault) -> Result<Reply, NoMemory>
-    ensures { IfOk result (λ reply. (reply.status ≡ Status.Refused) × (reply.text.items ≡ line_of fault) × (reply.drawn ≡ None)) }
+    ensures status { IfOk result (λ reply. reply.status ≡ Status.Refused) }
+    ensures text { IfOk result (λ reply. reply.text.items ≡ refusal_line_of (of_record fault)) }
+    ensures drawn { IfOk result (λ reply. reply.drawn ≡ None) }
 {
-    let text = refusal_line(alloc, fault)?;
+    let text = refusal_line(alloc, Refusal::of_record(fault))?;
     Ok(Reply {
         status: Status::Refused,
         text,

@@ -2,7 +2,7 @@
 use Rattle.std.proofs.Common.{◌≡◌, ◌<◌, ◌⊎◌, ℕ, List, [], length, take, refl, sym, subst, inl, inr}
 use Rattle.std.specs.Prelude.{Option, Some, None, Result, Ok, IfOk, true, IsTrue, IsSome}
 use Rattle.ivs_base.specs.SourceAndSink.{Input, Output, Took, SourceFailed, SinkFailed, LastReadFailed, LastWriteFailed}
-use Rattle.ivshm_cli.specs.declared.words.Command.{Command}
+use Rattle.program_edge.specs.declared.words.Command.{Command}
 use Rattle.ivshm_cli.specs.declared.refusals.Fault.{Fault}
 use Rattle.program_edge.specs.declared.exit.Status.{Status}
 use Rattle.program_edge.specs.declared.exit.Status.TheVariants.{Done, Differs, Usage, Refused, ReadFault, WriteFault, NoMemory}

@@ -12,12 +12,13 @@ use Rattle.record_text.specs.Spelling.{Record, IsSpelling}
 use Rattle.record_text.proofs.BackLaws.{Reads, is_read}
 use Rattle.record_sizes.specs.Sizes.{RecordsAreWithinLimit}
 use Rattle.trace_replay.specs.declared.verdict.Verdict.TheVariants.{Same}
-use Rattle.ivshm_cli.specs.declared.words.Command.TheVariants.{Sim, Replay}
+use Rattle.program_edge.specs.declared.words.Command.TheVariants.{Sim, Replay}
 use Rattle.ivshm_cli.specs.declared.refusals.Fault.TheVariants.{TooLong}
 use Rattle.program_edge.specs.declared.exit.Status.{Status}
 use Rattle.program_edge.specs.declared.exit.Status.TheVariants.{Done, Differs}
 use Rattle.ivshm_cli.specs.Replay.{verdict_line, SpellsLawful}
-use Rattle.ivshm_cli.specs.Forms.{limit_of, passes, IsTextVerdict, Replies}
+use Rattle.ivshm_cli.specs.Forms.{passes, IsTextVerdict, Replies}
+use Rattle.program_edge.specs.Words.{limit_of}
 use Rattle.ivshm_cli.specs.Due.{Follows}
 use Rattle.ivshm_cli.specs.Whole.{WrittenRecordsReplayAsSame}
 use Rattle.ivshm_cli.proofs.Replaying.{not_both, unlawful_of, record_unrefused, unrefused}

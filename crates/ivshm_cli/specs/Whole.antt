@@ -25,7 +25,7 @@ use Rattle.history_laws.specs.Sessions.{log_of}
 use Rattle.history_laws.specs.Marks.{IsNumbered}
 use Rattle.history_laws.specs.Spelled.{SpellsNext}
 use Rattle.trace_replay.specs.declared.verdict.Verdict.TheVariants.{Same}
-use Rattle.ivshm_cli.specs.declared.words.Command.TheVariants.{Sim, Replay}
+use Rattle.program_edge.specs.declared.words.Command.TheVariants.{Sim, Replay}
 use Rattle.program_edge.specs.declared.exit.Status.{Status}
 use Rattle.program_edge.specs.declared.exit.Status.TheVariants.{Done}
 use Rattle.ivshm_cli.specs.Due.{IsDue}

@@ -7,9 +7,9 @@ ghost use Rattle.scenario_text.specs.Spelling.{world_of};
 ghost use Rattle.lawful_history.specs.Lawful.{IsLawfulIn};
 ghost use Rattle.frame_capture.specs.CaptureFile.{IsCaptureFile};
 ghost use Rattle.frame_capture.specs.Deliveries.{capture_of};
-ghost use Rattle.ivshm_cli.specs.Forms.{IsTextVerdict};
+ghost use Rattle.ivshm_cli.specs.Forms.{IsTextVerdict, RefusesBy};
 ghost use Rattle.ivshm_cli.specs.Capture.{file_of, IsFeedOf};
-ghost use Rattle.ivshm_cli.specs.declared.words.Command.{Command};
+ghost use Rattle.program_edge.specs.declared.words.Command.{Command};
 ghost use Rattle.ivshm_cli.specs.declared.refusals.Fault.{Fault};
 
 use crate::refusals::Fault;
@@ -38,7 +38,7 @@ pub(crate) fn capture_file(alloc: Global, peer: u32, trace: &Trace) -> Result<Ve
 /// Returns the capture that the capture file `bytes` holds.
 fn capture_in(alloc: Global, bytes: &[u8]) -> Result<Capture, NoReply>
     ensures file { IfOk result (λ capture. IsCaptureFile capture bytes.now) }
-    ensures refused { (peer : ℕ) → (fault : Fault) → IsErrOf result (NoReply.Refused fault) → IsTextVerdict (Command.Feed peer) bytes.now (Some fault) }
+    ensures refused { (peer : ℕ) → RefusesBy (Command.Feed peer) bytes.now result }
 {
     match parse(alloc, bytes) {
         Ok(capture) => Ok(capture),
@@ -53,7 +53,7 @@ pub(crate) fn fed(alloc: Global, peer: u32, bytes: &[u8]) -> Result<Vec<u8>, NoR
     requires { peer < 2 }
     ensures accepted { OnOk result (IsTextVerdict (Command.Feed peer) bytes.now None) }
     ensures text { IfOk result (λ text. IsFeedOf peer bytes.now text.items) }
-    ensures refused { (fault : Fault) → IsErrOf result (NoReply.Refused fault) → IsTextVerdict (Command.Feed peer) bytes.now (Some fault) }
+    ensures refused { RefusesBy (Command.Feed peer) bytes.now result }
 {
     let capture = capture_in(alloc, bytes)?;
     match scenario_of(alloc, &capture, peer) {

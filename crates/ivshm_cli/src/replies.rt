@@ -2,7 +2,8 @@
 
 ghost use Rattle.std.specs.Prelude.{◌≡◌, ◌≢◌, ◌^◌, ◌<◌, ◌≤◌, ℕ, List, true, false, Option, Some, None, Ok, IsSome, IsTrue, IfOk, OnOk, IsErrOf, length};
 ghost use Rattle.ivs_base.specs.SourceAndSink.{SourceFailed, LastReadFailed};
-ghost use Rattle.ivshm_cli.specs.Forms.{limit_of, passes, scenario_fault, IsInRange, IsTextVerdict, Replies, IsLeft};
+ghost use Rattle.ivshm_cli.specs.Forms.{passes, scenario_fault, IsTextVerdict, RefusesBy, Replies, IsLeft};
+ghost use Rattle.program_edge.specs.Words.{limit_of, IsInRange};
 ghost use Rattle.program_edge.specs.declared.limits.TheConstants.{MOST_FRAMES};
 ghost use Rattle.program_edge.specs.Exit.{has_reply};
 ghost use Rattle.ivshm_cli.specs.Due.{IsDue, HasRead};
@@ -21,18 +22,17 @@ ghost use Rattle.ivshm_cli.specs.declared.replies.NoReply.TheVariants.{NoMemory 
 
 use crate::captures::{capture_file, fed};
 use crate::configuration::configuration;
-use crate::refusals::{Fault, refusal_line};
+use crate::refusals::Fault;
 use crate::runs::{Ran, RunReply, run};
 use crate::summary::{Counts, summary};
 use crate::verdicts::{difference_text, verdict_text};
-use crate::words::{Command, limit};
 use bridge_text::{BridgeFault, spelled_is_read};
 use frame_bridge::bridge;
 use ivs_base::{NoMemory, ReadEnd, Source, read_all};
 use lawful_history::{one_history, records_tell_one_history};
 use peer_runner::Gate;
 use port_text::{PortsFault, printed_is_read_again};
-use program_edge::Status;
+use program_edge::{Command, Status, limit};
 use record_text::{RecordFault, Trace, parse as parse_record};
 use sampling_port::ports;
 use scenario_text::{Scenario, ScenarioFault, load, parse};
@@ -89,7 +89,8 @@ pub(crate) fn read_for<S: Source>(
     ensures small { IfOk result (λ v. length v.items < 2 ^ 63) }
     ensures too_long { IsErrOf result ReadEnd.TooLong → ((bytes : List ℕ)
         × HasRead (limit_of form) (S.input source.old) (S.input source.new) bytes × (passes (limit_of form) bytes ≡ true)) }
-    ensures fault { IsErrOf result ReadEnd.ReadFault → IsSome (limit_of form) × SourceFailed (S.input source.old) (S.input source.new) }
+    ensures fault { IsErrOf result ReadEnd.ReadFault →
+        IsSome (limit_of form) × SourceFailed (S.input source.old) (S.input source.new) }
     ensures last { IsErrOf result ReadEnd.ReadFault → LastReadFailed (S.input source.old) (S.input source.new) }
     ensures sound { IsTrue (S.input source.old).never_fails → result ≢ Err ReadEnd.ReadFault }
     ensures quiet { result ≢ Err ReadEnd.ReadFault → (S.input source.new).faults ≡ (S.input source.old).faults }
@@ -120,7 +121,7 @@ pub(crate) fn scenario_in(alloc: Global, bytes: &[u8]) -> Result<Scenario, NoRep
 fn simulated(alloc: Global, bytes: &[u8]) -> Result<Vec<u8>, NoReply>
     ensures accepted { OnOk result (IsTextVerdict Command.Sim bytes.now None) }
     ensures record { IfOk result (λ text. IsRecordOf bytes.now text.items) }
-    ensures refused { (fault : Fault) → IsErrOf result (NoReply.Refused fault) → IsTextVerdict Command.Sim bytes.now (Some fault) }
+    ensures refused { RefusesBy Command.Sim bytes.now result }
 {
     let scenario = scenario_in(alloc, bytes)?;
     Ok(simulate_text(alloc, &scenario)?)
@@ -131,7 +132,7 @@ fn record_in(alloc: Global, bytes: &[u8]) -> Result<Trace, NoReply>
     ensures accepted { OnOk result (IsTextVerdict Command.Replay bytes.now None) }
     ensures spelled { IfOk result (λ trace. Spells bytes.now (world_of trace.scenario) trace.version trace.lines) }
     ensures few { IfOk result (λ trace. length trace.lines ≤ length bytes.now) }
-    ensures refused { (fault : Fault) → IsErrOf result (NoReply.Refused fault) → IsTextVerdict Command.Replay bytes.now (Some fault) }
+    ensures refused { RefusesBy Command.Replay bytes.now result }
 {
     match parse_record(alloc, bytes) {
         Ok(trace) => Ok(trace),
@@ -156,7 +157,7 @@ fn replayed(alloc: Global, bytes: &[u8]) -> Result<Reply, NoReply>
     ensures accepted { OnOk result (IsTextVerdict Command.Replay bytes.now None) }
     ensures verdict { IfOk result (λ r. Replies Command.Replay bytes.now r.status r.text.items) }
     ensures left { IfOk result (λ r. r.ran ≡ None) }
-    ensures refused { (fault : Fault) → IsErrOf result (NoReply.Refused fault) → IsTextVerdict Command.Replay bytes.now (Some fault) }
+    ensures refused { RefusesBy Command.Replay bytes.now result }
 {
     let verdict = match replay_text(alloc, bytes) {
         Ok(verdict) => verdict,
@@ -177,7 +178,7 @@ fn renewed(alloc: Global, bytes: &[u8]) -> Result<Reply, NoReply>
     ensures accepted { OnOk result (IsTextVerdict Command.Renew bytes.now None) }
     ensures verdict { IfOk result (λ r. Replies Command.Renew bytes.now r.status r.text.items) }
     ensures left { IfOk result (λ r. r.ran ≡ None) }
-    ensures refused { (fault : Fault) → IsErrOf result (NoReply.Refused fault) → IsTextVerdict Command.Renew bytes.now (Some fault) }
+    ensures refused { RefusesBy Command.Renew bytes.now result }
 {
     one_history();
     let trace = record_in(alloc, bytes)?;
@@ -195,7 +196,7 @@ fn captured(alloc: Global, peer: u32, bytes: &[u8]) -> Result<Reply, NoReply>
     ensures accepted { OnOk result (IsTextVerdict (Command.Capture peer) bytes.now None) }
     ensures verdict { IfOk result (λ r. Replies (Command.Capture peer) bytes.now r.status r.text.items) }
     ensures left { IfOk result (λ r. r.ran ≡ None) }
-    ensures refused { (fault : Fault) → IsErrOf result (NoReply.Refused fault) → IsTextVerdict (Command.Capture peer) bytes.now (Some fault) }
+    ensures refused { RefusesBy (Command.Capture peer) bytes.now result }
 {
     let trace = record_in(alloc, bytes)?;
     match replay(alloc, &trace)? {
@@ -208,7 +209,7 @@ fn captured(alloc: Global, peer: u32, bytes: &[u8]) -> Result<Reply, NoReply>
 fn listed(alloc: Global, bytes: &[u8]) -> Result<Vec<u8>, NoReply>
     ensures accepted { OnOk result (IsTextVerdict Command.Dump bytes.now None) }
     ensures listing { IfOk result (λ text. IsListing bytes.now text.items) }
-    ensures refused { (fault : Fault) → IsErrOf result (NoReply.Refused fault) → IsTextVerdict Command.Dump bytes.now (Some fault) }
+    ensures refused { RefusesBy Command.Dump bytes.now result }
 {
     match dump(alloc, bytes) {
         Ok(text) => Ok(text),
@@ -221,7 +222,7 @@ fn listed(alloc: Global, bytes: &[u8]) -> Result<Vec<u8>, NoReply>
 fn sampled(alloc: Global, bytes: &[u8]) -> Result<Vec<u8>, NoReply>
     ensures accepted { OnOk result (IsTextVerdict Command.Ports bytes.now None) }
     ensures record { IfOk result (λ text. IsPortRecord bytes.now text.items) }
-    ensures refused { (fault : Fault) → IsErrOf result (NoReply.Refused fault) → IsTextVerdict Command.Ports bytes.now (Some fault) }
+    ensures refused { RefusesBy Command.Ports bytes.now result }
 {
     printed_is_read_again();
     match ports(alloc, bytes) {
@@ -235,7 +236,7 @@ fn sampled(alloc: Global, bytes: &[u8]) -> Result<Vec<u8>, NoReply>
 fn bridged(alloc: Global, bytes: &[u8]) -> Result<Vec<u8>, NoReply>
     ensures accepted { OnOk result (IsTextVerdict Command.Bridge bytes.now None) }
     ensures output { IfOk result (λ text. IsBridged bytes.now text.items) }
-    ensures refused { (fault : Fault) → IsErrOf result (NoReply.Refused fault) → IsTextVerdict Command.Bridge bytes.now (Some fault) }
+    ensures refused { RefusesBy Command.Bridge bytes.now result }
 {
     spelled_is_read();
     match bridge(alloc, bytes) {
@@ -249,7 +250,7 @@ fn bridged(alloc: Global, bytes: &[u8]) -> Result<Vec<u8>, NoReply>
 fn configured(alloc: Global, peer: u32, bytes: &[u8]) -> Result<Vec<u8>, NoReply>
     ensures accepted { OnOk result (IsTextVerdict (Command.Config peer) bytes.now None) }
     ensures configuration { IfOk result (λ text. IsConfigurationOf bytes.now text.items) }
-    ensures refused { (fault : Fault) → IsErrOf result (NoReply.Refused fault) → IsTextVerdict (Command.Config peer) bytes.now (Some fault) }
+    ensures refused { RefusesBy (Command.Config peer) bytes.now result }
 {
     let scenario = scenario_in(alloc, bytes)?;
     if peer >= scenario.geometry.peers() {
@@ -321,7 +322,7 @@ fn reply_for<R: Threads + Sync, G: Gate + Sync>(
     ensures accepted { OnOk result (IsTextVerdict form bytes.now None) }
     ensures replies { IfOk result (λ r. Replies form bytes.now r.status r.text.items) }
     ensures left { IfOk result (λ r. IsLeft r.status (Some form) bytes.now r.text.items r.ran) }
-    ensures refused { (fault : Fault) → IsErrOf result (NoReply.Refused fault) → IsTextVerdict form bytes.now (Some fault) }
+    ensures refused { RefusesBy form bytes.now result }
 {
     match form {
         Command::Sim => Ok(done(simulated(alloc, bytes)?)),
@@ -357,7 +358,7 @@ pub(crate) fn reply_to<R: Threads + Sync, G: Gate + Sync>(
         Ok(reply) => Ok(reply),
         Err(NoReply::Refused(fault)) => Ok(Reply {
             status: Status::Refused,
-            text: refusal_line(alloc, fault)?,
+            text: fault.line(alloc)?,
             ran: None,
         }),
         Err(NoReply::NoMemory) => Err(NoMemory),

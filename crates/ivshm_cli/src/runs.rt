@@ -4,9 +4,9 @@ ghost use Rattle.std.specs.Prelude.{◌≡◌, ℕ, Option, Some, None, Ok, IfOk
 ghost use Rattle.scenario_text.specs.Scenario.{World};
 ghost use Rattle.scenario_text.specs.Spelling.{IsSpelling, world_of};
 ghost use Rattle.scenario_text.specs.Running.{not_running as first_break};
-ghost use Rattle.ivshm_cli.specs.Forms.{IsTextVerdict};
+ghost use Rattle.ivshm_cli.specs.Forms.{IsTextVerdict, RefusesBy};
 ghost use Rattle.ivshm_cli.specs.Running.{IsRunBy};
-ghost use Rattle.ivshm_cli.specs.declared.words.Command.{Command};
+ghost use Rattle.program_edge.specs.declared.words.Command.{Command};
 ghost use Rattle.ivshm_cli.specs.declared.refusals.Fault.{Fault};
 
 use crate::refusals::Fault;
@@ -39,7 +39,7 @@ fn running_in(alloc: Global, bytes: &[u8]) -> Result<Scenario, NoReply>
     ensures spelled { IfOk result (λ scenario. IsSpelling (world_of scenario) bytes.now) }
     ensures running { IfOk result (λ scenario. first_break (world_of scenario) ≡ None) }
     ensures accepted { OnOk result (IsTextVerdict Command.Run bytes.now None) }
-    ensures refused { (fault : Fault) → IsErrOf result (NoReply.Refused fault) → IsTextVerdict Command.Run bytes.now (Some fault) }
+    ensures refused { RefusesBy Command.Run bytes.now result }
 {
     let scenario = scenario_in(alloc, bytes)?;
     if let Some(line) = not_running(&scenario) {
@@ -58,7 +58,7 @@ pub(crate) fn run<R: Threads + Sync, G: Gate + Sync>(
 ) -> Result<RunReply, NoReply>
     ensures accepted { OnOk result (IsTextVerdict Command.Run bytes.now None) }
     ensures run { IfOk result (λ r. IsRunBy r.ran bytes.now r.text.items) }
-    ensures refused { (fault : Fault) → IsErrOf result (NoReply.Refused fault) → IsTextVerdict Command.Run bytes.now (Some fault) }
+    ensures refused { RefusesBy Command.Run bytes.now result }
 {
     let scenario = running_in(alloc, bytes)?;
     let (words, mut pass) = words_for(alloc, &scenario)?;

@@ -2,14 +2,14 @@
 use Rattle.std.proofs.Common.{◌≡◌, ℕ, List, inl, inr, refl, sym, subst}
 use Rattle.std.specs.Prelude.{Some, IsTrue, ◌⊎◌}
 use Rattle.ivs_base.specs.SourceAndSink.{Input, Output, Gave, Took, SinkFailed}
-use Rattle.ivshm_explain.specs.declared.forms.Form.{Form}
+use Rattle.program_edge.specs.declared.words.Command.{Command}
 use Rattle.program_edge.specs.declared.exit.Status.{Status}
 use Rattle.program_edge.specs.declared.exit.Status.TheVariants.{Done, Differs, Usage, Refused, ReadFault, WriteFault, NoMemory}
 use Rattle.program_edge.specs.Exit.{has_reply}
 use Rattle.ivshm_explain.specs.Explained.{IsReply, IsRead, Replies, HasCause}
 
--- The status of a reply is one with a text.
-pub written : (form : Form) (bytes text : List ℕ) (status : Status) → IsReply form bytes status text → IsTrue (has_reply status)
+-- the status of a reply is one with a text
+pub written : (form : Command) (bytes text : List ℕ) (status : Status) → IsReply form bytes status text → IsTrue (has_reply status)
 written form bytes text Done reply = refl
 written form bytes text Differs reply = refl
 written form bytes text Refused reply = refl
@@ -18,8 +18,8 @@ written form bytes text ReadFault reply = elim reply [ ]
 written form bytes text WriteFault reply = elim reply [ ]
 written form bytes text NoMemory reply = elim reply [ ]
 
-module _ (form : Form) (before now : Input) (before' now' : Output) (bytes text : List ℕ) (gave : Gave before bytes now) (ended : IsRead form before now) where
-  -- A reply that was written whole.
+module _ (form : Command) (before now : Input) (before' now' : Output) (bytes text : List ℕ) (gave : Gave before bytes now) (ended : IsRead form before now) where
+  -- a reply that was written whole
   whole : (status : Status) → IsReply form bytes status text → Took before' text now' → HasCause status (Some form) before now before' now'
   whole Done reply wrote = record { bytes = bytes; text = text; gave = gave; ended = ended; reply = reply; wrote = wrote }
   whole Differs reply wrote = record { bytes = bytes; text = text; gave = gave; ended = ended; reply = reply; wrote = wrote }

@@ -8,10 +8,10 @@ use Rattle.record_text.specs.Spelling.{Record, IsSpelling, record_of}
 use Rattle.record_text.specs.Judge.{answer}
 use Rattle.trace_replay.specs.Verdict.{IsDifference}
 use Rattle.ivshm_explain.specs.declared.differences.Difference.{Difference}
-use Rattle.ivshm_explain.specs.declared.refusals.Refusal.{Refusal}
+use Rattle.program_edge.specs.declared.refusals.Refusal.{Refusal}
 use Rattle.ivshm_explain.specs.declared.verdicts.Verdict.{Verdict}
 use Rattle.ivshm_explain.specs.declared.verdicts.Verdict.TheVariants.{Accepted, Refused, Differs}
-use Rattle.ivshm_explain.specs.Refusals.{of_record}
+use Rattle.program_edge.specs.Refusals.{of_record}
 
 -- The text is no record, and the refusal is that of its first fault.
 pub record IsRecordFault (bytes : List ℕ) (refusal : Refusal) : Type 0 where

@@ -3,17 +3,16 @@ use Rattle.std.specs.Prelude.{ℕ, ◌≡◌, ◌+◌, ◌⊎◌, ⊤, List, [],
 use Rattle.ivs_base.specs.SourceAndSink.{Input, Output, Gave, GaveMany, HasEnded, Took, SourceFailed, SinkFailed}
 use Rattle.ivshm_explain.specs.declared.differences.Difference.{Difference}
 use Rattle.ivshm_explain.specs.DifferenceText.{IsDifferenceText}
-use Rattle.ivshm_explain.specs.declared.forms.Form.{Form}
-use Rattle.ivshm_explain.specs.declared.forms.Form.TheVariants as forms
-use Rattle.ivshm_explain.specs.declared.refusals.Refusal.{Refusal}
-use Rattle.ivshm_explain.specs.declared.refusals.Place.TheVariants.{Whole}
-use Rattle.ivshm_explain.specs.declared.refusals.Reason.TheVariants.{TooLong}
+use Rattle.program_edge.specs.declared.words.Command.{Command}
+use Rattle.program_edge.specs.declared.refusals.Refusal.{Refusal}
+use Rattle.program_edge.specs.declared.refusals.Place.TheVariants.{Whole}
+use Rattle.program_edge.specs.declared.refusals.Reason.TheVariants.{TooLong}
 use Rattle.program_edge.specs.declared.exit.Status.{Status}
 use Rattle.program_edge.specs.declared.exit.Status.TheVariants.{Done, Differs, Usage, Refused, ReadFault, WriteFault, NoMemory}
 use Rattle.ivshm_explain.specs.declared.verdicts.Verdict.TheVariants as verdicts
-use Rattle.ivshm_explain.specs.Forms.{limit_of}
+use Rattle.program_edge.specs.Words.{limit_of}
 use Rattle.ivshm_explain.specs.Places.{place_of}
-use Rattle.ivshm_explain.specs.Refusals.{verdict_of}
+use Rattle.program_edge.specs.Refusals.{verdict_of}
 use Rattle.ivshm_explain.specs.Verdicts.{IsVerdict}
 
 abbrev pub usage_line : List ℕ
@@ -24,20 +23,28 @@ pub record IsExplained (bytes : List ℕ) (refusal : Refusal) (text : List ℕ) 
   pub words : List ℕ
   pub is : text ≡ verdict_of refusal ++ place_of bytes refusal.place ++ words
 
--- The reply to bytes that were read: its status and its text.
-abbrev pub IsReply : Form → List ℕ → Status → (text : List ℕ) → Type 0
+-- the reply to bytes that were read: its status and its text
+abbrev pub IsReply : Command → List ℕ → Status → (text : List ℕ) → Type 0
 IsReply form bytes Done text = IsVerdict form bytes verdicts.Accepted
 IsReply form bytes Refused text = (refusal : Refusal) × IsVerdict form bytes (verdicts.Refused refusal) × IsExplained bytes refusal text
 IsReply form bytes Differs text = (difference : Difference) × IsVerdict form bytes (verdicts.Differs difference) × IsDifferenceText difference text
 IsReply form bytes _ text = ⊥
 
--- The input was read to its end; `load` reads nothing.
-abbrev pub IsRead : Form → (before now : Input) → Type 0
-IsRead forms.Load before now = now ≡ before
-IsRead _ before now = HasEnded now
+-- the input was read to its end, or nothing of it where no limit is given
+abbrev pub IsReadTo : (limit : Option ℕ) → (before now : Input) → Type 0
+IsReadTo (Some most) before now = HasEnded now
+IsReadTo None before now = now ≡ before
 
--- Bytes were read to their end, or none for `load`, and the whole reply to them was written.
-pub record Replies (form : Form) (before now : Input) (before' now' : Output) (status : Status) : Type 0 where
+-- the command's input was read to its end; `load` reads nothing
+abbrev pub IsRead : Command → (before now : Input) → Type 0
+IsRead form before now = IsReadTo (limit_of form) before now
+
+-- one byte more was read than the command reads
+abbrev pub IsTooLong : Command → (before now : Input) → Type 0
+IsTooLong form before now = (most : ℕ) × (limit_of form ≡ Some most) × GaveMany before (most + 1) now
+
+-- bytes were read to their end, or none for `load`, and the whole reply to them was written
+pub record Replies (form : Command) (before now : Input) (before' now' : Output) (status : Status) : Type 0 where
   pub bytes : List ℕ
   pub text : List ℕ
   pub gave : Gave before bytes now
@@ -45,15 +52,15 @@ pub record Replies (form : Form) (before now : Input) (before' now' : Output) (s
   pub reply : IsReply form bytes status text
   pub wrote : Took before' text now'
 
--- More bytes were read than the form reads, and the line that says so was written.
-pub record FindsTooMany (form : Form) (before now : Input) (before' now' : Output) : Type 0 where
+-- one byte more was read than the command reads, and the line that says so was written
+pub record FindsTooMany (form : Command) (before now : Input) (before' now' : Output) : Type 0 where
   pub text : List ℕ
-  pub gave : GaveMany before (limit_of form + 1) now
+  pub gave : IsTooLong form before now
   pub explained : IsExplained [] (record { place = Whole; reason = TooLong }) text
   pub wrote : Took before' text now'
 
--- Each status has its cause.
-abbrev pub HasCause : Status → Option Form → (before now : Input) → (before' now' : Output) → Type 0
+-- each status has its cause
+abbrev pub HasCause : Status → Option Command → (before now : Input) → (before' now' : Output) → Type 0
 HasCause Done (Some form) before now before' now' = Replies form before now before' now' Done
 HasCause Refused (Some form) before now before' now' = Replies form before now before' now' Refused ⊎ FindsTooMany form before now before' now'
 HasCause Differs (Some form) before now before' now' = Replies form before now before' now' Differs

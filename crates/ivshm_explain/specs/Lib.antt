@@ -1,5 +1,3 @@
-pub mod Forms
-pub mod Refusals
 pub mod Places
 pub mod Differences
 pub mod DifferenceText

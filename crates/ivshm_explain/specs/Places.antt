@@ -5,8 +5,8 @@ use Rattle.byteorder.specs.Endian.{little_number, big_number}
 use Rattle.frame_capture.specs.declared.reading.TheConstants.{HEADER_LEN, PACKET_HEADER_LEN}
 use Rattle.frame_capture.specs.CaptureFile.{magic}
 use Rattle.line_format.specs.Forms.{cuts, is_printable}
-use Rattle.ivshm_explain.specs.declared.refusals.Place.{Place}
-use Rattle.ivshm_explain.specs.declared.refusals.Place.TheVariants.{Whole, Line, Bytes, Packet}
+use Rattle.program_edge.specs.declared.refusals.Place.{Place}
+use Rattle.program_edge.specs.declared.refusals.Place.TheVariants.{Whole, Line, Bytes, Packet}
 
 -- The line with this number, from 1, of the pieces between newlines.
 abbrev pub line_at : List ℕ → ℕ → List ℕ

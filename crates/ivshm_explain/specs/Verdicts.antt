@@ -20,14 +20,14 @@ use Rattle.frame_capture.specs.declared.packets.Capture.{Capture}
 use Rattle.frame_capture.specs.CaptureFile.{IsCaptureFile}
 use Rattle.frame_capture.specs.Faults.{IsCaptureFault}
 use Rattle.frame_capture.specs.Feed.{offered_frames, feed_world, IsTooLarge}
-use Rattle.ivshm_explain.specs.declared.forms.Form.{Form}
-use Rattle.ivshm_explain.specs.declared.forms.Form.TheVariants as forms
-use Rattle.ivshm_explain.specs.declared.refusals.Refusal.{Refusal}
+use Rattle.program_edge.specs.declared.words.Command.{Command}
+use Rattle.program_edge.specs.declared.words.Command.TheVariants as commands
+use Rattle.program_edge.specs.declared.refusals.Refusal.{Refusal}
 use Rattle.ivshm_explain.specs.declared.verdicts.Verdict.{Verdict}
 use Rattle.ivshm_explain.specs.declared.verdicts.Verdict.TheVariants.{Accepted, Refused}
-use Rattle.ivshm_explain.specs.declared.refusals.Reason.TheVariants.{NotRunning, BadPeer, TooLarge}
+use Rattle.program_edge.specs.declared.refusals.Reason.TheVariants.{NotRunning, BadPeer, TooLarge}
 use Rattle.ivshm_explain.specs.Differences.{IsRecordVerdict}
-use Rattle.ivshm_explain.specs.Refusals.{at, whole, of_scenario, of_ports, of_bridge, of_image, of_capture}
+use Rattle.program_edge.specs.Refusals.{at, whole, of_scenario, of_ports, of_bridge, of_image, of_capture}
 
 -- The text is no scenario, and the refusal is that of its first fault.
 pub record IsScenarioFault (bytes : List ℕ) (refusal : Refusal) : Type 0 where
@@ -56,17 +56,17 @@ pub record IsNoCapture (bytes : List ℕ) (refusal : Refusal) : Type 0 where
   pub first : IsCaptureFault bytes fault
   pub refuses : of_capture fault ≡ Some refusal
 
--- What `run`, `config P` and `sim` answer to a scenario.
-abbrev pub IsScenarioVerdict : Form → World → Verdict → Type 0
-IsScenarioVerdict forms.Run world Accepted = not_running world ≡ None
-IsScenarioVerdict forms.Run world (Refused refusal) = (line : ℕ) × (not_running world ≡ Some line) × (Some refusal ≡ at line NotRunning)
-IsScenarioVerdict (forms.Config peer) world Accepted = peer < world.geometry.peers
-IsScenarioVerdict (forms.Config peer) world (Refused refusal) = (world.geometry.peers ≤ peer) × (Some refusal ≡ whole BadPeer)
+-- what `run`, `config P` and `sim` answer to a scenario
+abbrev pub IsScenarioVerdict : Command → World → Verdict → Type 0
+IsScenarioVerdict commands.Run world Accepted = not_running world ≡ None
+IsScenarioVerdict commands.Run world (Refused refusal) = (line : ℕ) × (not_running world ≡ Some line) × (Some refusal ≡ at line NotRunning)
+IsScenarioVerdict (commands.Config peer) world Accepted = peer < world.geometry.peers
+IsScenarioVerdict (commands.Config peer) world (Refused refusal) = (world.geometry.peers ≤ peer) × (Some refusal ≡ whole BadPeer)
 IsScenarioVerdict _ world Accepted = ⊤
 IsScenarioVerdict _ world _ = ⊥
 
--- A scenario is answered so; a text that is none is refused by its first fault.
-abbrev pub IsTextVerdict : Form → List ℕ → Verdict → Type 0
+-- a scenario is answered so; a text that is none is refused by its first fault
+abbrev pub IsTextVerdict : Command → List ℕ → Verdict → Type 0
 IsTextVerdict form bytes (Refused refusal) =
     IsScenarioFault bytes refusal ⊎ ((world : World) × IsSpelling world bytes × IsScenarioVerdict form world (Refused refusal))
 IsTextVerdict form bytes verdict = (world : World) × IsSpelling world bytes × IsScenarioVerdict form world verdict
@@ -106,14 +106,16 @@ abbrev pub IsLoadVerdict : Verdict → Type 0
 IsLoadVerdict Accepted = ⊤
 IsLoadVerdict _ = ⊥
 
--- What the form answers to the bytes.
-abbrev pub IsVerdict : Form → List ℕ → Verdict → Type 0
-IsVerdict forms.Sim bytes verdict = IsTextVerdict forms.Sim bytes verdict
-IsVerdict forms.Run bytes verdict = IsTextVerdict forms.Run bytes verdict
-IsVerdict (forms.Config peer) bytes verdict = IsTextVerdict (forms.Config peer) bytes verdict
-IsVerdict forms.Record bytes verdict = IsRecordVerdict bytes verdict
-IsVerdict forms.Ports bytes verdict = IsPortsVerdict bytes verdict
-IsVerdict forms.Bridge bytes verdict = IsBridgeVerdict bytes verdict
-IsVerdict forms.Dump bytes verdict = IsDumpVerdict bytes verdict
-IsVerdict (forms.Feed peer) bytes verdict = IsFeedVerdict peer bytes verdict
-IsVerdict forms.Load bytes verdict = IsLoadVerdict verdict
+-- what the form answers to the bytes
+abbrev pub IsVerdict : Command → List ℕ → Verdict → Type 0
+IsVerdict commands.Sim bytes verdict = IsTextVerdict commands.Sim bytes verdict
+IsVerdict commands.Run bytes verdict = IsTextVerdict commands.Run bytes verdict
+IsVerdict (commands.Config peer) bytes verdict = IsTextVerdict (commands.Config peer) bytes verdict
+IsVerdict commands.Replay bytes verdict = IsRecordVerdict bytes verdict
+IsVerdict commands.Renew bytes verdict = IsRecordVerdict bytes verdict
+IsVerdict (commands.Capture peer) bytes verdict = IsRecordVerdict bytes verdict
+IsVerdict commands.Ports bytes verdict = IsPortsVerdict bytes verdict
+IsVerdict commands.Bridge bytes verdict = IsBridgeVerdict bytes verdict
+IsVerdict commands.Dump bytes verdict = IsDumpVerdict bytes verdict
+IsVerdict (commands.Feed peer) bytes verdict = IsFeedVerdict peer bytes verdict
+IsVerdict (commands.Load count) bytes verdict = IsLoadVerdict verdict

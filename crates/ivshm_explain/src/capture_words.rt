@@ -1,10 +1,9 @@
 //! What is wrong with a capture file, and what is due there, in words.
 
 use crate::places::{captured_in, from_place, packet_at};
-use crate::refusals::{Place, Reason, Refusal};
 use byteorder::{BigEndian, ByteOrder, LittleEndian};
 use frame_capture::{HEADER_LEN, LONGEST_CAPTURED, MOST_ACTS, PACKET_HEADER_LEN};
-use program_edge::TEXT_LIMIT;
+use program_edge::{Place, Reason, Refusal, TEXT_LIMIT};
 use std::alloc::{AllocError, Global};
 
 /// Whether the numbers of the file have their lowest byte first.

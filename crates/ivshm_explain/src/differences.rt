@@ -5,10 +5,10 @@ ghost use Rattle.lawful_history.specs.Lawful.{IsLawfulIn};
 ghost use Rattle.lawful_history.specs.Versions.{is_version};
 ghost use Rattle.ivshm_explain.specs.Differences.{IsReplayed, IsRecordVerdict};
 
-use crate::refusals::Refusal;
 use crate::verdicts::Verdict;
 use ivs_base::NoMemory;
 use lawful_history::{Lines, records_tell_one_history};
+use program_edge::Refusal;
 use record_text::{Trace, parse};
 use scenario_text::Scenario;
 use simulator::Simulator;

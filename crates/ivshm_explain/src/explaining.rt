@@ -1,18 +1,16 @@
 //! The explanation of what a form answers to bytes.
 ghost use Rattle.std.specs.Prelude.{◌≡◌, ◌++◌, [], IfOk};
-ghost use Rattle.ivshm_explain.specs.Forms.{IsFit};
+ghost use Rattle.program_edge.specs.Words.{IsInRange};
 ghost use Rattle.ivshm_explain.specs.Places.{place_of};
-ghost use Rattle.ivshm_explain.specs.Refusals.{verdict_of};
+ghost use Rattle.program_edge.specs.Refusals.{verdict_of};
 ghost use Rattle.ivshm_explain.specs.Explained.{IsExplained, IsReply};
 
 use crate::difference_text::difference_text;
 use crate::fault_words::fault_words;
-use crate::forms::Form;
 use crate::places::put_place;
-use crate::refusals::{Place, Reason, Refusal};
 use crate::verdicts::{Verdict, verdict_of};
 use ivs_base::NoMemory;
-use program_edge::Status;
+use program_edge::{Command, Place, Reason, Refusal, Status};
 use std::alloc::{AllocError, Global};
 
 /// What is due to bytes that were read.
@@ -40,7 +38,7 @@ fn joined(
 /// The explanation of a refusal.
 fn explained(
     alloc: Global,
-    form: Form,
+    form: Command,
     bytes: &[u8],
     refusal: Refusal,
 ) -> Result<Vec<u8>, AllocError>
@@ -52,8 +50,9 @@ fn explained(
 }
 
 /// The explanation of bytes that are more than a form reads.
-pub fn too_many(alloc: Global, form: Form) -> Result<Vec<u8>, AllocError>
-    ensures { IfOk result (λ text. IsExplained [] (record { place = Place.Whole; reason = Reason.TooLong }) text.items) }
+pub fn too_many(alloc: Global, form: Command) -> Result<Vec<u8>, AllocError>
+    ensures { let refusal = record { place = Place.Whole; reason = Reason.TooLong } in
+        IfOk result (λ text. IsExplained [] refusal text.items) }
 {
     let refusal = Refusal {
         place: Place::Whole,
@@ -63,18 +62,18 @@ pub fn too_many(alloc: Global, form: Form) -> Result<Vec<u8>, AllocError>
 }
 
 /// What is said of bytes that the form accepts.
-fn accepted(form: Form) -> &'static [u8] {
+fn accepted(form: Command) -> &'static [u8] {
     match form {
-        Form::Load => b"`load` reads nothing, and is never refused\n",
-        Form::Dump => b"nothing is wrong with this image\n",
-        Form::Feed(_) => b"nothing is wrong with this capture file\n",
+        Command::Load(_) => b"`load` reads nothing, and is never refused\n",
+        Command::Dump => b"nothing is wrong with this image\n",
+        Command::Feed(_) => b"nothing is wrong with this capture file\n",
         _ => b"nothing is wrong with this text\n",
     }
 }
 
 /// The explanation of what the form answers to the bytes.
-pub fn reply_to(alloc: Global, form: Form, bytes: &[u8]) -> Result<Reply, NoMemory>
-    requires { IsFit form }
+pub fn reply_to(alloc: Global, form: Command, bytes: &[u8]) -> Result<Reply, NoMemory>
+    requires { IsInRange form }
     ensures { IfOk result (λ reply. IsReply form bytes.now reply.status reply.text.items) }
 {
     match verdict_of(alloc, form, bytes)? {

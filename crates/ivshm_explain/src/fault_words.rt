@@ -1,17 +1,16 @@
 //! What is wrong with a refused text and what is due there, in words.
 
 use crate::capture_words::capture_words;
-use crate::forms::{Form, limit};
 use crate::image_words::image_words;
 use crate::line_words::bad_line_words;
 use crate::number_words::{bad_number_words, bytes_words};
 use crate::order_words::{bad_order_words, bad_peer_words, not_running_words};
-use crate::refusals::{Place, Reason, Refusal};
 use crate::shapes::Grammar;
 use crate::size_words::{bad_geometry_words, no_end_words};
 use crate::texts::FaultyText;
 use frame_capture::MOST_ACTS;
 use line_format::cut;
+use program_edge::{Command, Place, Reason, Refusal, limit};
 use split_ring::{FRAME_OVERHEAD, LEAST_MTU, SHORTEST_FRAME};
 use std::alloc::{AllocError, Global};
 
@@ -32,12 +31,17 @@ fn is_after_scenario(bytes: &[u8], number: u64) -> bool {
 }
 
 /// A refused text, as the lines around the faulty one are read.
-fn faulty_text(form: Form, bytes: &[u8], number: u64) -> FaultyText {
+fn faulty_text(form: Command, bytes: &[u8], number: u64) -> FaultyText {
     let (grammar, before) = match form {
-        Form::Ports => (Grammar::Ports, 0),
-        Form::Bridge => (Grammar::Bridge, 0),
-        Form::Record if number == 1 || is_after_scenario(bytes, number) => (Grammar::History, 1),
-        Form::Record => (Grammar::Scenario, 1),
+        Command::Ports => (Grammar::Ports, 0),
+        Command::Bridge => (Grammar::Bridge, 0),
+        Command::Replay | Command::Renew | Command::Capture(_) => {
+            if number == 1 || is_after_scenario(bytes, number) {
+                (Grammar::History, 1)
+            } else {
+                (Grammar::Scenario, 1)
+            }
+        }
         _ => (Grammar::Scenario, 0),
     };
     FaultyText {
@@ -110,7 +114,7 @@ fn line_words(
 /// What is wrong with a text that a form refuses.
 fn text_words(
     alloc: Global,
-    form: Form,
+    form: Command,
     bytes: &[u8],
     refusal: Refusal,
 ) -> Result<String, AllocError> {
@@ -124,17 +128,17 @@ fn text_words(
 /// What is wrong with the bytes that a form refuses, and what is due there.
 pub fn fault_words(
     alloc: Global,
-    form: Form,
+    form: Command,
     bytes: &[u8],
     refusal: Refusal,
 ) -> Result<String, AllocError> {
     if refusal.reason == Reason::TooLong {
-        let most = limit(form);
+        let most = limit(form).unwrap_or(0);
         return format!(in alloc; "there are more than {most} bytes, and this form reads no more\n");
     }
     match form {
-        Form::Dump => image_words(alloc, bytes, refusal),
-        Form::Feed(_) => capture_words(alloc, bytes, refusal),
+        Command::Dump => image_words(alloc, bytes, refusal),
+        Command::Feed(_) => capture_words(alloc, bytes, refusal),
         _ => text_words(alloc, form, bytes, refusal),
     }
 }

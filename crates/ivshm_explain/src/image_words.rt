@@ -1,9 +1,9 @@
 //! What is wrong with the image of a region, and what is due there, in words.
 
 use crate::places::from_place;
-use crate::refusals::{Reason, Refusal};
 use crate::size_words::{Sizes, sizes_words};
 use byteorder::{ByteOrder, LittleEndian};
+use program_edge::{Reason, Refusal};
 use section_dump::HEADER_LEN;
 use section_map::{LEAST_PEERS, MOST_PEERS};
 use std::alloc::{AllocError, Global};

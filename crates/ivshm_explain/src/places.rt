@@ -3,10 +3,10 @@ ghost use Rattle.std.specs.Prelude.{◌≡◌, ◌<◌, ◌^◌, ◌++◌, [], O
 ghost use Rattle.line_format.specs.Forms.{cuts};
 ghost use Rattle.ivshm_explain.specs.Places.{line_at, visible, number_text, digits, bytes_text, captured_in, after_packets, packet_at, place_of};
 
-use crate::refusals::Place;
 use byteorder::{BigEndian, ByteOrder, LittleEndian};
 use frame_capture::{HEADER_LEN, MAGIC, PACKET_HEADER_LEN};
 use line_format::cut;
+use program_edge::Place;
 use std::alloc::{AllocError, Global};
 
 /// The most bytes of a line that are shown.

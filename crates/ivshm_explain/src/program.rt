@@ -1,14 +1,14 @@
 //! The top call.
-ghost use Rattle.std.specs.Prelude.{◌≡◌, ◌⊎◌, ◌+◌, None, IfOk, IsErrOf, map};
+ghost use Rattle.std.specs.Prelude.{◌≡◌, None, IfOk, IsErrOf, map};
 ghost use Rattle.std.specs.String.{string_bytes};
-ghost use Rattle.ivs_base.specs.SourceAndSink.{Gave, GaveMany, SourceFailed};
-ghost use Rattle.ivshm_explain.specs.Forms.{form_of, limit_of};
-ghost use Rattle.ivshm_explain.specs.Explained.{IsRead, HasCause};
+ghost use Rattle.ivs_base.specs.SourceAndSink.{Gave, SourceFailed};
+ghost use Rattle.program_edge.specs.Words.{form_of};
+ghost use Rattle.program_edge.specs.Exit.{IsUsage};
+ghost use Rattle.ivshm_explain.specs.Explained.{IsRead, IsTooLong, HasCause};
 
 use crate::explaining::{Reply, reply_to, too_many};
-use crate::forms::{Form, limit, read_form};
 use ivs_base::{ReadEnd, Sink, Source, read_all};
-use program_edge::{Status, WordsFault, write_text};
+use program_edge::{Command, Status, WordsFault, limit, read_form, write_text};
 use std::alloc::Global;
 
 /// The line that says which words the program knows.
@@ -16,15 +16,15 @@ const USAGE: &[u8] =
     b"usage: ivshm_explain sim | run | replay | renew | dump | config P | load N | capture P | feed P | ports | bridge\n";
 
 /// The bytes that the form reads: none for `load`, else all up to the end.
-fn read_of<S: Source>(alloc: Global, form: Form, source: &mut S) -> Result<Vec<u8>, ReadEnd>
+fn read_of<S: Source>(alloc: Global, form: Command, source: &mut S) -> Result<Vec<u8>, ReadEnd>
     ensures bytes { IfOk result (λ v. Gave (S.input source.old) v.items (S.input source.new)) }
     ensures end { IfOk result (λ v. IsRead form (S.input source.old) (S.input source.new)) }
-    ensures too_long { IsErrOf result ReadEnd.TooLong → GaveMany (S.input source.old) (limit_of form + 1) (S.input source.new) }
+    ensures too_long { IsErrOf result ReadEnd.TooLong → IsTooLong form (S.input source.old) (S.input source.new) }
     ensures fault { IsErrOf result ReadEnd.ReadFault → SourceFailed (S.input source.old) (S.input source.new) }
 {
-    match form {
-        Form::Load => Ok(Vec::new(alloc)),
-        _ => read_all(alloc, source, limit(form)),
+    match limit(form) {
+        Some(most) => read_all(alloc, source, most),
+        None => Ok(Vec::new(alloc)),
     }
 }
 
@@ -33,9 +33,9 @@ fn read_of<S: Source>(alloc: Global, form: Form, source: &mut S) -> Result<Vec<u
 /// written before the explanation is whole. `load N` reads nothing, and is never refused. The
 /// status is that of `ivshm` on the same words and bytes.
 // claim cause: Each status has its cause. An explanation begins with the line that `ivshm` answers
-//    and with the faulty line or the faulty bytes. A difference has the line found, and the line
-//    due in the lawful history.
-// claim usage, unread: Words that are no form read nothing, and are answered by Usage.
+//    and with the faulty line or bytes. A difference has the line found, and the line due in the
+//    lawful history.
+// claim usage, unread: Other words read nothing, and are answered by Usage.
 pub fn explain<S: Source, K: Sink>(
     alloc: Global,
     words: &[String],
@@ -45,7 +45,7 @@ pub fn explain<S: Source, K: Sink>(
     ensures cause { HasCause result (form_of (map string_bytes words.now)) (S.input source.old) (S.input source.new)
         (K.output sink.old) (K.output sink.new) }
     // Words that are no form read nothing, and are never answered by NoMemory.
-    ensures usage { form_of (map string_bytes words.now) ≡ None → (result ≡ Status.Usage) ⊎ (result ≡ Status.WriteFault) }
+    ensures usage { form_of (map string_bytes words.now) ≡ None → IsUsage result }
     ensures unread { form_of (map string_bytes words.now) ≡ None → source.new ≡ source.old }
 {
     let Some(form) = read_form(words) else {
@@ -77,11 +77,12 @@ pub fn status_of_words<S: Source, K: Sink>(
     source: &mut S,
     sink: &mut K,
 ) -> Status
-    ensures words { IfOk words (λ w. HasCause result (form_of (map string_bytes w.items)) (S.input source.old) (S.input source.new)
-        (K.output sink.old) (K.output sink.new)) }
+    ensures words { IfOk words (λ w. HasCause result (form_of (map string_bytes w.items))
+        (S.input source.old) (S.input source.new) (K.output sink.old) (K.output sink.new)) }
     ensures not_text { IsErrOf words WordsFault.NotText → HasCause result None (S.input source.old) (S.input source.new)
         (K.output sink.old) (K.output sink.new) }
-    ensures no_memory { IsErrOf words WordsFault.NoMemory → (result ≡ Status.NoMemory) × (source.new ≡ source.old) × (sink.new ≡ sink.old) }
+    ensures no_memory { IsErrOf words WordsFault.NoMemory →
+        (result ≡ Status.NoMemory) × (source.new ≡ source.old) × (sink.new ≡ sink.old) }
 {
     match words {
         Ok(words) => explain(alloc, words.as_slice(), source, sink),

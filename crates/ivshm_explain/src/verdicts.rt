@@ -1,14 +1,13 @@
 //! What a form answers to bytes.
 ghost use Rattle.std.specs.Prelude.{◌≡◌, ◌<◌, IfOk, MatchResult};
 ghost use Rattle.scenario_text.specs.Spelling.{world_of, IsSpelling};
-ghost use Rattle.ivshm_explain.specs.Forms.{IsFit};
+ghost use Rattle.program_edge.specs.Words.{IsInRange};
 ghost use Rattle.ivshm_explain.specs.Verdicts.{IsScenarioFault, IsScenarioVerdict, IsPortsVerdict, IsBridgeVerdict, IsDumpVerdict, IsFed, IsFeedVerdict, IsVerdict};
 
 use crate::differences::{Difference, record_verdict};
-use crate::forms::Form;
-use crate::refusals::{Place, Reason, Refusal};
 use frame_capture::{Capture, FeedFault};
 use ivs_base::NoMemory;
+use program_edge::{Command, Place, Reason, Refusal};
 use scenario_text::{Scenario, not_running};
 use std::alloc::Global;
 
@@ -25,7 +24,8 @@ pub enum Verdict {
 
 /// The scenario that the bytes spell, or their refusal.
 fn scenario_of(alloc: Global, bytes: &[u8]) -> Result<Result<Scenario, Refusal>, NoMemory>
-    ensures { IfOk result (λ judged. MatchResult judged (λ scenario. IsSpelling (world_of scenario) bytes.now) (IsScenarioFault bytes.now)) }
+    ensures { IfOk result (λ judged. MatchResult judged
+        (λ scenario. IsSpelling (world_of scenario) bytes.now) (IsScenarioFault bytes.now)) }
 {
     match scenario_text::parse(alloc, bytes) {
         Ok(scenario) => Ok(Ok(scenario)),
@@ -37,18 +37,18 @@ fn scenario_of(alloc: Global, bytes: &[u8]) -> Result<Result<Scenario, Refusal>,
 }
 
 /// What `sim`, `run` or `config P` answers to a scenario.
-fn scenario_verdict(form: Form, scenario: &Scenario) -> Verdict
+fn scenario_verdict(form: Command, scenario: &Scenario) -> Verdict
     ensures { IsScenarioVerdict form (world_of scenario.now) result }
 {
     match form {
-        Form::Run => match not_running(scenario) {
+        Command::Run => match not_running(scenario) {
             Some(line) => Verdict::Refused(Refusal {
                 place: Place::Line(line),
                 reason: Reason::NotRunning,
             }),
             None => Verdict::Accepted,
         },
-        Form::Config(peer) if peer >= scenario.geometry.peers() => Verdict::Refused(Refusal {
+        Command::Config(peer) if peer >= scenario.geometry.peers() => Verdict::Refused(Refusal {
             place: Place::Whole,
             reason: Reason::BadPeer,
         }),
@@ -125,20 +125,20 @@ fn feed_verdict(alloc: Global, peer: u32, bytes: &[u8]) -> Result<Verdict, NoMem
 }
 
 /// What the form answers to the bytes. `load` reads none.
-pub fn verdict_of(alloc: Global, form: Form, bytes: &[u8]) -> Result<Verdict, NoMemory>
-    requires { IsFit form }
+pub fn verdict_of(alloc: Global, form: Command, bytes: &[u8]) -> Result<Verdict, NoMemory>
+    requires { IsInRange form }
     ensures { IfOk result (IsVerdict form bytes.now) }
 {
     match form {
-        Form::Sim | Form::Run | Form::Config(_) => match scenario_of(alloc, bytes)? {
+        Command::Sim | Command::Run | Command::Config(_) => match scenario_of(alloc, bytes)? {
             Ok(scenario) => Ok(scenario_verdict(form, &scenario)),
             Err(refusal) => Ok(Verdict::Refused(refusal)),
         },
-        Form::Record => record_verdict(alloc, bytes),
-        Form::Ports => ports_verdict(alloc, bytes),
-        Form::Bridge => bridge_verdict(alloc, bytes),
-        Form::Dump => dump_verdict(alloc, bytes),
-        Form::Feed(peer) => feed_verdict(alloc, peer, bytes),
-        Form::Load => Ok(Verdict::Accepted),
+        Command::Replay | Command::Renew | Command::Capture(_) => record_verdict(alloc, bytes),
+        Command::Ports => ports_verdict(alloc, bytes),
+        Command::Bridge => bridge_verdict(alloc, bytes),
+        Command::Dump => dump_verdict(alloc, bytes),
+        Command::Feed(peer) => feed_verdict(alloc, peer, bytes),
+        Command::Load(_) => Ok(Verdict::Accepted),
     }
 }

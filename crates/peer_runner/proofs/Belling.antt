@@ -17,7 +17,7 @@ use Rattle.peer_runner.specs.declared.doorbell_paths.DoorbellPath.{DoorbellPath}
 use Rattle.peer_runner.specs.declared.doorbell_paths.DoorbellPath.TheVariants.{Silent, Direct, Guarded}
 use Rattle.shared_words.specs.DerivedStates.{CallAccess, MemoryOp}
 use Rattle.shared_words.specs.Actions.{Action}
-use Rattle.shared_words.specs.Interrupts.{one_if, IsOneShot}
+use Rattle.shared_words.specs.Interrupts.{IsOneShot}
 use Rattle.shared_words.specs.PeerRoutes.{nowhere, route_to, AreRoutes}
 use Rattle.peer_runner.specs.DoorbellPaths.{doorbell_path_by, doorbell_path_to, is_guarded, rung_by}
 use Rattle.peer_runner.specs.Turns.{is_set}
@@ -72,10 +72,10 @@ way_of routes target vector route o at is = λ i. doorbell_path_by (at i).one_sh
 
 -- Which peers are in one-shot mode.
 pub never_one_shot : (key : RunSetup) (routes : List Route) (target : ℕ) → AreRoutes key routes → target < length routes → (route_to routes target).one_shot ≡ false → IsOneShot key target → ⊥
-never_one_shot key routes target are lt off shot = let count = are.count in let bit_is : bit_at key.one_shot target ≡ 0 = are.one_shot target (omega arith) ∙ ap one_if off in omega arith
+never_one_shot key routes target are lt off shot = let count = are.count in clash (sym (are.one_shot target (omega arith) ∙ off) ∙ shot)
 
 pub is_one_shot_at : (key : RunSetup) (routes : List Route) (target : ℕ) → AreRoutes key routes → target < length routes → (route_to routes target).one_shot ≡ true → IsOneShot key target
-is_one_shot_at key routes target are lt on = let count = are.count in are.one_shot target (omega arith) ∙ ap one_if on
+is_one_shot_at key routes target are lt on = let count = are.count in are.one_shot target (omega arith) ∙ on
 
 -- The ends of the match
 

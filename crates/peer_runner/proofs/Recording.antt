@@ -25,7 +25,7 @@ use Rattle.shared_words.specs.RunSetups.{world_in, config_in, honest_of, IsMadeF
 use Rattle.shared_words.specs.Actions.{Action, accesses_in}
 use Rattle.shared_words.specs.DerivedStates.{CallAccess, MemoryOp, event_word, DerivedState, initial_derived_state, derived_state, NeverMarked}
 use Rattle.doorbell_irq.specs.Routes.{is_intx}
-use Rattle.shared_words.specs.Interrupts.{weigh, tally, one_if, rings, finds, AreRung}
+use Rattle.shared_words.specs.Interrupts.{weigh, tally, rings, finds, AreRung}
 use Rattle.shared_words.specs.Rules.{accesses_by, list_of, SessionsAreLearned, CarriesNone, NoneIsMissed, AllIsLearned, IsLearned}
 use Rattle.shared_words.specs.Passes.{held, lower_pass, join_passes, shown, actions_of}
 use Rattle.doorbell_irq.specs.declared.route.Route.{Route}
@@ -287,7 +287,7 @@ are_heard world key lists traces made size ran rung = record {
   rung = λ p v lt. let h = (hears p lt).each v in let few : weigh (finds v) (list_of lists p) ≤ tally key.geometry.peers (λ q. weigh (rings p v) (list_of lists q)) = rung.rung p v (there p lt) in
       let most = bells_of world key p v 0 lists traces lt ran in let same : key.geometry.peers ≡ length lists = peers ∙ sym size in
       let moved : tally (length lists) (λ q. weigh (rings p v) (list_of lists q)) ≡ tally key.geometry.peers (λ q. weigh (rings p v) (list_of lists q)) = ap (λ n. tally n (λ q. weigh (rings p v) (list_of lists q))) (sym same) in omega arith;
-  once = λ p lt shot. let h = (hears p lt).all in let one = rung.once p (there p lt) (made.one_shot p lt ∙ ap one_if shot) in omega arith;
+  once = λ p lt shot. let h = (hears p lt).all in let one = rung.once p (there p lt) (made.one_shot p lt ∙ shot) in omega arith;
 }
   where
     peers : key.geometry.peers ≡ world.geometry.peers

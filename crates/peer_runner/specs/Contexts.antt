@@ -24,7 +24,7 @@ use Rattle.shared_words.specs.PeerRoutes.{AreRoutes}
 use Rattle.peer_runner.specs.DoorbellPaths.{is_guarded, doorbell_path_in}
 use Rattle.shared_words.specs.Passes.{IsFirstIn, state_in, IsNextIn}
 use Rattle.peer_runner.specs.Turns.{all_turns, has_turn_left, spent, later, lines_of_turns}
-use Rattle.peer_runner.specs.Runners.{Runner, has_finished, place_in, turned, Turns}
+use Rattle.peer_runner.specs.Runners.{Runner, has_finished, place_in, turned, Turns, made, done_of}
 use Rattle.peer_runner.specs.Trajectories.{IsOnTrajectory, WentTo}
 
 -- The run setup of the words that the peer shares.
@@ -56,8 +56,15 @@ state_of context pass = state_in (setup_of context) context.me pass
 abbrev pub IsNextOf : PeerContext → PassView → Option Call → Access → Type 0
 IsNextOf context pass begins a = IsNextIn (setup_of context) context.me pass begins a
 
--- The condition holds of the place of the endpoint and of the work left to the automatic peer
--- there.
+-- the pass after this part of the access, which begins such a call, or is a step of the open one
+abbrev pub after_access : PeerContext → Option Call → Access → Done → PassView → PassView
+after_access context begins access done pass = made pass (done_of context.routes.now begins access done)
+
+-- Of each configuration, end and place that an endpoint refines, this holds
+abbrev pub AtEachPlace : Engine → (EndConfig → End → Place → Type 0) → Type 0
+AtEachPlace end Holds = (config : EndConfig) (at : End) (place : Place) → RefinesAt end config at place → Holds config at place
+
+-- Of a place at which the endpoint is, with what the automatic peer has to do there, this holds
 abbrev pub AtItsPlace : Engine → Plan → (EndConfig → End → Place → Auto → Type 0) → Type 0
 AtItsPlace end plan Holds = (config : EndConfig) (at : End) (place : Place) (auto : Auto) →
     RefinesAt end config at place → IsPlanOf plan auto → Holds config at place auto

@@ -25,6 +25,7 @@ use Rattle.shared_words.specs.RunSetups.{world_in, config_in, honest_of, IsMadeF
 use Rattle.shared_words.specs.DerivedStates.{CallAccess, MemoryOp, event_word, derived_state, NeverMarked}
 use Rattle.shared_words.specs.Actions.{Action, accesses_in}
 use Rattle.shared_words.specs.PassView.{PassView}
+use Rattle.atomic_table.specs.Seated.{TableId}
 use Rattle.shared_words.specs.Passes.{shown, held}
 use Rattle.doorbell_irq.specs.declared.route.Route.{Route}
 use Rattle.peer_runner.specs.declared.doorbell_paths.Done.{Done}
@@ -134,8 +135,12 @@ abbrev pub DroveBy : RunSetup → List Route → (p : ℕ) → (spans : List ℕ
 DroveBy key routes p spans start old new answer =
     (list : List (Action (MemoryOp CallAccess))) × (new ≡ held old.table_id p (list ∷ [])) × Drove key routes p spans start list answer
 
--- A peer of a scenario did this to the words. Its traces are these: one, or none if it has no
--- turns.
+-- the peer of this plan did so
+abbrev pub DrovePlan : RunSetup → PeerPlan → (old new : PassView) → Result OwnTrace NoMemory → Type 0
+DrovePlan key plan old new answer = DroveBy key plan.routes.items plan.peer plan.spans (starting plan.driver) old new answer
+
+-- a peer of a scenario did this to the words, and these are the traces of it: one, or none where it
+-- has no turns
 abbrev pub HasRun : World → RunSetup → ℕ → List (Action (MemoryOp CallAccess)) → List OwnTrace → Type 0
 HasRun world key p list traces =
     (t : OwnTrace) × (traces ≡ t ∷ []) × (routes : List Route) × AreRoutesOf world routes ×
@@ -155,7 +160,13 @@ RanAll world key p [] traces = traces ≡ []
 RanAll world key p (list ∷ lists) traces =
     (mine rest : List OwnTrace) × (traces ≡ mine ++ rest) × RanOne world key p list mine × RanAll world key (suc p) lists rest
 
--- Both answers are Ok, with such values.
+-- The pass has the lists of `count` peers from p on, and these are the peers' traces if memory was
+-- enough
+abbrev pub RanRange : {A : Type 0} → World → RunSetup → (p count : ℕ) → TableId → (pass : PassView) → (A → List OwnTrace) → Result A NoMemory → Type 0
+RanRange world key p count id pass traces_of answer = (lists : List (List (Action (MemoryOp CallAccess)))) × (pass ≡ held id p lists) ×
+    (length lists ≡ count) × IfOk answer (λ traces. RanAll world key p lists (traces_of traces))
+
+-- both answers are Ok, with such values
 abbrev pub BothOk : {A B E : Type 0} → Result A E → Result B E → (A → B → Type 0) → Type 0
 BothOk (Ok one) (Ok two) P = P one two
 BothOk one two P = ⊥

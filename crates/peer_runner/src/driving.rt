@@ -13,7 +13,7 @@ ghost use Rattle.shared_words.specs.PeerRoutes.{AreRoutes};
 ghost use Rattle.peer_runner.specs.Runners.{Runner, has_finished};
 ghost use Rattle.peer_runner.specs.Contexts.{setup_of, IsHonest, HasRoutes, IsSeated, IsOn, Records, IsBeforeTurn, TookTurn, WasReset};
 ghost use Rattle.peer_runner.specs.Contexts.{IsBeforeSpan, TookSpan};
-ghost use Rattle.peer_runner.specs.Drives.{MayBeAuto, MayDrive, starting, storming, automatic, DroveBy};
+ghost use Rattle.peer_runner.specs.Drives.{MayBeAuto, MayDrive, storming, automatic, DroveBy, DrovePlan};
 
 use crate::context::PeerContext;
 use crate::doorbell_paths::route_to;
@@ -177,8 +177,8 @@ fn drive_auto<G: Gate>(
     requires fresh { (peer.looks ≡ Some 0) × (peer.ringing ≡ false) × (peer.opened ≡ 0) × (peer.met ≡ None) }
     requires few { all_turns spans.now < 2 ^ 32 }
     requires routes { HasRoutes context.now }
-    ensures { DroveBy (setup_of context.now) context.now.routes.now context.now.me spans.now (automatic peer.driven.auto)
-        pass.old pass.new result }
+    ensures { DroveBy (setup_of context.now) context.now.routes.now context.now.me spans.now
+        (automatic peer.driven.auto) pass.old pass.new result }
 {
     places_follow_trees();
     let mut lines = Lines::new(context.alloc);
@@ -216,7 +216,8 @@ fn storm_restart(
     requires of { IsFirstIn words.now.shared.table_id words.now.shared.key storm.old.peer pass.old }
     requires storm { IsStormOf (world_in words.now.shared.key) storm.old }
     ensures pass { pass.new ≡ added pass.old (accessed restarted) }
-    ensures storm { storm.new ≡ record storm.old { at = if ringing.old then storm_after storm.old.at else storm.old.at } }
+    ensures storm { let at = storm.old.at in
+        storm.new ≡ record storm.old { at = if ringing.old then storm_after at else at } }
     ensures ringing { ringing.new ≡ false }
     ensures lines { OnOk result (lines.new ≡ lines.old ++ line.Reset storm.old.peer ∷ []) }
 {
@@ -244,7 +245,8 @@ fn drive_storm<G: Gate>(
     requires storm { IsStormOf (world_in words.now.shared.key) storm }
     requires few { all_turns spans.now < 2 ^ 32 }
     requires routes { AreRoutes words.now.shared.key routes.now }
-    ensures { DroveBy words.now.shared.key routes.now storm.peer spans.now (storming storm.at) pass.old pass.new result }
+    ensures { DroveBy words.now.shared.key routes.now storm.peer spans.now (storming storm.at)
+        pass.old pass.new result }
 {
     let mut lines = Lines::new(alloc);
     let mut turns = 0;
@@ -282,7 +284,7 @@ fn drive_plan<G: Gate>(
     requires drives { MayDrive words.now.shared.key plan.peer plan.driver }
     requires few { all_turns plan.spans < 2 ^ 32 }
     requires routes { AreRoutes words.now.shared.key plan.routes.items }
-    ensures { DroveBy words.now.shared.key plan.routes.items plan.peer plan.spans (starting plan.driver) pass.old pass.new result }
+    ensures { DrovePlan words.now.shared.key plan pass.old pass.new result }
 {
     let PeerPlan {
         peer,
@@ -350,7 +352,7 @@ pub fn drive<G: Gate>(
     requires drives { MayDrive words.now.shared.key plan.peer plan.driver }
     requires few { all_turns plan.spans < 2 ^ 32 }
     requires routes { AreRoutes words.now.shared.key plan.routes.items }
-    ensures { DroveBy words.now.shared.key plan.routes.items plan.peer plan.spans (starting plan.driver) pass.old pass.new result }
+    ensures { DrovePlan words.now.shared.key plan pass.old pass.new result }
 {
     let peer = plan.peer;
     let trace = drive_plan(alloc, words, pass, plan, gate);

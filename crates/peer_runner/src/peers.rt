@@ -1,5 +1,5 @@
 //! The peers of a scenario, each in a thread of its own.
-ghost use Rattle.std.specs.Prelude.{◌≡◌, ◌++◌, ◌∷◌, [], ◌<◌, ◌≤◌, ◌+◌, None, List, length, replicate, map, IfOk, OnOk};
+ghost use Rattle.std.specs.Prelude.{◌≡◌, ◌++◌, ◌∷◌, [], ◌<◌, ◌≤◌, ◌+◌, None, List, replicate, map, IfOk, OnOk};
 ghost use Rattle.std.specs.Thread.{IsSync};
 ghost use Rattle.scenario_text.specs.Running.{not_running};
 ghost use Rattle.scenario_text.specs.Spelling.{world_of};
@@ -9,7 +9,7 @@ ghost use Rattle.shared_words.specs.RunSetups.{IsMadeFor};
 ghost use Rattle.shared_words.specs.Actions.{Action};
 ghost use Rattle.shared_words.specs.DerivedStates.{CallAccess, MemoryOp};
 ghost use Rattle.shared_words.specs.Passes.{IsOf, IsWhole, IsUnused, held};
-ghost use Rattle.peer_runner.specs.Drives.{IsPlanFor, RanOne, RanAll, BothOk};
+ghost use Rattle.peer_runner.specs.Drives.{IsPlanFor, RanOne, RanRange, BothOk};
 ghost use Rattle.peer_runner.specs.RunningRecord.{IsRunOf};
 
 use crate::driving::{PeerPlan, drive};
@@ -89,8 +89,8 @@ fn run_range<R: Threads + Sync, G: Gate + Sync>(
     requires made { IsMadeFor (world_of scenario.now) words.now.shared.key }
     requires of { IsOf words.now.shared.table_id words.now.shared.key pass }
     requires whole { (pass.from ≡ range.from) × (pass.lists ≡ replicate range.count []) }
-    ensures { (lists : List (List (Action (MemoryOp CallAccess)))) × (result.1 ≡ held pass.table_id range.from lists) × (length lists ≡ range.count)
-        × IfOk result.0 (λ traces. RanAll (world_of scenario.now) words.now.shared.key range.from lists traces.items) }
+    ensures { RanRange (world_of scenario.now) words.now.shared.key range.from range.count
+        pass.table_id result.1 (λ traces. traces.items) result.0 }
 {
     let PeerRange { from, count } = range;
     if count == 0 {
@@ -112,8 +112,8 @@ fn run_range<R: Threads + Sync, G: Gate + Sync>(
             requires made { IsMadeFor (world_of scenario.now) words.now.shared.key }
             requires of { IsOf words.now.shared.table_id words.now.shared.key pass }
             requires whole { (pass.from ≡ from) × (pass.lists ≡ replicate half []) }
-            ensures { (lists : List (List (Action (MemoryOp CallAccess)))) × (result.1 ≡ held pass.table_id from lists) × (length lists ≡ half)
-                × IfOk result.0 (λ traces. RanAll (world_of scenario.entry.now) words.entry.now.shared.key from lists traces.items) }
+            ensures { RanRange (world_of scenario.entry.now) words.entry.now.shared.key from half
+                pass.table_id result.1 (λ traces. traces.items) result.0 }
         {
             let range = PeerRange { from, count: half };
             run_range(rt, alloc, words, pass, scenario, range, gate)
@@ -124,8 +124,8 @@ fn run_range<R: Threads + Sync, G: Gate + Sync>(
             requires made { IsMadeFor (world_of scenario.now) words.now.shared.key }
             requires of { IsOf words.now.shared.table_id words.now.shared.key upper }
             requires whole { (upper.from ≡ middle) × (upper.lists ≡ replicate rest []) }
-            ensures { (lists : List (List (Action (MemoryOp CallAccess)))) × (result.1 ≡ held upper.table_id middle lists) × (length lists ≡ rest)
-                × IfOk result.0 (λ traces. RanAll (world_of scenario.entry.now) words.entry.now.shared.key middle lists traces.items) }
+            ensures { RanRange (world_of scenario.entry.now) words.entry.now.shared.key middle rest
+                upper.table_id result.1 (λ traces. traces.items) result.0 }
         {
             let range = PeerRange {
                 from: middle,

@@ -72,7 +72,8 @@ pub fn take_step(
     requires routes { AreRoutes words.now.shared.key routes.now }
     requires hostile { honest_of words.now.shared.key storm.old.peer ≡ false }
     requires storm { IsStormOf (world_in words.now.shared.key) storm.old }
-    requires rings { ringing.old ≡ true → MayRingBy routes.now (storm_in words.now.shared.key storm.old.peer storm.old.at).access (front pass.old.lists) }
+    requires rings { let step = storm_in words.now.shared.key storm.old.peer storm.old.at in
+        ringing.old ≡ true → MayRingBy routes.now step.access (front pass.old.lists) }
     ensures { let step = storm_in words.now.shared.key storm.old.peer storm.old.at in
         (done : Done) × IsDone ringing.old (is_guarded (doorbell_path_in routes.now step.access)) done × (value_done done ≡ 0)
         × (pass.new ≡ made pass.old (done_of routes.now None step.access done))

@@ -1,11 +1,7 @@
 //! The turns of an automatic peer.
 ghost use Rattle.std.specs.Prelude.{◌≡◌, ℕ, ◌+◌, ◌^◌, ◌++◌, ◌<◌, ◌≤◌, true, false, OnOk};
 ghost use Rattle.call_grammar.specs.Automatic.{is_empty};
-ghost use Rattle.call_grammar.specs.Calls.{EndConfig};
-ghost use Rattle.call_grammar.specs.Ends.{End};
-ghost use Rattle.call_grammar.specs.Places as places;
 ghost use Rattle.call_grammar.specs.Places.{WritingState};
-ghost use Rattle.link_endpoint.specs.Refinement.{RefinesAt};
 ghost use Rattle.shared_words.specs.Actions.{accessed, looked};
 ghost use Rattle.shared_words.specs.Rules.{front};
 ghost use Rattle.shared_words.specs.Passes.{IsOf, added};
@@ -13,9 +9,9 @@ ghost use Rattle.peer_runner.specs.DoorbellPaths.{is_guarded, doorbell_path_in};
 ghost use Rattle.peer_runner.specs.Turns.{interrupt_lines, is_below, looks_after, opens};
 ghost use Rattle.peer_runner.specs.Runners.{Runner};
 ghost use Rattle.link_endpoint.specs.Plan.{is_end_choice, call_chosen_by};
-ghost use Rattle.peer_runner.specs.Runners.{touches, MayMake, made, done_of, IsDone, awaits_ring, MayRingBy, due_at, looks_now};
+ghost use Rattle.peer_runner.specs.Runners.{touches, MayMake, IsDone, awaits_ring, MayRingBy, due_at, looks_now};
 ghost use Rattle.peer_runner.specs.Runners.{due_word, state_for, memory_op_met, lines_on, IsThere, IsAutoPeer};
-ghost use Rattle.peer_runner.specs.Contexts.{setup_of, end_config, IsHonest, HasRoutes, IsSeated, state_of, IsNextOf, AtItsPlace};
+ghost use Rattle.peer_runner.specs.Contexts.{setup_of, end_config, IsHonest, HasRoutes, IsSeated, state_of, IsNextOf, after_access, AtEachPlace, AtItsPlace};
 ghost use Rattle.peer_runner.specs.Contexts.{IsStepDue, after_step, is_guarded_at};
 
 use crate::bells::ring_turn;
@@ -127,7 +123,7 @@ fn take<B: Begins>(
     requires may { MayMake (setup_of context.now) context.now.me access }
     requires rings { ringing ≡ true → MayRingBy context.now.routes.now access (front pass.old.lists) }
     ensures done { IsDone ringing (is_guarded (doorbell_path_in context.now.routes.now access)) result }
-    ensures pass { pass.new ≡ made pass.old (done_of context.now.routes.now B.call access result) }
+    ensures pass { pass.new ≡ after_access context.now B.call access result pass.old }
     ensures rings { awaits_ring result ≡ true → MayRingBy context.now.routes.now access (front pass.new.lists) }
 {
     let (words, routes) = (context.words, context.routes);
@@ -158,13 +154,15 @@ fn take_for(
     auto: &Auto,
     choice: Option<Choice>,
 ) -> Done
-    requires next { touches access ≡ true → IsNextOf context.now pass.old (call_chosen_by choice auto.now.frames) access }
+    requires next { touches access ≡ true →
+        IsNextOf context.now pass.old (call_chosen_by choice auto.now.frames) access }
     requires of { IsSeated context.now pass.old }
     requires routes { HasRoutes context.now }
     requires may { MayMake (setup_of context.now) context.now.me access }
     requires rings { ringing ≡ true → MayRingBy context.now.routes.now access (front pass.old.lists) }
     ensures done { IsDone ringing (is_guarded (doorbell_path_in context.now.routes.now access)) result }
-    ensures pass { pass.new ≡ made pass.old (done_of context.now.routes.now (call_chosen_by choice auto.now.frames) access result) }
+    ensures pass { let begins = call_chosen_by choice auto.now.frames in
+        pass.new ≡ after_access context.now begins access result pass.old }
     ensures rings { awaits_ring result ≡ true → MayRingBy context.now.routes.now access (front pass.new.lists) }
 {
     take::<Brand>(context, pass, access, ringing, auto, choice)
@@ -188,7 +186,7 @@ pub struct AutoPeer {
 /// The session word of the peer's next turn. There is one before a State step with 2 or with 3,
 /// unless the peer has met a number for that step.
 pub fn word_due(end: &Endpoint, met: Option<u32>) -> Option<SessionWord>
-    ensures { (config : EndConfig) (at : End) (place : places.Place) → RefinesAt end.now config at place → result ≡ due_word place met }
+    ensures { AtEachPlace end.now (λ _ _ place. result ≡ due_word place met) }
 {
     if met.is_some() || !end.busy() {
         return None;
@@ -212,7 +210,8 @@ pub fn exchange_session_number(
     requires place { (state_of context.now pass.old).place ≡ WritingState (state_for word) }
     requires opened { (opened ≡ (state_of context.now pass.old).numbers.log.opened) × (opened + 1 < 2 ^ 32) }
     requires of { IsSeated context.now pass.old }
-    ensures { (pass.new ≡ added pass.old (accessed (memory_op_met word result))) × (word ≡ SessionWord.Own → result ≡ opened + 1) }
+    ensures pass { pass.new ≡ added pass.old (accessed (memory_op_met word result)) }
+    ensures number { word ≡ SessionWord.Own → result ≡ opened + 1 }
 {
     let (words, me) = (context.words, context.me);
     match word {

@@ -1,6 +1,6 @@
-//! The common parts of the programs: their arguments, the limits of an input, the status with its
-//! exit number, the text that a call writes last, and the lines that refuse an input. What a
-//! program does with its words is in its own crate.
+//! What the programs share at their edge: the words out of the arguments, the commands that they
+//! name, and the limits of what is read. So are the status with its exit number, the text that a
+//! call writes last, and the lines that refuse an input. What a program does is in its own crate.
 #![tactic(auto)]
 
 mod arguments;
@@ -8,9 +8,11 @@ mod exit;
 mod limits;
 mod refusals;
 mod replies;
+mod words;
 
 pub use arguments::{WordsFault, words_of};
 pub use exit::Status;
 pub use limits::{MOST_FRAMES, RECORD_LIMIT, TEXT_LIMIT};
-pub use refusals::{count_line, place_line};
+pub use refusals::{Place, Reason, Refusal, refusal_line};
 pub use replies::write_text;
+pub use words::{Command, limit, read_form};

@@ -13,7 +13,8 @@ pub fn write_text<K: Sink>(sink: &mut K, text: &[u8], status: Status) -> Status
     requires { IsTrue (has_reply status) }
     ensures cases { (result ≡ status) ⊎ (result ≡ Status.WriteFault) }
     ensures whole { IsTrue (has_reply result) → Took (K.output sink.old) text.now (K.output sink.new) }
-    ensures part { result ≡ Status.WriteFault → ((n : ℕ) × Took (K.output sink.old) (take n text.now) (K.output sink.new)) }
+    ensures part { result ≡ Status.WriteFault →
+        ((n : ℕ) × Took (K.output sink.old) (take n text.now) (K.output sink.new)) }
     ensures fault { result ≡ Status.WriteFault → SinkFailed (K.output sink.old) (K.output sink.new) }
     ensures last { result ≡ Status.WriteFault → LastWriteFailed (K.output sink.old) (K.output sink.new) }
     ensures short { result ≡ Status.WriteFault → (K.output sink.old).room < length text.now }

@@ -10,9 +10,9 @@ use Rattle.link_invariant.specs.Steps.{Stored}
 use Rattle.shared_words.specs.declared.run_setup.RunSetup.{RunSetup}
 use Rattle.shared_words.specs.DerivedStates.{CallAccess, MemoryOp}
 use Rattle.shared_words.specs.Actions.{Action, accessed, rang, looked, cleared}
-use Rattle.shared_words.specs.Interrupts.{weigh, tally, rings, aims, finds, wins, interrupt_word, control_word, FollowsClears, MayRing, IsOneShot, Interrupts, AreRung}
+use Rattle.shared_words.specs.Interrupts.{one_if, flag_of, weigh, tally, rings, aims, finds, wins, interrupt_word, control_word, FollowsClears, MayRing, IsOneShot, Interrupts, AreRung}
 use Rattle.shared_words.specs.SharedMemory.{Appends}
-use Rattle.shared_words.proofs.Weights.{weigh_here, weigh_else, weigh_still, weigh_snoc, tally_grows, tally_most, tally_turned, weigh_turned, weigh_most, rings_bits, behind_all, behind_snoc, rings_accessed, aims_accessed, finds_accessed, wins_accessed, rings_here, rings_same, aims_here, aims_else, finds_rang, wins_rang, finds_looked, rings_looked, aims_looked, wins_looked, finds_cleared, rings_cleared, aims_cleared, wins_here, wins_else}
+use Rattle.shared_words.proofs.Weights.{one_if_lt, weigh_here, weigh_else, weigh_still, weigh_snoc, tally_grows, tally_most, tally_turned, weigh_turned, weigh_most, rings_bits, behind_all, behind_snoc, rings_accessed, aims_accessed, finds_accessed, wins_accessed, rings_here, rings_same, aims_here, aims_else, finds_rang, wins_rang, finds_looked, rings_looked, aims_looked, wins_looked, finds_cleared, rings_cleared, aims_cleared, wins_here, wins_else}
 
 -- One bit more is set.
 set_bit : (n k bit : ℕ) → bit_at (bit_or n (2 ^ k)) bit ≤ bit_at n bit + rings {A = MemoryOp CallAccess} 0 bit (rang 0 k)
@@ -40,7 +40,7 @@ access_keeps key memory after acc next p t p_lt still g k = record {
       let b : bit_at (after (interrupt_word key target)) bit ≡ bit_at (memory (interrupt_word key target)) bit = ap (λ n. bit_at n bit) (still (interrupt_word key target) (omega arith) (omega arith)) in
       let none : rings {A = MemoryOp CallAccess} target bit (accessed t) ≡ 0 = rings_accessed target bit t in
       let c : tally key.geometry.peers (λ q. weigh (rings target bit) (next q)) ≡ tally key.geometry.peers (λ q. weigh (rings target bit) (acc q)) + rings {A = MemoryOp CallAccess} target bit (accessed t) = tally_grows key.geometry.peers (rings target bit) acc next p (accessed t) g p_lt in omega arith;
-  control = λ target lt. let was : bit_at (memory (control_word key target)) 0 + tally key.geometry.peers (λ q. weigh (wins target) (acc q)) ≡ bit_at key.enabled target = k.control target lt in
+  control = λ target lt. let was : bit_at (memory (control_word key target)) 0 + tally key.geometry.peers (λ q. weigh (wins target) (acc q)) ≡ one_if (flag_of key.enabled target) = k.control target lt in
       let b : bit_at (after (control_word key target)) 0 ≡ bit_at (memory (control_word key target)) 0 = ap (λ n. bit_at n 0) (still (control_word key target) (omega arith) (omega arith)) in
       let none : wins {A = MemoryOp CallAccess} target (accessed t) ≡ 0 = wins_accessed target t in
       let c : tally key.geometry.peers (λ q. weigh (wins target) (next q)) ≡ tally key.geometry.peers (λ q. weigh (wins target) (acc q)) + wins {A = MemoryOp CallAccess} target (accessed t) = tally_grows key.geometry.peers (wins target) acc next p (accessed t) g p_lt in omega arith;
@@ -55,7 +55,7 @@ rang_keeps key memory after acc next p at k p_lt st may g i = record {
       let a : weigh (finds bit) (next target) ≡ weigh (finds bit) (acc target) = weigh_still (finds bit) acc next p target (rang at k) g (finds_rang (MemoryOp CallAccess) bit at k) in
       let c : tally key.geometry.peers (λ q. weigh (rings target bit) (next q)) ≡ tally key.geometry.peers (λ q. weigh (rings target bit) (acc q)) + rings {A = MemoryOp CallAccess} target bit (rang at k) = tally_grows key.geometry.peers (rings target bit) acc next p (rang at k) g p_lt in
       let b : bit_at (after (interrupt_word key target)) bit ≤ bit_at (memory (interrupt_word key target)) bit + rings {A = MemoryOp CallAccess} target bit (rang at k) = set target bit in omega arith;
-  control = λ target lt. let was : bit_at (memory (control_word key target)) 0 + tally key.geometry.peers (λ q. weigh (wins target) (acc q)) ≡ bit_at key.enabled target = i.control target lt in
+  control = λ target lt. let was : bit_at (memory (control_word key target)) 0 + tally key.geometry.peers (λ q. weigh (wins target) (acc q)) ≡ one_if (flag_of key.enabled target) = i.control target lt in
       let b : bit_at (after (control_word key target)) 0 ≡ bit_at (memory (control_word key target)) 0 = ap (λ n. bit_at n 0) (st.neighbour_word (control_word key target) (λ e. omega arith)) in
       let none : wins {A = MemoryOp CallAccess} target (rang at k) ≡ 0 = wins_rang (MemoryOp CallAccess) target at k in
       let c : tally key.geometry.peers (λ q. weigh (wins target) (next q)) ≡ tally key.geometry.peers (λ q. weigh (wins target) (acc q)) + wins {A = MemoryOp CallAccess} target (rang at k) = tally_grows key.geometry.peers (wins target) acc next p (rang at k) g p_lt in omega arith;
@@ -80,7 +80,7 @@ looked_keeps key memory after acc next p n p_lt found st g i = record {
       let none : rings {A = MemoryOp CallAccess} target bit (looked n) ≡ 0 = rings_looked (MemoryOp CallAccess) target bit n in
       let c : tally key.geometry.peers (λ q. weigh (rings target bit) (next q)) ≡ tally key.geometry.peers (λ q. weigh (rings target bit) (acc q)) + rings {A = MemoryOp CallAccess} target bit (looked n) = tally_grows key.geometry.peers (rings target bit) acc next p (looked n) g p_lt in
       let b : weigh (finds bit) (next target) + bit_at (after (interrupt_word key target)) bit ≤ weigh (finds bit) (acc target) + bit_at (memory (interrupt_word key target)) bit = taken target bit in omega arith;
-  control = λ target lt. let was : bit_at (memory (control_word key target)) 0 + tally key.geometry.peers (λ q. weigh (wins target) (acc q)) ≡ bit_at key.enabled target = i.control target lt in
+  control = λ target lt. let was : bit_at (memory (control_word key target)) 0 + tally key.geometry.peers (λ q. weigh (wins target) (acc q)) ≡ one_if (flag_of key.enabled target) = i.control target lt in
       let b : bit_at (after (control_word key target)) 0 ≡ bit_at (memory (control_word key target)) 0 = ap (λ m. bit_at m 0) (st.neighbour_word (control_word key target) (λ e. omega arith)) in
       let none : wins {A = MemoryOp CallAccess} target (looked n) ≡ 0 = wins_looked (MemoryOp CallAccess) target n in
       let c : tally key.geometry.peers (λ q. weigh (wins target) (next q)) ≡ tally key.geometry.peers (λ q. weigh (wins target) (acc q)) + wins {A = MemoryOp CallAccess} target (looked n) = tally_grows key.geometry.peers (wins target) acc next p (looked n) g p_lt in omega arith;
@@ -104,7 +104,7 @@ cleared_keeps key memory after acc next p at n mask p_lt found without st g i = 
       let b : bit_at (after (interrupt_word key target)) bit ≡ bit_at (memory (interrupt_word key target)) bit = ap (λ m. bit_at m bit) (st.neighbour_word (interrupt_word key target) (λ e. omega arith)) in
       let none : rings {A = MemoryOp CallAccess} target bit (cleared at n) ≡ 0 = rings_cleared (MemoryOp CallAccess) target bit at n in
       let c : tally key.geometry.peers (λ q. weigh (rings target bit) (next q)) ≡ tally key.geometry.peers (λ q. weigh (rings target bit) (acc q)) + rings {A = MemoryOp CallAccess} target bit (cleared at n) = tally_grows key.geometry.peers (rings target bit) acc next p (cleared at n) g p_lt in omega arith;
-  control = λ target lt. let was : bit_at (memory (control_word key target)) 0 + tally key.geometry.peers (λ q. weigh (wins target) (acc q)) ≡ bit_at key.enabled target = i.control target lt in
+  control = λ target lt. let was : bit_at (memory (control_word key target)) 0 + tally key.geometry.peers (λ q. weigh (wins target) (acc q)) ≡ one_if (flag_of key.enabled target) = i.control target lt in
       let c : tally key.geometry.peers (λ q. weigh (wins target) (next q)) ≡ tally key.geometry.peers (λ q. weigh (wins target) (acc q)) + wins {A = MemoryOp CallAccess} target (cleared at n) = tally_grows key.geometry.peers (wins target) acc next p (cleared at n) g p_lt in
       let b : bit_at (after (control_word key target)) 0 + wins {A = MemoryOp CallAccess} target (cleared at n) ≡ bit_at (memory (control_word key target)) 0 = gone target in omega arith;
   leave = leave_keeps key acc next p (cleared at n) g (λ target lt shot b. let none : aims {A = MemoryOp CallAccess} target (cleared at n) ≡ 0 = aims_cleared (MemoryOp CallAccess) target at n in omega arith) i.leave;
@@ -141,5 +141,5 @@ are_rung key memory acc i = record {
         let b : tally 64 (λ bit. tally key.geometry.peers (λ p. weigh (rings target bit) (acc p))) ≡ tally key.geometry.peers (λ p. tally 64 (λ bit. weigh (rings target bit) (acc p))) = tally_turned 64 key.geometry.peers (λ p bit. weigh (rings target bit) (acc p)) in
         let c : tally key.geometry.peers (λ p. tally 64 (λ bit. weigh (rings target bit) (acc p))) ≤ tally key.geometry.peers (λ p. weigh (aims target) (acc p)) = tally_most key.geometry.peers _ _ (λ p l. subst (λ k. k ≤ weigh (aims target) (acc p)) (sym (weigh_turned 64 (λ bit. rings target bit) (acc p))) (weigh_most _ (aims target) (rings_bits 64 target) (acc p))) in
         let d : tally key.geometry.peers (λ p. weigh (aims target) (acc p)) ≤ tally key.geometry.peers (λ p. weigh (wins target) (acc p)) = tally_most key.geometry.peers _ _ (λ p l. behind_all target (acc p) (i.leave target p lt l shot)) in
-        let e : bit_at (memory (control_word key target)) 0 + tally key.geometry.peers (λ q. weigh (wins target) (acc q)) ≡ bit_at key.enabled target = i.control target lt in
-        let f : bit_at key.enabled target < 2 = bit_at-lt key.enabled target in omega arith
+        let e : bit_at (memory (control_word key target)) 0 + tally key.geometry.peers (λ q. weigh (wins target) (acc q)) ≡ one_if (flag_of key.enabled target) = i.control target lt in
+        let f : one_if (flag_of key.enabled target) < 2 = one_if_lt (flag_of key.enabled target) in omega arith

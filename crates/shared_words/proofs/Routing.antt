@@ -1,12 +1,10 @@
 -- The routes of a scenario's peers, and the key that is made of them.
-use Rattle.std.proofs.Common.{◌≡◌, ◌≢◌, ℕ, zero, suc, ◌+◌, ◌^◌, ◌<◌, ◌≤◌, ◌==◌, max, nat_lt, Bool, true, false, ◌&&◌, List, [], ◌∷◌, ◌++◌, length, take, get_or, refl, sym, ap, ◌∙◌, subst, arith}
-use Rattle.std.specs.Prelude.{if◌then◌else◌, not, bit_or, slice_index_or}
-use Rattle.std.specs.Int.{bit_at}
+use Rattle.std.proofs.Common.{◌≡◌, ℕ, zero, suc, ◌+◌, ◌<◌, ◌≤◌, ◌==◌, nat_lt, Bool, true, false, ◌&&◌, List, [], ◌∷◌, ◌++◌, length, take, get_or, set, refl, sym, ap, ◌∙◌, subst, arith}
+use Rattle.std.specs.Prelude.{if◌then◌else◌, not, slice_index_or}
 use Rattle.std.proofs.lemmas.Bool.Decides.{nat_tests}
 use Rattle.std.proofs.lemmas.Option.{slice_get_read}
-use Rattle.std.proofs.lemmas.List.{take_more, get_or_append_left, get_or-append-add}
+use Rattle.std.proofs.lemmas.List.{length-set, get_or-set_same, get_or-set_other, take_more, get_or_append_left, get_or-append-add}
 use Rattle.std.proofs.lemmas.Grind.{fold-append}
-use Rattle.std.proofs.lemmas.Nat.Bits.{bit_at_or, bit_at-pow_same, bit_at-pow_other, bit_at-zero}
 use mathlib.Core.Logic.{dite}
 use native.Mathlib.Decide.{ℕ_discrete, dec_lt}
 use Rattle.pci_space.specs.Fields.{is_access}
@@ -19,7 +17,7 @@ use Rattle.doorbell_irq.specs.Routes.{IsRoute}
 use Rattle.lawful_history.specs.Device.{devices_of}
 use Rattle.shared_words.specs.declared.run_setup.RunSetup.{RunSetup}
 use Rattle.shared_words.specs.RunSetups.{IsMadeFor}
-use Rattle.shared_words.specs.Interrupts.{one_if}
+use Rattle.shared_words.specs.Interrupts.{flag_of}
 use Rattle.shared_words.specs.PeerRoutes.{nowhere, route_to, AreRoutes, events_in, events_of, MaySet, AreRoutesOf}
 
 -- The devices along the acts
@@ -72,34 +70,23 @@ routed_more w routes route i p size lt all here = let P : ℕ → Route → Type
     (λ high. let e : p ≡ length routes + 0 = omega arith in let same : i ≡ p = omega arith in
     subst (P p) (sym (ap (λ k. get_or (routes ++ route ∷ []) k nowhere) e ∙ get_or-append-add routes (route ∷ []) 0 nowhere)) (subst (λ k. P k route) same here))
 
--- The masks of the key
+-- The flags of the key
 
-pub bit_there : (mask peer k : ℕ) (flag : Bool) → k ≡ 2 ^ peer → bit_at mask peer ≡ 0 → flag ≡ true → bit_at (bit_or mask k) peer ≡ one_if flag
-bit_there mask peer k flag pow none on = ap (λ n. bit_at (bit_or mask n) peer) pow ∙ (let a : bit_at (bit_or mask (2 ^ peer)) peer ≡ max (bit_at mask peer) (bit_at (2 ^ peer) peer) = bit_at_or mask (2 ^ peer) peer in
-    let one : bit_at (2 ^ peer) peer ≡ 1 = bit_at-pow_same peer in let b : bit_at (bit_or mask (2 ^ peer)) peer ≡ 1 = omega arith in b ∙ sym (ap one_if on))
+-- the flags of the first peers of a list
+abbrev pub AreFlags : (Route → Bool) → List Route → List Bool → ℕ → Type 0
+AreFlags pick routes flags n = (length flags ≡ 8) × ((p : ℕ) → p < n → flag_of flags p ≡ pick (route_to routes p))
 
-pub bit_beside : (mask peer k : ℕ) → k ≡ 2 ^ peer → (p : ℕ) → p ≢ peer → bit_at (bit_or mask k) p ≡ bit_at mask p
-bit_beside mask peer k pow p ne = ap (λ n. bit_at (bit_or mask n) p) pow ∙ (let a : bit_at (bit_or mask (2 ^ peer)) p ≡ max (bit_at mask p) (bit_at (2 ^ peer) p) = bit_at_or mask (2 ^ peer) p in
-    let none : bit_at (2 ^ peer) p ≡ 0 = bit_at-pow_other peer p ne in let b : bit_at (bit_or mask (2 ^ peer)) p ≡ bit_at mask p = omega arith in b)
-
--- The mask of the first peers of a list.
-abbrev pub IsMask : (Route → Bool) → List Route → ℕ → ℕ → Type 0
-IsMask pick routes mask n = ((p : ℕ) → p < n → bit_at mask p ≡ one_if (pick (route_to routes p))) × ((p : ℕ) → n ≤ p → bit_at mask p ≡ 0)
-
-pub mask_none : (pick : Route → Bool) (routes : List Route) → IsMask pick routes 0 0
-mask_none pick routes = (λ p lt. absurd (omega arith), λ p le. bit_at-zero p)
-
-pub mask_more : (pick : Route → Bool) (routes : List Route) (mask next n k : ℕ) (flag : Bool) → k ≡ n → flag ≡ pick (route_to routes n) → bit_at next k ≡ one_if flag → ((p : ℕ) → p ≢ k → bit_at next p ≡ bit_at mask p) → IsMask pick routes mask n → IsMask pick routes next (n + 1)
-mask_more pick routes mask next n k flag same is here beside was = (
-  λ p lt. dite (ℕ_discrete p n) (λ e. ap (bit_at next) (e ∙ sym same) ∙ (here ∙ (ap one_if is ∙ ap (λ q. one_if (pick (route_to routes q))) (sym e))))
-      (λ ne. beside p (λ e. ne (e ∙ same)) ∙ was.0 p (omega arith)),
-  λ p le. beside p (λ e. omega arith) ∙ was.1 p (omega arith),
+pub flags_more : (pick : Route → Bool) (routes : List Route) (flags : List Bool) (n k : ℕ) (flag : Bool) → k ≡ n → n < 8 → flag ≡ pick (route_to routes n) → AreFlags pick routes flags n → AreFlags pick routes (set flags k flag) (n + 1)
+flags_more pick routes flags n k flag same few is was = (
+  length-set flags k flag ∙ was.0,
+  λ p lt. dite (ℕ_discrete p k) (λ e. ap (λ q. get_or (set flags k flag) q false) e ∙ (get_or-set_same flags k flag false (omega arith) ∙ (is ∙ ap (λ q. pick (route_to routes q)) (sym same ∙ sym e))))
+      (λ ne. get_or-set_other flags k p flag false ne ∙ was.1 p (omega arith)),
 )
 
 -- The key that was made for a scenario is made with its routes.
 pub routes_made : (w : World) (key : RunSetup) (routes : List Route) → IsMadeFor w key → AreRoutesOf w routes → AreRoutes key routes
 routes_made w key routes made are = let peers : key.geometry.peers ≡ w.geometry.peers = ap (λ g. g.peers) made.geometry in record {
   count = are.count ∙ sym peers;
-  one_shot = λ p lt. let here : p < w.geometry.peers = subst (λ n. p < n) peers lt in made.one_shot p here ∙ ap one_if (sym (are.each p here).one_shot);
-  enabled = λ p lt. let here : p < w.geometry.peers = subst (λ n. p < n) peers lt in made.enabled p here ∙ ap one_if (sym (are.each p here).enabled);
+  one_shot = λ p lt. let here : p < w.geometry.peers = subst (λ n. p < n) peers lt in made.one_shot p here ∙ sym (are.each p here).one_shot;
+  enabled = λ p lt. let here : p < w.geometry.peers = subst (λ n. p < n) peers lt in made.enabled p here ∙ sym (are.each p here).enabled;
 }

@@ -9,6 +9,10 @@ use Rattle.shared_words.specs.Actions.{Action, accessed, rang, looked, cleared}
 use Rattle.shared_words.specs.Interrupts.{weigh, tally, one_if, rings, aims, finds, wins, strikes, FollowsClears}
 use Rattle.shared_words.specs.SharedMemory.{Appends}
 
+pub one_if_lt : (b : Bool) → one_if b < 2
+one_if_lt true = omega arith
+one_if_lt false = omega arith
+
 pub weigh_none : {A : Type 0} → (f : Action A → ℕ) → weigh f [] ≡ 0
 unfolding weigh
 weigh_none f = refl

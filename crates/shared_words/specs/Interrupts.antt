@@ -1,5 +1,5 @@
 -- How often interrupt words were rung and looked at, and how often Interrupt Control was cleared.
-use Rattle.std.specs.Prelude.{ℕ, zero, suc, ◌≡◌, ◌+◌, ◌*◌, ◌<◌, ◌≤◌, Bool, if◌then◌else◌, ◌==◌, ◌&&◌, List, [], ◌∷◌, ◌++◌, take, replicate}
+use Rattle.std.specs.Prelude.{ℕ, zero, suc, ◌≡◌, ◌+◌, ◌*◌, ◌<◌, ◌≤◌, Bool, true, false, if◌then◌else◌, ◌==◌, ◌&&◌, List, [], ◌∷◌, ◌++◌, take, replicate, get_or}
 use Rattle.std.specs.Int.{bit_at}
 use Rattle.section_map.specs.Geometry.{word_count}
 use Rattle.shared_words.specs.declared.run_setup.RunSetup.{RunSetup}
@@ -22,16 +22,23 @@ session_word key p = word_count key.geometry + 2 * key.geometry.peers + p
 abbrev pub all_words : RunSetup → ℕ
 all_words key = word_count key.geometry + 2 * key.geometry.peers + 2
 
--- The interrupt words of the peers below n before any action, and all words then.
-unfoldable pub interrupts_at_start : (enabled n : ℕ) → List ℕ
+abbrev pub one_if : Bool → ℕ
+one_if b = if b then 1 else 0
+
+-- the flag of a peer
+abbrev pub flag_of : List Bool → ℕ → Bool
+flag_of flags p = get_or flags p false
+
+-- the words for interrupts of the peers below n before any action, and all words
+unfoldable pub interrupts_at_start : (enabled : List Bool) (n : ℕ) → List ℕ
 interrupts_at_start enabled zero = []
-interrupts_at_start enabled (suc n) = interrupts_at_start enabled n ++ 0 ∷ bit_at enabled n ∷ []
+interrupts_at_start enabled (suc n) = interrupts_at_start enabled n ++ 0 ∷ one_if (flag_of enabled n) ∷ []
 
 abbrev pub words_at_start : RunSetup → List ℕ
 words_at_start key = (replicate (word_count key.geometry) 0 ++ interrupts_at_start key.enabled key.geometry.peers) ++ 0 ∷ 0 ∷ []
 
 abbrev pub IsOneShot : RunSetup → ℕ → Type 0
-IsOneShot key target = bit_at key.one_shot target ≡ 1
+IsOneShot key target = flag_of key.one_shot target ≡ true
 
 -- Counts
 
@@ -44,10 +51,7 @@ unfoldable pub tally : ℕ → (ℕ → ℕ) → ℕ
 tally zero f = 0
 tally (suc n) f = tally n f + f n
 
-abbrev pub one_if : Bool → ℕ
-one_if b = if b then 1 else 0
-
--- The action sets this bit at this target.
+-- the action sets this bit at this target
 unfoldable pub rings : {A : Type 0} → (target bit : ℕ) → Action A → ℕ
 rings target bit (accessed a) = 0
 rings target bit (rang at b) = one_if ((at == target) && (b == bit))
@@ -100,7 +104,7 @@ pub record Interrupts {A : Type 0} (key : RunSetup) (memory : ℕ → ℕ) (acc 
   pub rung : (target bit : ℕ) → target < key.geometry.peers →
       weigh (finds bit) (acc target) + bit_at (memory (interrupt_word key target)) bit ≤ tally key.geometry.peers (λ p. weigh (rings target bit) (acc p))
   pub control : (target : ℕ) → target < key.geometry.peers →
-      bit_at (memory (control_word key target)) 0 + tally key.geometry.peers (λ p. weigh (wins target) (acc p)) ≡ bit_at key.enabled target
+      bit_at (memory (control_word key target)) 0 + tally key.geometry.peers (λ p. weigh (wins target) (acc p)) ≡ one_if (flag_of key.enabled target)
   pub leave : (target p : ℕ) → target < key.geometry.peers → p < key.geometry.peers → IsOneShot key target → FollowsClears target (acc p)
 
 -- Of each target and bit: if any peer rang it, it is set now or a look found it. If any peer

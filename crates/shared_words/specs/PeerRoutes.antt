@@ -1,6 +1,5 @@
 -- The routes of interrupts to running peers, as the acts of their scenario set the devices.
 use Rattle.std.specs.Prelude.{ℕ, ◌≡◌, ◌<◌, true, false, List, [], ◌∷◌, ◌++◌, length, get_or}
-use Rattle.std.specs.Int.{bit_at}
 use Rattle.std.specs.List.{fold}
 use Rattle.doorbell_irq.specs.declared.route.Route.{Route}
 use Rattle.pci_space.specs.Fields.{is_access}
@@ -11,7 +10,7 @@ use Rattle.scenario_text.specs.declared.acts.Act.TheVariants as act
 use Rattle.scenario_text.specs.Scenario.{World}
 use Rattle.lawful_history.specs.Device.{devices_of}
 use Rattle.shared_words.specs.declared.run_setup.RunSetup.{RunSetup}
-use Rattle.shared_words.specs.Interrupts.{one_if}
+use Rattle.shared_words.specs.Interrupts.{flag_of}
 
 -- The route to a peer. A peer that isn't there gets no interrupt.
 abbrev pub nowhere : Route
@@ -23,8 +22,8 @@ route_to routes target = get_or routes target nowhere
 -- These are the routes of all peers with which the words were made.
 pub record AreRoutes (key : RunSetup) (routes : List Route) : Type 0 where
   pub count : length routes ≡ key.geometry.peers
-  pub one_shot : (p : ℕ) → p < key.geometry.peers → bit_at key.one_shot p ≡ one_if (route_to routes p).one_shot
-  pub enabled : (p : ℕ) → p < key.geometry.peers → bit_at key.enabled p ≡ one_if (route_to routes p).enabled
+  pub one_shot : (p : ℕ) → p < key.geometry.peers → flag_of key.one_shot p ≡ (route_to routes p).one_shot
+  pub enabled : (p : ℕ) → p < key.geometry.peers → flag_of key.enabled p ≡ (route_to routes p).enabled
 
 -- The device events of an act, and those of all acts, the newest first.
 abbrev pub events_in : Act → List Event

@@ -1,7 +1,6 @@
 -- The parts of a scenario on which the rule of a table depends: its sizes, its wiring, its honest
 -- link peers, and how peers take interrupts.
 use Rattle.std.specs.Prelude.{◌≡◌, ℕ, ◌*◌, ◌<◌, ◌≤◌, ◌==◌, if◌then◌else◌, Bool, false, []}
-use Rattle.std.specs.Int.{bit_at}
 use Rattle.section_map.specs.Geometry.{IsShape, section_start}
 use Rattle.split_ring.specs.Layout.{IsQueue}
 use Rattle.scenario_text.specs.Scenario.{World, is_link}
@@ -11,7 +10,7 @@ use Rattle.lawful_history.specs.Device.{devices_of}
 use Rattle.lawful_history.specs.Sides.{traffic_vector, config_of}
 use Rattle.link_invariant.specs.LinkConfig.{LinkConfig}
 use Rattle.shared_words.specs.declared.run_setup.RunSetup.{RunSetup}
-use Rattle.shared_words.specs.Interrupts.{one_if}
+use Rattle.shared_words.specs.Interrupts.{flag_of}
 use Rattle.shared_words.specs.PeerRoutes.{events_of}
 
 -- A world of these sizes without acts, of the version of its queue, and a peer of it as the call
@@ -43,5 +42,5 @@ pub record IsMadeFor (world : World) (key : RunSetup) : Type 0 where
   pub queue : key.queue ≡ world.queue
   pub wiring : key.wiring ≡ world.wiring
   pub honest : (p : ℕ) → honest_of key p ≡ is_link world p
-  pub enabled : (p : ℕ) → p < world.geometry.peers → bit_at key.enabled p ≡ one_if (is_enabled (bytes_after (devices_of world) (events_of world.acts) p))
-  pub one_shot : (p : ℕ) → p < world.geometry.peers → bit_at key.one_shot p ≡ one_if (is_one_shot (bytes_after (devices_of world) (events_of world.acts) p))
+  pub enabled : (p : ℕ) → p < world.geometry.peers → flag_of key.enabled p ≡ is_enabled (bytes_after (devices_of world) (events_of world.acts) p)
+  pub one_shot : (p : ℕ) → p < world.geometry.peers → flag_of key.one_shot p ≡ is_one_shot (bytes_after (devices_of world) (events_of world.acts) p)

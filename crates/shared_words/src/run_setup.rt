@@ -1,8 +1,7 @@
 //! The parameters of the rule of a table.
-ghost use Rattle.std.specs.Prelude.{◌≡◌, ◌≢◌, ℕ, ◌<◌, ◌≤◌, length};
-ghost use Rattle.std.specs.Int.{bit_at};
+ghost use Rattle.std.specs.Prelude.{◌≡◌, ℕ, ◌<◌, ◌≤◌, length};
 ghost use Rattle.scenario_text.specs.Spelling.{world_of};
-ghost use Rattle.shared_words.specs.Interrupts.{one_if};
+ghost use Rattle.shared_words.specs.Interrupts.{flag_of};
 ghost use Rattle.shared_words.specs.PeerRoutes.{route_to, AreRoutesOf};
 ghost use Rattle.shared_words.specs.RunSetups.{IsFit, IsMadeFor};
 
@@ -25,43 +24,34 @@ pub struct RunSetup {
     pub first_is_honest: bool,
     /// Whether peer 1 is honest.
     pub second_is_honest: bool,
-    /// Bit P is bit 0 of peer P's Interrupt Control before any action.
-    pub enabled: u32,
-    /// Bit P is 1 exactly if peer P is in one-shot mode.
-    pub one_shot: u32,
+    /// Of each peer, bit 0 of its Interrupt Control before any action.
+    pub enabled: [bool; 8],
+    /// Of each peer, whether it is in one-shot mode.
+    pub one_shot: [bool; 8],
 }
 
-/// The mask after one more peer, whose bit isn't set in `mask`.
-fn with_bit(mask: u32, peer: u32, flag: bool) -> u32
-    requires { (peer < 32) × (bit_at mask peer ≡ 0) }
-    ensures here { bit_at result peer ≡ one_if flag }
-    ensures beside { (p : ℕ) → p ≢ peer → bit_at result p ≡ bit_at mask p }
-{
-    if flag { mask | (1u32 << peer) } else { mask }
-}
-
-/// The mask of the peers whose interrupts are enabled.
-fn enabled_of(routes: &[Route]) -> u32
+/// Of each peer, whether its interrupts are enabled.
+fn enabled_of(routes: &[Route]) -> [bool; 8]
     requires { length routes.now ≤ 8 }
-    ensures { (p : ℕ) → p < length routes.now → bit_at result p ≡ one_if (route_to routes.now p).enabled }
+    ensures { (p : ℕ) → p < length routes.now → flag_of result p ≡ (route_to routes.now p).enabled }
 {
-    let mut mask = 0;
+    let mut flags = [false; 8];
     for peer in 0..routes.len() {
-        mask = with_bit(mask, peer as u32, routes[peer].enabled);
+        flags[peer] = routes[peer].enabled;
     }
-    mask
+    flags
 }
 
-/// The mask of the peers in one-shot mode.
-fn one_shot_of(routes: &[Route]) -> u32
+/// Of each peer, whether it is in one-shot mode.
+fn one_shot_of(routes: &[Route]) -> [bool; 8]
     requires { length routes.now ≤ 8 }
-    ensures { (p : ℕ) → p < length routes.now → bit_at result p ≡ one_if (route_to routes.now p).one_shot }
+    ensures { (p : ℕ) → p < length routes.now → flag_of result p ≡ (route_to routes.now p).one_shot }
 {
-    let mut mask = 0;
+    let mut flags = [false; 8];
     for peer in 0..routes.len() {
-        mask = with_bit(mask, peer as u32, routes[peer].one_shot);
+        flags[peer] = routes[peer].one_shot;
     }
-    mask
+    flags
 }
 
 impl RunSetup {

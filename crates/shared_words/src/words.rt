@@ -1,10 +1,9 @@
 //! The shared words, and the passes by which threads act on them.
 ghost use Rattle.std.specs.Prelude.{◌≡◌, ◌<◌, ◌≤◌, ◌+◌, ◌++◌, ◌∷◌, [], None, IfOk, OnOk, length};
-ghost use Rattle.std.specs.Int.{bit_at};
 ghost use Rattle.scenario_text.specs.Running.{not_running};
 ghost use Rattle.scenario_text.specs.Spelling.{world_of};
 ghost use Rattle.shared_words.specs.RunSetups.{IsFit};
-ghost use Rattle.shared_words.specs.Interrupts.{words_at_start};
+ghost use Rattle.shared_words.specs.Interrupts.{one_if, words_at_start};
 ghost use Rattle.shared_words.specs.Rules.{lower, upper, learns, LearnsExactly, IsLearned};
 ghost use Rattle.shared_words.specs.Passes.{IsOf, IsWhole, IsUnused, lower_pass, upper_pass, join_passes};
 
@@ -42,12 +41,11 @@ impl Model for Pass {
 }
 
 /// Appends the interrupt words of one more peer.
-fn push_words(words: &mut Vec<u64>, enabled: u32, peer: u32) -> Result<(), NoMemory>
-    requires { peer < 32 }
-    ensures { OnOk result (words.new.items ≡ words.old.items ++ 0 ∷ bit_at enabled peer ∷ []) }
+fn push_words(words: &mut Vec<u64>, enabled: bool) -> Result<(), NoMemory>
+    ensures { OnOk result (words.new.items ≡ words.old.items ++ 0 ∷ one_if enabled ∷ []) }
 {
     words.push(0)?;
-    words.push(u64::from((enabled >> peer) & 1))?;
+    words.push(u64::from(enabled))?;
     Ok(())
 }
 
@@ -58,7 +56,7 @@ fn first_words(alloc: Global, key: &RunSetup) -> Result<Vec<u64>, NoMemory>
 {
     let mut words = Vec::from_elem(alloc, 0u64, key.geometry.words() as usize)?;
     for peer in 0..key.geometry.peers() {
-        push_words(&mut words, key.enabled, peer)?;
+        push_words(&mut words, key.enabled[peer as usize])?;
     }
     words.push(0)?;
     words.push(0)?;

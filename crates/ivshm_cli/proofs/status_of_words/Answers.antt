@@ -2,7 +2,7 @@ use Rattle.std.proofs.Common.{ap, refl, subst}
 use Rattle.std.specs.Prelude.{map, List}
 use Rattle.std.specs.String.{string_bytes}
 use Rattle.ivshm_cli.specs.Due.{Runs}
-use Rattle.ivshm_cli.specs.Forms.{form_of}
+use Rattle.program_edge.specs.Words.{form_of}
 use Rattle.ivshm_cli.proofs.Causes.{of_words, usage_runs}
 use Rattle.ivshm_cli.proofs.status_of_words.Goals as goal
 

@@ -7,7 +7,7 @@ use Rattle.record_text.specs.Spelling.{Record, spelling}
 use Rattle.sim_world.specs.RecordWriting.{lawful_record}
 use Rattle.trace_replay.specs.declared.verdict.Verdict.{Verdict}
 use Rattle.trace_replay.specs.Verdict.{IsVerdict}
-use Rattle.ivshm_cli.specs.declared.words.Command.TheVariants.{Renew}
+use Rattle.program_edge.specs.declared.words.Command.TheVariants.{Renew}
 use Rattle.ivshm_cli.specs.declared.replies.Reply.{Reply}
 use Rattle.ivshm_cli.specs.Replay.{Spells, IsRenewed}
 use Rattle.ivshm_cli.specs.Forms.{Replies}

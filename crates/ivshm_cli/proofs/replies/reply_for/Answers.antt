@@ -1,7 +1,7 @@
 use Rattle.std.proofs.Common.{sym, subst}
 use Rattle.ivshm_cli.specs.declared.replies.Reply.{Reply}
-use Rattle.ivshm_cli.specs.declared.words.Command.{Command}
-use Rattle.ivshm_cli.specs.declared.words.Command.TheVariants.{Run}
+use Rattle.program_edge.specs.declared.words.Command.{Command}
+use Rattle.program_edge.specs.declared.words.Command.TheVariants.{Run}
 use Rattle.ivshm_cli.specs.Forms.{Replies}
 use Rattle.ivshm_cli.proofs.replies.reply_for.Goals as goal
 

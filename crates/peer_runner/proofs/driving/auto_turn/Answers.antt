@@ -60,9 +60,9 @@ returns-in-Some g c = record {
       let due : due_word r.place r.met ≡ Some c.in-Some.word = ap (due_word r.place) (sym on.is.met) ∙ (sym (c.word_due.ensures _ r.end r.place on.there.refines.refines) ∙ c.in-Some.is) in
       let word = c.in-Some.word in let number = c.exchange_session_number.result in let next = met_on word r number in
       let is : IsAutoPeer _ next = record { planned = on.is.planned; looks = on.is.looks; ringing = on.is.ringing; opened = on.is.opened ∙ sym (met_opened word r.numbers number); met = refl } in
-      let there = met_there key me routes word r c.args.pass.now c.exchange_session_number.new.pass peer.driven.end number c.requires.honest.1 c.exchange_session_number.ensures.0 on.there due in (
+      let there = met_there key me routes word r c.args.pass.now c.exchange_session_number.new.pass peer.driven.end number c.requires.honest.1 c.exchange_session_number.ensures.pass on.there due in (
         next,
-        course_on _ key me routes plan spans r next c.args.pass.now c.exchange_session_number.new.pass peer _ on (by_word word number (record { left = left; first = first }) due (λ e. c.exchange_session_number.ensures.1 e ∙ ap (λ n. n + 1) on.is.opened)) there is (ap (λ (h : PassView). h.table_id) c.exchange_session_number.ensures.0),
+        course_on _ key me routes plan spans r next c.args.pass.now c.exchange_session_number.new.pass peer _ on (by_word word number (record { left = left; first = first }) due (λ e. c.exchange_session_number.ensures.number e ∙ ap (λ n. n + 1) on.is.opened)) there is (ap (λ (h : PassView). h.table_id) c.exchange_session_number.ensures.pass),
         (told_further me r.turns next.turns (turn_met word number) c.args.lines.now c.args.lines.now refl told (sym (append-nil c.args.lines.now) ∙ ap (λ ls. c.args.lines.now ++ ls) (sym (met_silent me number word))), refl),
       );
 }

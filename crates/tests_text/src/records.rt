@@ -1,5 +1,5 @@
 //! The record of running peers, one of which is reset.
-ghost use Rattle.std.specs.Prelude.{◌≡◌};
+ghost use Rattle.std.specs.Prelude.{◌≡◌, IfOk};
 ghost use Rattle.scenario_text.specs.Running.{has_turn};
 ghost use Rattle.scenario_text.specs.Spelling.{world_of};
 
@@ -41,9 +41,11 @@ fn alone(alloc: Global, scenario: Scenario, trace: OwnTrace) -> Result<Option<Ru
     Ok(Some(RunTrace { scenario, peers }))
 }
 
-#[test]
-fn running_record_of_a_peer_that_is_reset(rt: HostRuntime) -> Result<(), Fail> {
-    let mut lines = Lines::new(rt.alloc());
+/// Returns what peer 0 did: a write of its State, a reset, and a session.
+fn reset_once(alloc: Global) -> Result<OwnTrace, NoMemory>
+    ensures { IfOk result (λ trace. trace.peer ≡ 0) }
+{
+    let mut lines = Lines::new(alloc);
     lines.push(Line::State { peer: 0, value: 1 })?;
     lines.push(Line::Reset { peer: 0 })?;
     lines.push(Line::Session {
@@ -51,21 +53,38 @@ fn running_record_of_a_peer_that_is_reset(rt: HostRuntime) -> Result<(), Fail> {
         opened: 2,
         other: 1,
     })?;
-    let own = OwnTrace {
+    Ok(OwnTrace {
         peer: 0,
         lines,
         turns: 9,
         finished: true,
-    };
-    let scenario = scenario_text::parse(rt.alloc(), WITH_A_RESET)?;
-    let trace = alone(rt.alloc(), scenario, own)?;
-    assert!(rt; trace.is_some(), "peer 0 alone runs");
-    let mut text = b"run 2\n".to_vec(rt.alloc())?;
+    })
+}
+
+/// Returns the text of this record.
+fn text_of(alloc: Global) -> Result<Vec<u8>, Fail> {
+    let mut text = b"run 2\n".to_vec(alloc)?;
     text.extend_from_slice(WITH_A_RESET)?;
     text.extend_from_slice(b"peer 0\ns 0 1\nx 0\nsession 0 2 1\nturns 9\nfinished\nend 6\n")?;
-    if let Some(trace) = trace {
-        let printed = print_run(rt.alloc(), &trace)?;
-        assert!(rt; printed == text, "the text of a running record");
-    }
+    Ok(text)
+}
+
+/// Whether this is the text of the record.
+fn is_printed(alloc: Global, trace: &RunTrace, text: &[u8]) -> Result<bool, Fail> {
+    Ok(print_run(alloc, trace)?.as_slice() == text)
+}
+
+#[test]
+fn running_record_of_a_peer_that_is_reset(rt: HostRuntime) -> Result<(), Fail> {
+    let alloc = rt.alloc();
+    let scenario = scenario_text::parse(alloc, WITH_A_RESET)?;
+    let Some(trace) = alone(alloc, scenario, reset_once(alloc)?)? else {
+        panic!(rt; "peer 0 alone runs");
+    };
+    let text = text_of(alloc)?;
+    assert!(rt;
+        is_printed(alloc, &trace, &text)?,
+        "the text of a running record"
+    );
     Ok(())
 }

@@ -37,7 +37,7 @@ use record_text::{RecordFault, Trace, parse as parse_record};
 use sampling_port::ports;
 use scenario_text::{Scenario, ScenarioFault, load, parse};
 use section_dump::{DumpFault, dump};
-use sim_world::{play, simulate_text};
+use sim_world::{play_load, simulate_text};
 use std::alloc::{AllocError, Global};
 use std::thread::Threads;
 use thiserror::Error;
@@ -266,9 +266,10 @@ fn loaded(alloc: Global, count: u32) -> Result<Vec<u8>, NoMemory>
     ensures { IfOk result (λ text. IsLoadOf count text.items) }
 {
     records_tell_one_history();
-    let scenario = load(alloc, count)?;
-    let mut counts = Counts::none(&scenario);
-    match play(alloc, &scenario, 2, &mut counts) {
+    // the sizes are those of every load
+    let least = load(alloc, 1)?;
+    let mut counts = Counts::none(&least);
+    match play_load(alloc, count, &mut counts) {
         Ok(()) => {}
         Err(_) => return Err(NoMemory),
     }

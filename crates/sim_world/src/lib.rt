@@ -2,7 +2,8 @@
 //! record, written by `record_text`. The contract of `simulate` promises the lines that a record of
 //! version 2 has of the scenario's one lawful history, for all acts. The contract of
 //! `simulate_text` promises the text of this record, and keeps no history in memory. The contract
-//! of `play` promises that a listener receives the same lines in parts.
+//! of `play` promises that a listener receives the same lines in parts, and that of `play_load`
+//! that it does so of a load, whose acts aren't held.
 //!
 //! # Design
 //!
@@ -14,6 +15,8 @@
 //!   reference to the scenario.
 //! - `play` passes lines on as soon as the simulator keeps 256 of them, also within an act of many
 //!   turns. So the number of kept lines doesn't grow with the history.
+//! - The acts of a load are those of a shorter load, at other positions. So `play_load` holds only
+//!   the shorter one (`act_of`).
 #![tactic(auto)]
 
 ghost use Rattle.std.specs.Prelude.{◌≡◌, IfOk};
@@ -23,12 +26,14 @@ ghost use Rattle.lawful_history.specs.Lawful.{IsLawfulIn};
 ghost use Rattle.lawful_history.specs.History.{history};
 
 mod laws;
+mod loads;
 mod playing;
 mod record_writer;
 
 use ivs_base::NoMemory;
 use lawful_history::history_is_lawful;
 pub use laws::writes_alike;
+pub use loads::play_load;
 pub use playing::{Listener, Stopped, play};
 use record_text::Trace;
 pub use record_writer::simulate_text;

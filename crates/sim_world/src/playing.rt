@@ -98,7 +98,7 @@ fn play_turns<L: Listener>(
 }
 
 /// Plays one act.
-fn play_act<L: Listener>(
+pub(crate) fn play_act<L: Listener>(
     simulator: &mut Simulator,
     listener: &mut L,
     act: &Act,
@@ -120,10 +120,10 @@ fn play_act<L: Listener>(
 /// Plays a scenario. The listener receives, part by part, the lines that a record of this version
 /// has of the scenario's one lawful history. Returns `HeardEnough` only if the listener stopped the
 /// play, and `NoMemory` if memory ran out or the listener returned it.
-// claim received with Listener::take_lines.received: A listener receives what a record of either
-//    version holds of the computed history, each line once and in order, in parts.
-// claim stopped with Listener::take_lines.stopped: `play` returns `HeardEnough` only if the
-//    listener stopped the play, after the lines of the first events of the schedule.
+// claim received with Listener::take_lines.received, play_load.received: A listener receives what a
+//    record of either version holds of the computed history, each line once and in order, in parts.
+// claim stopped with Listener::take_lines.stopped, play_load.stopped: `play` returns `HeardEnough`
+//    only if the listener stopped the play, after the lines of the first events of the schedule.
 pub fn play<L: Listener>(
     alloc: Global,
     scenario: &Scenario,

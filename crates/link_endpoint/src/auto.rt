@@ -116,6 +116,7 @@ impl Auto {
     /// call.
     // claim refines, open, kept: The call that an automatic end chose opens at its first place. An
     //    offer is of the first frame that isn't accepted yet.
+    #[inline(always)]
     pub fn open(&self, end: &mut Endpoint, choice: Choice)
         requires closed { is_busy end.old ≡ false }
         requires fits { MayOpen end.old.config.sizes.mtu choice self.now.frames }

@@ -1,8 +1,8 @@
 -- The scenario that offers frames is a scenario.
-use Rattle.std.proofs.Common.{◌≡◌, ℕ, zero, suc, ◌+◌, ◌-◌, ◌*◌, ◌<◌, ◌≤◌, Bool, true, List, [], ◌∷◌, ◌++◌, length, map, Some, refl, sym, ap, subst, ◌∙◌, arith, append_assoc, inl, inr}
+use Rattle.section_map.specs.declared.limits.TheConstants.{PAGE}
+use Rattle.std.proofs.Common.{◌≡◌, ℕ, zero, suc, ◌+◌, ◌-◌, ◌*◌, ◌<◌, ◌≤◌, Bool, true, List, [], ◌∷◌, ◌++◌, length, map, Some, refl, sym, ap, subst, ◌∙◌, arith, inl, inr}
 use Rattle.std.specs.Prelude.{slice_get, All}
 use Rattle.std.specs.List.{range_with_len, flat_map}
-use Rattle.std.proofs.lemmas.List.{append-nil}
 use Rattle.std.proofs.lemmas.List.Elements.{All-append, All-head, All-tail, All-nil, All-cons}
 use Rattle.std.proofs.lemmas.List.Sums.{sum_by-cons, sum_by-append}
 use Rattle.std.proofs.lemmas.Bool.{le-leb}
@@ -12,34 +12,19 @@ use Rattle.section_map.specs.Faults.{shape_of}
 use Rattle.section_map.specs.Geometry.{Shape, IsShape}
 use Rattle.split_ring.specs.Layout.{Sizes, queue_size}
 use Rattle.pci_space.specs.declared.wiring.Wiring.TheVariants.{Msix}
+use Rattle.scenario_text.specs.declared.limits.TheConstants.{MOST_ACTS}
 use Rattle.scenario_text.specs.declared.acts.Act.{Act}
 use Rattle.scenario_text.specs.declared.acts.Act.TheVariants.{Auto, Offer, Turn}
 use Rattle.scenario_text.specs.Acts.{cost, turns_of, has_auto, has_call}
 use Rattle.scenario_text.specs.Scenario.{World, IsAllowed, AreAllowed, IsWorld}
+use Rattle.scenario_text.specs.Loads.{rounds}
 use Rattle.scenario_text.specs.Sizes.{is_queue}
 use Rattle.scenario_text.proofs.SizeLaws.{has_queue}
-use Rattle.frame_capture.specs.Feed.{round_count, act_count, rounds, feed_acts, feed_world, IsTooLarge}
+use Rattle.scenario_text.proofs.LoadLaws.{one_of}
+use Rattle.frame_capture.specs.declared.feeding.TheConstants.{FEED_MTU, FEED_OUT, FEED_STEPS, LONGEST_OFFERED}
+use Rattle.frame_capture.specs.Feed.{round_count, act_count, feed_acts, feed_world, IsTooLarge}
 use Rattle.frame_capture.specs.Offers.{IsFrame}
 use Rattle.frame_capture.proofs.Texts.{feed_text}
-
--- ---- one more round
-
-pub no_rounds : (front : List Act) → front ≡ front ++ rounds 0
-unfolding rounds
-no_rounds front = sym (append-nil front)
-
-rounds_last : (a n : ℕ) → flat_map (λ _. Turn 0 1000 ∷ Turn 1 1000 ∷ []) (range_with_len a (suc n)) ≡ flat_map (λ _. Turn 0 1000 ∷ Turn 1 1000 ∷ []) (range_with_len a n) ++ Turn 0 1000 ∷ Turn 1 1000 ∷ []
-rounds_last a zero = refl
-rounds_last a (suc n) = ap (λ (t : List Act). Turn 0 1000 ∷ Turn 1 1000 ∷ t) (rounds_last (a + 1) n)
-
-pub rounds_more : (acts mid front now : List Act) (count : ℕ) → acts ≡ front ++ rounds count → mid ≡ acts ++ Turn 0 1000 ∷ [] → now ≡ mid ++ Turn 1 1000 ∷ [] → now ≡ front ++ rounds (count + 1)
-unfolding rounds
-rounds_more acts mid front now count before first second =
-    let e : count + 1 ≡ suc count = omega arith in
-    second ∙ ap (λ (t : List Act). t ++ Turn 1 1000 ∷ []) first ∙ append_assoc acts (Turn 0 1000 ∷ []) (Turn 1 1000 ∷ [])
-    ∙ ap (λ (t : List Act). t ++ Turn 0 1000 ∷ Turn 1 1000 ∷ []) before
-    ∙ append_assoc front (rounds count) (Turn 0 1000 ∷ Turn 1 1000 ∷ [])
-    ∙ ap (λ (t : List Act). front ++ t) (sym (ap rounds e ∙ rounds_last 0 count))
 
 -- ---- each act is allowed
 
@@ -47,8 +32,8 @@ rounds_more acts mid front now count before first second =
 abbrev world_with : List Act → World
 world_with acts = record {
   version = 1;
-  geometry = shape_of 2 4096 0 520192;
-  queue = record { version = 1; out = 520192; mtu = 16384 };
+  geometry = shape_of 2 PAGE 0 FEED_OUT;
+  queue = record { version = 1; out = FEED_OUT; mtu = FEED_MTU };
   wiring = Msix 2;
   honest = true ∷ true ∷ [];
   acts = acts;
@@ -65,7 +50,7 @@ offer_free acts zero frame below is before = record {
   order = refl;
   range = refl;
   peer = refl;
-  frame = are_true _ _ (le-leb 14 (length frame) is.least) (le-leb (length frame) 16402 is.most);
+  frame = are_true _ _ (le-leb 14 (length frame) is.least) (le-leb (length frame) LONGEST_OFFERED is.most);
 }
 offer_free acts (suc zero) frame below is before = record {
   values = (omega arith, omega arith, tt);
@@ -73,14 +58,14 @@ offer_free acts (suc zero) frame below is before = record {
   order = refl;
   range = refl;
   peer = refl;
-  frame = are_true _ _ (le-leb 14 (length frame) is.least) (le-leb (length frame) 16402 is.most);
+  frame = are_true _ _ (le-leb 14 (length frame) is.least) (le-leb (length frame) LONGEST_OFFERED is.most);
 }
 offer_free acts (suc (suc peer)) frame below is before = absurd (omega arith)
 
-first_turn_free : (acts : List Act) → IsFree acts (Turn 0 1000)
+first_turn_free : (acts : List Act) → IsFree acts (Turn 0 FEED_STEPS)
 first_turn_free acts before = record { values = (omega arith, omega arith, (omega arith, omega arith, tt)); bytes = refl; order = refl; range = refl; peer = refl; frame = refl }
 
-second_turn_free : (acts : List Act) → IsFree acts (Turn 1 1000)
+second_turn_free : (acts : List Act) → IsFree acts (Turn 1 FEED_STEPS)
 second_turn_free acts before = record { values = (omega arith, omega arith, (omega arith, omega arith, tt)); bytes = refl; order = refl; range = refl; peer = refl; frame = refl }
 
 first_auto : (acts : List Act) (peer : ℕ) → peer < 2 → IsAllowed (world_with acts) [] (Auto peer 0)
@@ -89,7 +74,7 @@ first_auto acts zero below = record { values = (omega arith, omega arith, (omega
 first_auto acts (suc zero) below = record { values = (omega arith, omega arith, (omega arith, omega arith, tt)); bytes = refl; order = refl; range = refl; peer = refl; frame = refl }
 first_auto acts (suc (suc peer)) below = absurd (omega arith)
 
-second_auto : (acts : List Act) (peer count : ℕ) → peer < 2 → count ≤ 4000000 → IsAllowed (world_with acts) (Auto peer 0 ∷ []) (Auto (1 - peer) count)
+second_auto : (acts : List Act) (peer count : ℕ) → peer < 2 → count ≤ MOST_ACTS → IsAllowed (world_with acts) (Auto peer 0 ∷ []) (Auto (1 - peer) count)
 unfolding has_auto has_call
 second_auto acts zero count below few = record { values = (omega arith, omega arith, (omega arith, omega arith, tt)); bytes = refl; order = refl; range = refl; peer = refl; frame = refl }
 second_auto acts (suc zero) count below few = record { values = (omega arith, omega arith, (omega arith, omega arith, tt)); bytes = refl; order = refl; range = refl; peer = refl; frame = refl }
@@ -100,23 +85,18 @@ offers_free acts peer [] below all = All-nil (IsFree acts)
 offers_free acts peer (frame ∷ frames) below all =
     All-cons (IsFree acts) (Offer peer frame) _ (offer_free acts peer frame below (All-head IsFrame frame frames all)) (offers_free acts peer frames below (All-tail IsFrame frame frames all))
 
-turns_free : (acts : List Act) (ns : List ℕ) → All (IsFree acts) (flat_map (λ _. Turn 0 1000 ∷ Turn 1 1000 ∷ []) ns)
+turns_free : (acts : List Act) (ns : List ℕ) → All (IsFree acts) (flat_map (λ _. Turn 0 FEED_STEPS ∷ Turn 1 FEED_STEPS ∷ []) ns)
 turns_free acts [] = All-nil (IsFree acts)
 turns_free acts (n ∷ ns) =
-    let later = flat_map (λ _. Turn 0 1000 ∷ Turn 1 1000 ∷ []) ns in
-    All-cons (IsFree acts) (Turn 0 1000) (Turn 1 1000 ∷ later) (first_turn_free acts)
-    (All-cons (IsFree acts) (Turn 1 1000) later (second_turn_free acts) (turns_free acts ns))
+    let later = flat_map (λ _. Turn 0 FEED_STEPS ∷ Turn 1 FEED_STEPS ∷ []) ns in
+    All-cons (IsFree acts) (Turn 0 FEED_STEPS) (Turn 1 FEED_STEPS ∷ later) (first_turn_free acts)
+    (All-cons (IsFree acts) (Turn 1 FEED_STEPS) later (second_turn_free acts) (turns_free acts ns))
 
-each_free : (acts : List Act) (peer : ℕ) (frames : List (List ℕ)) (count : ℕ) → peer < 2 → All IsFrame frames → All (IsFree acts) (map (λ frame. Offer peer frame) frames ++ rounds count)
+each_free : (acts : List Act) (peer : ℕ) (frames : List (List ℕ)) (count : ℕ) → peer < 2 → All IsFrame frames → All (IsFree acts) (map (λ frame. Offer peer frame) frames ++ rounds FEED_STEPS count)
 unfolding rounds
 each_free acts peer frames count below all = All-append (IsFree acts) _ _ (offers_free acts peer frames below all) (turns_free acts (range_with_len 0 count))
 
-one_of : (P : Act → Type 0) (xs : List Act) (k : ℕ) (act : Act) → All P xs → slice_get xs k ≡ Some act → P act
-one_of P [] k act all at = absurd cc
-one_of P (x ∷ xs) zero act all at = subst P (same_some x act at) (All-head P x xs all)
-one_of P (x ∷ xs) (suc k) act all at = one_of P xs k act (All-tail P x xs all) at
-
-all_allowed : (peer count : ℕ) (rest : List Act) → peer < 2 → count ≤ 4000000 → All (IsFree (Auto peer 0 ∷ Auto (1 - peer) count ∷ rest)) rest → AreAllowed (world_with (Auto peer 0 ∷ Auto (1 - peer) count ∷ rest))
+all_allowed : (peer count : ℕ) (rest : List Act) → peer < 2 → count ≤ MOST_ACTS → All (IsFree (Auto peer 0 ∷ Auto (1 - peer) count ∷ rest)) rest → AreAllowed (world_with (Auto peer 0 ∷ Auto (1 - peer) count ∷ rest))
 all_allowed peer count rest below few free zero act at = subst (IsAllowed _ []) (same_some (Auto peer 0) act at) (first_auto _ peer below)
 all_allowed peer count rest below few free (suc zero) act at = subst (IsAllowed _ (Auto peer 0 ∷ [])) (same_some (Auto (1 - peer) count) act at) (second_auto _ peer count below few)
 all_allowed peer count rest below few free (suc (suc k)) act at = one_of (IsFree _) rest k act free at _
@@ -130,13 +110,13 @@ offers_cost peer (frame ∷ frames) =
     let one = sum_by-cons cost (Offer peer frame) (map (λ f. Offer peer f) frames) in
     omega arith
 
-turns_cost : (a n : ℕ) → turns_of (flat_map (λ _. Turn 0 1000 ∷ Turn 1 1000 ∷ []) (range_with_len a n)) ≡ 2000 * n
+turns_cost : (a n : ℕ) → turns_of (flat_map (λ _. Turn 0 FEED_STEPS ∷ Turn 1 FEED_STEPS ∷ []) (range_with_len a n)) ≡ 2000 * n
 turns_cost a zero = refl
 turns_cost a (suc n) =
-    let later = flat_map (λ _. Turn 0 1000 ∷ Turn 1 1000 ∷ []) (range_with_len (a + 1) n) in
+    let later = flat_map (λ _. Turn 0 FEED_STEPS ∷ Turn 1 FEED_STEPS ∷ []) (range_with_len (a + 1) n) in
     let rest = turns_cost (a + 1) n in
-    let one = sum_by-cons cost (Turn 0 1000) (Turn 1 1000 ∷ later) in
-    let two = sum_by-cons cost (Turn 1 1000) later in
+    let one = sum_by-cons cost (Turn 0 FEED_STEPS) (Turn 1 FEED_STEPS ∷ later) in
+    let two = sum_by-cons cost (Turn 1 FEED_STEPS) later in
     omega arith
 
 pub feed_turns : (peer : ℕ) (frames : List (List ℕ)) → turns_of (feed_acts peer frames) ≡ act_count frames
@@ -144,7 +124,7 @@ unfolding rounds
 feed_turns peer frames =
     let offers = offers_cost peer frames in
     let turns = turns_cost 0 (round_count frames) in
-    let both = sum_by-append cost (map (λ f. Offer peer f) frames) (rounds (round_count frames)) in
+    let both = sum_by-append cost (map (λ f. Offer peer f) frames) (rounds FEED_STEPS (round_count frames)) in
     let all = map (λ f. Offer peer f) frames ++ rounds (round_count frames) in
     let first = sum_by-cons cost (Auto peer 0) (Auto (1 - peer) (length frames) ∷ all) in
     let second = sum_by-cons cost (Auto (1 - peer) (length frames)) all in
@@ -152,11 +132,11 @@ feed_turns peer frames =
 
 -- ---- the scenario
 
-pub least_queue : is_queue (record { version = 1; out = 520192; mtu = 16384 }) ≡ true
+pub least_queue : is_queue (record { version = 1; out = FEED_OUT; mtu = FEED_MTU }) ≡ true
 unfolding is_queue queue_size
 least_queue = refl
 
-has_shape : IsShape (shape_of 2 4096 0 520192)
+has_shape : IsShape (shape_of 2 PAGE 0 FEED_OUT)
 has_shape = record {
   two_peers = omega arith;
   most_peers = omega arith;
@@ -169,7 +149,7 @@ has_shape = record {
   room = omega arith;
 }
 
-pub feed_is_world : (peer : ℕ) (frames : List (List ℕ)) → peer < 2 → All IsFrame frames → act_count frames ≤ 4000000 → IsWorld (feed_world peer frames)
+pub feed_is_world : (peer : ℕ) (frames : List (List ℕ)) → peer < 2 → All IsFrame frames → act_count frames ≤ MOST_ACTS → IsWorld (feed_world peer frames)
 unfolding feed_world
 feed_is_world peer frames below all few = let turns = feed_turns peer frames in record {
   version = refl;
@@ -184,18 +164,18 @@ feed_is_world peer frames below all few = let turns = feed_turns peer frames in 
 }
 
 -- The scenario from its parts.
-pub made_of : (geometry : Shape) (queue : Sizes) (honest : List Bool) (acts : List Act) (peer : ℕ) (frames : List (List ℕ)) → geometry ≡ shape_of 2 4096 0 520192 → queue ≡ record { version = 1; out = 520192; mtu = 16384 } → honest ≡ true ∷ true ∷ []
+pub made_of : (geometry : Shape) (queue : Sizes) (honest : List Bool) (acts : List Act) (peer : ℕ) (frames : List (List ℕ)) → geometry ≡ shape_of 2 PAGE 0 FEED_OUT → queue ≡ record { version = 1; out = FEED_OUT; mtu = FEED_MTU } → honest ≡ true ∷ true ∷ []
     → acts ≡ feed_acts peer frames → ◌≡◌ {A = World} (record { version = 1; geometry = geometry; queue = queue; wiring = Msix 2; honest = honest; acts = acts }) (feed_world peer frames)
 unfolding feed_world
 made_of geometry queue honest acts peer frames a b c d = cc
 
 -- ---- too large
 
-pub too_many : (peer : ℕ) (frames : List (List ℕ)) → 4000000 < act_count frames → IsTooLarge (feed_world peer frames)
+pub too_many : (peer : ℕ) (frames : List (List ℕ)) → MOST_ACTS < act_count frames → IsTooLarge (feed_world peer frames)
 unfolding feed_world
 too_many peer frames many = let turns = feed_turns peer frames in inl (omega arith)
 
-pub not_too_large : (peer : ℕ) (frames : List (List ℕ)) → peer < 2 → act_count frames ≤ 4000000 → IsTooLarge (feed_world peer frames) → ⊥
+pub not_too_large : (peer : ℕ) (frames : List (List ℕ)) → peer < 2 → act_count frames ≤ MOST_ACTS → IsTooLarge (feed_world peer frames) → ⊥
 unfolding feed_world
 not_too_large peer frames below few (inl many) = let turns = feed_turns peer frames in omega arith
 not_too_large peer frames below few (inr long) = let text = feed_text peer frames below few in omega arith

@@ -8,6 +8,7 @@ use Rattle.std.proofs.lemmas.Bool.{leb-true}
 use Rattle.line_format.proofs.SpellLaws.{both_true}
 use Rattle.scenario_text.specs.declared.acts.Act.{Act}
 use Rattle.scenario_text.specs.declared.acts.Act.TheVariants.{Offer}
+use Rattle.frame_capture.specs.declared.feeding.TheConstants.{LONGEST_OFFERED}
 use Rattle.frame_capture.specs.declared.packets.Packet.{Packet}
 use Rattle.frame_capture.specs.Feed.{is_offered, offered_frames, weight}
 use Rattle.frame_capture.specs.Offers.{IsFrame}
@@ -38,7 +39,7 @@ pub is_frame : (p : Packet) → AreBytes p.frame → is_offered p ≡ true → I
 is_frame p bytes offered =
     let most = both_true _ _ offered in
     let least = both_true _ _ most.0 in
-    record { least = leb-true 14 (length p.frame) least.1; most = leb-true (length p.frame) 16402 most.1; bytes = bytes }
+    record { least = leb-true 14 (length p.frame) least.1; most = leb-true (length p.frame) LONGEST_OFFERED most.1; bytes = bytes }
 
 pub weight-more : (frames : List (List ℕ)) (frame : List ℕ) → sum_by weight (frames ++ frame ∷ []) ≡ sum_by weight frames + weight frame
 weight-more frames frame = let a = sum_by-append weight frames (frame ∷ []) in let b = sum_by-cons weight frame [] in omega arith

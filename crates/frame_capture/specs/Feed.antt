@@ -1,22 +1,23 @@
 -- The scenario that offers the frames of a capture (profile): two honest link peers choose their
 -- calls. One offers the frames, and the other expects as many.
 use Rattle.std.specs.Prelude.{ℕ, ◌+◌, ◌-◌, ◌*◌, ◌/◌, ◌<◌, ◌==◌, ◌&&◌, ◌⊎◌, Bool, true, nat_le, List, [], ◌∷◌, ◌++◌, length, map, filter, sum_by}
-use Rattle.std.specs.List.{range_with_len, flat_map}
 use Rattle.section_map.specs.declared.limits.TheConstants.{PAGE}
 use Rattle.section_map.specs.Faults.{shape_of}
 use Rattle.split_ring.specs.declared.sizes.TheConstants.{SHORTEST_FRAME}
 use Rattle.pci_space.specs.declared.wiring.Wiring.TheVariants.{Msix}
 use Rattle.scenario_text.specs.declared.acts.Act.{Act}
-use Rattle.scenario_text.specs.declared.acts.Act.TheVariants.{Auto, Offer, Turn}
+use Rattle.scenario_text.specs.declared.acts.Act.TheVariants.{Auto, Offer}
+use Rattle.scenario_text.specs.declared.limits.TheConstants.{LONGEST_TEXT, MOST_ACTS}
 use Rattle.scenario_text.specs.Acts.{turns_of}
+use Rattle.scenario_text.specs.Loads.{rounds}
 use Rattle.scenario_text.specs.Scenario.{World}
 use Rattle.scenario_text.specs.Spelling.{spelling}
-use Rattle.frame_capture.specs.declared.feeding.TheConstants.{MOST_ACTS}
+use Rattle.frame_capture.specs.declared.feeding.TheConstants.{FEED_MTU, FEED_OUT, FEED_STEPS, LONGEST_OFFERED}
 use Rattle.frame_capture.specs.declared.packets.Packet.{Packet}
 
--- A packet is offered if it has its whole frame, of 14 to 16,402 bytes.
+-- A packet is offered if it has its whole frame, of 14 to `LONGEST_OFFERED` bytes.
 abbrev pub is_offered : Packet → Bool
-is_offered p = length p.frame == p.original && nat_le SHORTEST_FRAME (length p.frame) && nat_le (length p.frame) 16402
+is_offered p = length p.frame == p.original && nat_le SHORTEST_FRAME (length p.frame) && nat_le (length p.frame) LONGEST_OFFERED
 
 -- The frames offered, in the order of their packets.
 abbrev pub offered_frames : List Packet → List (List ℕ)
@@ -32,23 +33,19 @@ round_count frames = 300 + length frames / 14 + sum_by weight frames / 500
 
 -- The number of acts of the scenario; a turn counts for its steps.
 abbrev pub act_count : List (List ℕ) → ℕ
-act_count frames = 2 + length frames + 2000 * round_count frames
-
--- `count` rounds of one turn of each peer.
-unfoldable pub rounds : ℕ → List Act
-rounds count = flat_map (λ _. Turn 0 1000 ∷ Turn 1 1000 ∷ []) (range_with_len 0 count)
+act_count frames = 2 + length frames + 2 * FEED_STEPS * round_count frames
 
 -- Both peers choose their calls, this one until it has offered its frames and the other until it
 -- has delivered as many. Then come the rounds.
 abbrev pub feed_acts : (peer : ℕ) → List (List ℕ) → List Act
-feed_acts peer frames = Auto peer 0 ∷ Auto (1 - peer) (length frames) ∷ map (λ frame. Offer peer frame) frames ++ rounds (round_count frames)
+feed_acts peer frames = Auto peer 0 ∷ Auto (1 - peer) (length frames) ∷ map (λ frame. Offer peer frame) frames ++ rounds FEED_STEPS (round_count frames)
 
 -- The scenario in which `peer`, 0 or 1, offers these frames; sizes are in bytes.
 unfoldable pub feed_world : (peer : ℕ) → List (List ℕ) → World
 feed_world peer frames = record {
   version = 1;
-  geometry = shape_of 2 PAGE 0 520192;
-  queue = record { version = 1; out = 520192; mtu = 16384 };
+  geometry = shape_of 2 PAGE 0 FEED_OUT;
+  queue = record { version = 1; out = FEED_OUT; mtu = FEED_MTU };
   wiring = Msix 2;
   honest = true ∷ true ∷ [];
   acts = feed_acts peer frames;
@@ -56,4 +53,4 @@ feed_world peer frames = record {
 
 -- The scenario has more acts than allowed, or a longer text than is read.
 abbrev pub IsTooLarge : World → Type 0
-IsTooLarge w = (MOST_ACTS < turns_of w.acts) ⊎ (16777216 < length (spelling w))
+IsTooLarge w = (MOST_ACTS < turns_of w.acts) ⊎ (LONGEST_TEXT < length (spelling w))

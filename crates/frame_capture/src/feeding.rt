@@ -1,40 +1,39 @@
 //! The scenario that offers the frames of a capture.
 ghost use Rattle.std.specs.Prelude.{◌≡◌, ◌+◌, ◌-◌, ◌*◌, ◌<◌, ◌≤◌, ◌++◌, All, IfOk, OnOk, OnErr, IsErrOf, IfSome, IfNone, OnSome, true, length, map, sum_by};
 ghost use Rattle.section_map.specs.Faults.{shape_of};
+ghost use Rattle.scenario_text.specs.declared.limits.TheConstants.{MOST_ACTS};
 ghost use Rattle.scenario_text.specs.declared.acts.Act.TheVariants.{Offer};
 ghost use Rattle.scenario_text.specs.Acts.{turns_of};
 ghost use Rattle.scenario_text.specs.Spelling.{world_of};
-ghost use Rattle.frame_capture.specs.Feed.{is_offered, offered_frames, weight, round_count, act_count, rounds, feed_acts, feed_world, IsTooLarge};
+ghost use Rattle.frame_capture.specs.Feed.{is_offered, offered_frames, weight, round_count, act_count, feed_acts, feed_world, IsTooLarge};
 ghost use Rattle.frame_capture.specs.Offers.{IsFrame};
 
 use crate::packets::{Capture, Packet};
 use ivs_base::{Frame, NoMemory};
 use pci_space::Wiring;
-use scenario_text::{Act, Acts, Flags, Scenario};
+use scenario_text::{Act, Acts, Flags, MOST_ACTS, Scenario, push_rounds};
 use section_map::{Geometry, PAGE};
-use split_ring::{Queue, SHORTEST_FRAME};
+use split_ring::{FRAME_OVERHEAD, Queue, SHORTEST_FRAME};
 use std::alloc::Global;
 use thiserror::Error;
 
-/// The number of steps in a peer's turn line.
-const STEPS: u32 = 1000;
+/// The number of steps in a turn line of the scenario (profile).
+pub const FEED_STEPS: u32 = 1000;
 
-/// The most acts of a scenario; a turn counts for its steps.
-pub const MOST_ACTS: u64 = 4_000_000;
+/// The size of an output section of the scenario, in bytes: 127 pages (profile).
+pub const FEED_OUT: u64 = 520_192;
 
-/// The size of an output section, in bytes: 127 pages.
-const OUT: u64 = 520_192;
-
-/// The MTU of the link.
-const MTU: u32 = 16_384;
+/// The MTU of the scenario's link (profile).
+pub const FEED_MTU: u32 = 16_384;
 
 /// The longest frame that is offered, in bytes: the MTU and the overhead of a frame.
-const LONGEST: usize = 16_402;
+pub const LONGEST_OFFERED: usize = FEED_MTU as usize + FRAME_OVERHEAD as usize;
 
 /// Why a capture makes no scenario.
 #[derive(Clone, Copy, Debug, PartialEq, Eq, Error)]
 pub enum FeedFault {
-    /// The scenario would have more than 4,000,000 acts, or a text of more than 16,777,216 bytes.
+    /// The scenario would have more than `MOST_ACTS` acts, or a text of more than `LONGEST_TEXT`
+    /// bytes.
     #[error("the capture has too many frames for a scenario")]
     TooLarge,
     /// An allocation failed.
@@ -64,7 +63,7 @@ fn is_offered(packet: &Packet) -> bool
     ensures { result ≡ is_offered packet.now }
 {
     let size = packet.frame.bytes().len();
-    size == packet.original as usize && SHORTEST_FRAME as usize <= size && size <= LONGEST
+    size == packet.original as usize && SHORTEST_FRAME as usize <= size && size <= LONGEST_OFFERED
 }
 
 /// Returns the number of offered frames and the sum of their weights.
@@ -93,7 +92,7 @@ fn plan_of(packets: &[Packet]) -> Option<Plan>
 {
     let (frames, weight) = weigh(packets);
     let rounds = 300 + u128::from(frames) / 14 + weight / 500;
-    if 2 + u128::from(frames) + 2000 * rounds > u128::from(MOST_ACTS) {
+    if 2 + u128::from(frames) + 2 * u128::from(FEED_STEPS) * rounds > u128::from(MOST_ACTS) {
         return None;
     }
     Some(Plan {
@@ -133,23 +132,6 @@ fn push_offers(
     Ok(())
 }
 
-/// Appends `count` rounds. In each round both peers take their turns.
-fn push_rounds(acts: &mut Acts, count: u32) -> Result<(), NoMemory>
-    ensures { OnOk result (acts.new ≡ acts.old ++ rounds count) }
-{
-    for _ in 0..count {
-        acts.push(Act::Turn {
-            peer: 0,
-            steps: STEPS,
-        })?;
-        acts.push(Act::Turn {
-            peer: 1,
-            steps: STEPS,
-        })?;
-    }
-    Ok(())
-}
-
 /// Returns the acts in which the peer offers the packets' frames.
 fn acts(alloc: Global, packets: &[Packet], peer: u32, plan: Plan) -> Result<Acts, NoMemory>
     requires peer { peer < 2 }
@@ -165,15 +147,15 @@ fn acts(alloc: Global, packets: &[Packet], peer: u32, plan: Plan) -> Result<Acts
         expect: plan.frames,
     })?;
     push_offers(alloc, &mut acts, packets, peer)?;
-    push_rounds(&mut acts, plan.rounds)?;
+    push_rounds(&mut acts, FEED_STEPS, plan.rounds)?;
     Ok(acts)
 }
 
 /// Returns the region: a page for the State Table, and 127 pages for each of two peers.
 fn region() -> Geometry
-    ensures { result ≡ shape_of 2 PAGE 0 520192 }
+    ensures { result ≡ shape_of 2 PAGE 0 FEED_OUT }
 {
-    match Geometry::new(2, PAGE, 0, OUT) {
+    match Geometry::new(2, PAGE, 0, FEED_OUT) {
         Ok(geometry) => geometry,
         Err(_) => unreachable!(),
     }
@@ -181,21 +163,22 @@ fn region() -> Geometry
 
 /// Returns the queue of such a section.
 fn section() -> Queue
-    ensures { result ≡ record { version = 1; out = 520192; mtu = 16384 } }
+    ensures { result ≡ record { version = 1; out = FEED_OUT; mtu = FEED_MTU } }
 {
-    match Queue::of(OUT, MTU) {
+    match Queue::of(FEED_OUT, FEED_MTU) {
         Ok(queue) => queue,
         Err(_) => unreachable!(),
     }
 }
 
 /// Returns the scenario in which `peer`, 0 or 1, offers the capture's frames. These are the frames
-/// of 14 to 16,402 bytes whose packets weren't shortened. Both peers choose their calls. After the
-/// offers come 300 rounds of turns, one more for each 14 frames, and one more for each 500 words.
-/// Each frame counts for 12 further words. The contract doesn't promise that these rounds suffice.
+/// of 14 to `LONGEST_OFFERED` bytes whose packets weren't shortened. Both peers choose their calls.
+/// After the offers come 300 rounds of turns, one more for each 14 frames, and one more for each
+/// 500 words. Each frame counts for 12 further words. The contract doesn't promise that these
+/// rounds suffice.
 ///
-/// Returns `TooLarge` exactly if the scenario would have more than 4,000,000 acts or a text of more
-/// than 16,777,216 bytes. Returns `NoMemory` if an allocation fails.
+/// Returns `TooLarge` exactly if the scenario would have more than `MOST_ACTS` acts or a text of
+/// more than `LONGEST_TEXT` bytes. Returns `NoMemory` if an allocation fails.
 // claim made, fits, large: The scenario of a capture offers its whole packets in order, expects as
 //    many, and has the turns of its definition; or it is too large.
 pub fn scenario_of(alloc: Global, capture: &Capture, peer: u32) -> Result<Scenario, FeedFault>

@@ -17,9 +17,10 @@ mod reading;
 
 pub use deliveries::captured;
 pub use faults::CaptureFault;
-pub use feeding::{FeedFault, MOST_ACTS, scenario_of};
+pub use feeding::{FEED_MTU, FEED_OUT, FEED_STEPS, FeedFault, LONGEST_OFFERED, scenario_of};
 pub use laws::{faults_are_exact, file_is_of_one_capture, frames_are_delivered};
 pub use order::MAGIC;
 pub use packets::{Capture, Packet, Packets};
 pub use printing::print;
 pub use reading::{HEADER_LEN, LONGEST_CAPTURED, PACKET_HEADER_LEN, parse};
+pub use scenario_text::MOST_ACTS;

@@ -1,9 +1,6 @@
 //! Captured frames as values.
-ghost use Rattle.std.specs.Prelude.{◌≡◌, ◌++◌, [], ◌∷◌, OnOk, OnErr};
-
-use ivs_base::{Frame, NoMemory};
-use std::alloc::Global;
-use std::marker::Model;
+use ivs_base::Frame;
+use line_format::List;
 
 /// A captured frame, and its time.
 #[derive(Debug, Drop)]
@@ -20,48 +17,7 @@ pub struct Packet {
 }
 
 /// Packets in their order.
-#[derive(Debug, Drop)]
-pub struct Packets {
-    items: Vec<Packet>,
-}
-
-impl Model for Packets {
-    ghost use Rattle.std.specs.Prelude.{List};
-    ghost use Rattle.frame_capture.specs.declared.packets.Packet.{Packet};
-
-    ghost Value = { List Packet };
-
-    ghost view = { λ packets. packets.items.items };
-}
-
-impl Packets {
-    /// Returns the empty list.
-    pub fn new(alloc: Global) -> Self
-        ensures { result ≡ [] }
-    {
-        Packets {
-            items: Vec::new(alloc),
-        }
-    }
-
-    /// Appends the packet. After `NoMemory` the list is unchanged and the packet is dropped.
-    // claim ok, err with Packets::new, Packets::items: A list has the items that were appended, in
-    //    order; a failed call changes nothing.
-    pub fn push(&mut self, item: Packet) -> Result<(), NoMemory>
-        ensures ok { OnOk result (self.new ≡ self.old ++ item ∷ []) }
-        ensures err { OnErr result (self.new ≡ self.old) }
-    {
-        self.items.push(item)?;
-        Ok(())
-    }
-
-    /// Returns the whole list.
-    pub fn items(&self) -> &[Packet]
-        ensures { result.now ≡ self.now }
-    {
-        self.items.as_slice()
-    }
-}
+pub type Packets = List<Packet>;
 
 /// The contents of a capture file.
 #[derive(Debug, Drop)]

@@ -19,7 +19,7 @@ use Rattle.record_text.specs.declared.forms.LineForm.{LineForm}
 use Rattle.record_text.specs.Table.{pieces_of}
 use Rattle.record_text.specs.LineRows.{row_of_line, refuse_form}
 use Rattle.record_text.specs.Spelling.{Fits}
-use Rattle.record_text.proofs.TableLaws.{good, some}
+use Rattle.record_text.proofs.TableLaws.{is_table}
 
 -- The bytes of fields, each with the space or the newline after it
 
@@ -101,7 +101,7 @@ whole [] some = absurd (omega arith)
 whole (field ∷ fields) some = joined field fields
 
 pub row_bytes : (r : Row LineForm) → Fit (pieces_of r.form) r.numbers → length (bare pieces_of r) + 1 ≡ widths (fields_of_row pieces_of r)
-row_bytes r fit = whole (fields_of_row pieces_of r) (omega (arith, counted (pieces_of r.form) r.numbers r.frame fit, some r.form))
+row_bytes r fit = whole (fields_of_row pieces_of r) (omega (arith, counted (pieces_of r.form) r.numbers r.frame fit, is_table.some r.form))
 
 -- The bytes of the lines of a history, and of the rows after them.
 pub text_bytes : (lines : List Line) (rows : List (Row LineForm)) → AllByRecursion Fits lines → length (text_of pieces_of (map row_of_line lines ++ rows)) ≡ lines_bytes lines + length (text_of pieces_of rows)
@@ -150,7 +150,7 @@ abbrev roomy : Line → ℕ
 roomy told = room (pieces_of (row_of_line told).form) + 2 * length (row_of_line told).frame
 
 formed : (told : Line) → Fits told → line_bytes told ≤ roomy told
-formed told fits = let r = row_of_line told in spelled (pieces_of r.form) r.numbers r.frame (good r.form) fits.values fits.bytes
+formed told fits = let r = row_of_line told in spelled (pieces_of r.form) r.numbers r.frame (is_table.good r.form) fits.values fits.bytes
 
 -- The digit of State 3, or ten digits and no mark.
 state_price : (peer value : ℕ) (b : Bool) → value == 3 ≡ b → value < 2 ^ 32 →

@@ -23,8 +23,8 @@ ghost use Rattle.record_sizes.specs.Sizes.{RecordsAreShort, RecordsAreWithinLimi
 /// its scenario's text is within the limit of scenarios.
 // claim bound: The text of a record with a lawful history has at most the bytes of its scenario's
 //    text, 200 for each act (`turn P K` counts for K acts), and 34.
-// claim limit: So it has at most 1,073,741,824 bytes, the limit of a record's text, if its
-//    scenario's has at most 16,777,216, the limit of those.
+// claim limit: So it is within the limit of a record's text, `LONGEST_RECORD` bytes, if its
+//    scenario's is within `LONGEST_TEXT`.
 pub fn records_are_short()
     ensures bound { RecordsAreShort }
     ensures limit { RecordsAreWithinLimit }

@@ -1,26 +1,21 @@
 -- Writing a history line by line.
-use Rattle.std.proofs.Common.{◌≡◌, ℕ, ◌+◌, ◌<◌, List, [], ◌∷◌, ◌++◌, length, get_or, take, map, sym, ap, subst, ◌∙◌, append_assoc, arith}
-use Rattle.std.proofs.lemmas.List.{append-nil, take_more, map-append}
-use Rattle.std.proofs.lemmas.List.Concat.{flat_map-append, flat_map-cons}
+use Rattle.std.proofs.Common.{◌≡◌, ℕ, ◌+◌, ◌<◌, List, [], ◌∷◌, ◌++◌, length, get_or, take, map, sym, ap, subst, ◌∙◌, arith}
+use Rattle.std.proofs.lemmas.List.{take_more, map-append}
 use Rattle.std.proofs.lemmas.List.Elements.{All-append}
 use Rattle.line_format.specs.Rows.{Row, line_of_row, text_of}
+use Rattle.line_format.proofs.PartLaws.{text-push}
 use Rattle.lawful_history.specs.declared.line.Line.{Line}
 use Rattle.record_text.specs.declared.forms.LineForm.{LineForm}
 use Rattle.record_text.specs.Table.{pieces_of}
 use Rattle.record_text.specs.LineRows.{row_of_line}
 use Rattle.record_text.specs.Spelling.{Fits, AllFit}
 
-text-push : (front : List ℕ) (rs : List (Row LineForm)) (r : Row LineForm) → front ++ text_of pieces_of rs ++ line_of_row pieces_of r ≡ front ++ text_of pieces_of (rs ++ r ∷ [])
-text-push front rs r =
-    append_assoc front (text_of pieces_of rs) (line_of_row pieces_of r)
-    ∙ ap (λ (t : List ℕ). front ++ t) (sym (flat_map-append (line_of_row pieces_of) rs (r ∷ []) ∙ ap (λ (t : List ℕ). text_of pieces_of rs ++ t) (flat_map-cons (line_of_row pieces_of) r [] ∙ append-nil (line_of_row pieces_of r))))
-
 pub lines-more : (front : List ℕ) (lines : List Line) (i : ℕ) (line : Line) → i < length lines → line ≡ get_or lines i line
     → front ++ text_of pieces_of (map row_of_line (take i lines)) ++ line_of_row pieces_of (row_of_line line) ≡ front ++ text_of pieces_of (map row_of_line (take (i + 1) lines))
 lines-more front lines i line lt is =
     let more : take (i + 1) lines ≡ take i lines ++ line ∷ [] = take_more lines i line lt ∙ ap (λ (l : Line). take i lines ++ l ∷ []) (sym is) in
     let rows : map row_of_line (take (i + 1) lines) ≡ map row_of_line (take i lines) ++ row_of_line line ∷ [] = ap (λ (ls : List Line). map row_of_line ls) more ∙ map-append row_of_line (take i lines) (line ∷ []) in
-    text-push front (map row_of_line (take i lines)) (row_of_line line) ∙ ap (λ (rs : List (Row LineForm)). front ++ text_of pieces_of rs) (sym rows)
+    text-push pieces_of front (map row_of_line (take i lines)) (row_of_line line) ∙ ap (λ (rs : List (Row LineForm)). front ++ text_of pieces_of rs) (sym rows)
 
 one : (line : Line) → Fits line → AllFit (line ∷ [])
 one line fits zero_ d lt = let z : zero_ ≡ 0 = omega arith in subst (λ (k : ℕ). Fits (get_or (line ∷ []) k d)) (sym z) fits

@@ -6,6 +6,7 @@ use Rattle.std.proofs.lemmas.List.Concat.{flat_map-append, flat_map-cons}
 use Rattle.std.proofs.lemmas.List.Elements.{All-append}
 use Rattle.line_format.specs.Forms.{line_of}
 use Rattle.line_format.specs.Rows.{Row, row, fields_of_row, line_of_row, text_of}
+use Rattle.line_format.proofs.PartLaws.{text-push}
 use Rattle.lawful_history.specs.declared.line.Line.{Line}
 use Rattle.scenario_text.specs.Spelling as scenario
 use Rattle.record_text.specs.declared.run_forms.RunForm.{RunForm}
@@ -25,11 +26,7 @@ one_text r = flat_map-cons (line_of_row run_pieces_of) r [] ∙ append-nil (line
 text-append : (rs ss : List (Row RunForm)) → text_of run_pieces_of (rs ++ ss) ≡ text_of run_pieces_of rs ++ text_of run_pieces_of ss
 text-append rs ss = flat_map-append (line_of_row run_pieces_of) rs ss
 
-text-push : (front : List ℕ) (rs : List (Row RunForm)) (r : Row RunForm) → front ++ text_of run_pieces_of rs ++ line_of_row run_pieces_of r ≡ front ++ text_of run_pieces_of (rs ++ r ∷ [])
-text-push front rs r = append_assoc front (text_of run_pieces_of rs) (line_of_row run_pieces_of r)
-    ∙ ap (λ (t : List ℕ). front ++ t) (sym (text-append rs (r ∷ []) ∙ ap (λ (t : List ℕ). text_of run_pieces_of rs ++ t) (one_text r)))
-
--- A history line's row is spelled alike in both tables.
+-- a history line's row is spelled alike in both tables
 own_line : (line : Line) → line_of_row run_pieces_of (own_row line) ≡ line_of_row pieces_of (row_of_line line)
 unfolding line_of_row
 own_line line = refl
@@ -40,7 +37,7 @@ own_more front lines i line lt is =
     let more : take (i + 1) lines ≡ take i lines ++ line ∷ [] = take_more lines i line lt ∙ ap (λ (l : Line). take i lines ++ l ∷ []) (sym is) in
     let rows : map own_row (take (i + 1) lines) ≡ map own_row (take i lines) ++ own_row line ∷ [] = ap (λ (ls : List Line). map own_row ls) more ∙ map-append own_row (take i lines) (line ∷ []) in
     ap (λ (t : List ℕ). front ++ text_of run_pieces_of (map own_row (take i lines)) ++ t) (sym (own_line line))
-    ∙ text-push front (map own_row (take i lines)) (own_row line) ∙ ap (λ (rs : List (Row RunForm)). front ++ text_of run_pieces_of rs) (sym rows)
+    ∙ text-push run_pieces_of front (map own_row (take i lines)) (own_row line) ∙ ap (λ (rs : List (Row RunForm)). front ++ text_of run_pieces_of rs) (sym rows)
 
 -- A part's text, row by row.
 pub part_put : (front : List ℕ) (p : Part) → (((front ++ line_of_row run_pieces_of (row Peer (p.peer ∷ []) [])) ++ text_of run_pieces_of (map own_row p.lines)) ++ line_of_row run_pieces_of (row Turns (p.turns ∷ []) []))
@@ -49,7 +46,7 @@ part_put front p = let L = line_of_row run_pieces_of in let T = text_of run_piec
     let own = map own_row p.lines in
     ap (λ (t : List ℕ). (((front ++ t) ++ T own) ++ L turns) ++ L last) (sym (one_text peer))
     ∙ (ap (λ (t : List ℕ). (t ++ L turns) ++ L last) (append_assoc front (T (peer ∷ [])) (T own) ∙ ap (λ (t : List ℕ). front ++ t) (sym (text-append (peer ∷ []) own)))
-    ∙ (ap (λ (t : List ℕ). t ++ L last) (text-push front (peer ∷ own) turns) ∙ (text-push front ((peer ∷ own) ++ turns ∷ []) last
+    ∙ (ap (λ (t : List ℕ). t ++ L last) (text-push run_pieces_of front (peer ∷ own) turns) ∙ (text-push run_pieces_of front ((peer ∷ own) ++ turns ∷ []) last
     ∙ ap (λ (rs : List (Row RunForm)). front ++ T rs) (append_assoc (peer ∷ own) (turns ∷ []) (last ∷ [])))))
 
 -- A part more
@@ -92,6 +89,6 @@ count_small traces i t front out count n lt is counted put lines = let before = 
 
 pub run_put : (front : List ℕ) (r : RunRecord) → (((front ++ (codes "run 2" ++ 10 ∷ [])) ++ scenario.spelling r.world) ++ text_of run_pieces_of (rows_of_parts r.parts)) ++ line_of_row run_pieces_of (row (Own Count) (length (rows_of_parts r.parts) ∷ []) []) ≡ front ++ run_spelling r
 run_put front r = let all = rows_of_parts r.parts in let first = codes "run 2" in let count = row (Own Count) (length all ∷ []) [] in
-    text-push ((front ++ (first ++ 10 ∷ [])) ++ scenario.spelling r.world) all count
+    text-push run_pieces_of ((front ++ (first ++ 10 ∷ [])) ++ scenario.spelling r.world) all count
     ∙ (ap (λ (t : List ℕ). t ++ text_of run_pieces_of (run_rows r.parts)) (append_assoc front (first ++ 10 ∷ []) (scenario.spelling r.world))
     ∙ append_assoc front ((first ++ 10 ∷ []) ++ scenario.spelling r.world) (text_of run_pieces_of (run_rows r.parts)))

@@ -1,8 +1,7 @@
 -- The forms of a running record's lines are a table.
-use Rattle.std.proofs.Common.{◌≡◌, ℕ, ◌+◌, ◌<◌, ◌≤◌, true, length, Some, refl, arith}
+use Rattle.std.proofs.Common.{◌≡◌, ℕ, ◌+◌, Some, refl}
 use Rattle.std.specs.Prelude.{slice_get}
-use Rattle.line_format.specs.Forms.{is_form}
-use Rattle.line_format.proofs.TableLaws.{IsTable}
+use Rattle.line_format.proofs.TableLaws.{IsTable, table}
 use Rattle.record_text.specs.declared.forms.LineForm.{LineForm}
 use Rattle.record_text.specs.declared.forms.LineForm.TheVariants.{Read}
 use Rattle.record_text.specs.declared.run_forms.RunForm.{RunForm}
@@ -28,17 +27,5 @@ listed Finished = refl
 listed Spent = refl
 listed (Own form) = own_listed form
 
-good : (form : RunForm) → is_form (run_pieces_of form) ≡ true
-good (Own form) = lines.good form
-good _ = refl
-
-few : (form : RunForm) → length (run_pieces_of form) ≤ 6
-few (Own form) = lines.few form
-few _ = omega arith
-
-some : (form : RunForm) → 0 < length (run_pieces_of form)
-some (Own form) = lines.some form
-some _ = omega arith
-
 pub is_run_table : IsTable run_pieces_of all_run_forms
-is_run_table = record { place = place; listed = listed; apart = refl; good = good; few = few; some = some }
+is_run_table = table run_pieces_of all_run_forms place listed refl refl

@@ -14,7 +14,7 @@
 //!   program shares with the engines only the definitions, `link_handshake`, the layout of
 //!   `split_ring`, the devices of `doorbell_irq` and the region's sizes.
 //! - The counts of an end have 32 bits. A peer's step has at most two marks, and a schedule has at
-//!   most 4,000,000 events, so no count exceeds 8,000,000 (`IsPeer` has the bound).
+//!   most `MOST_ACTS` events, so no count exceeds twice that number (`IsPeer` has the bound).
 //! - A line of the history has word numbers of 32 bits, and an access of `reference_calls` has 64.
 //!   They are compared without a conversion, so the comparison needs no condition on an access.
 //! - The marks of sessions of version 2 are checked first, by a program of their own (`marks`). The
@@ -22,6 +22,7 @@
 #![tactic(auto)]
 
 ghost use Rattle.std.specs.Prelude.{◌≡◌, ◌↔◌, ℕ, ◌+◌, ◌≤◌, IsTrue, IfOk};
+ghost use Rattle.scenario_text.specs.declared.limits.TheConstants.{MOST_ACTS};
 ghost use Rattle.scenario_text.specs.Acts.{cost};
 ghost use Rattle.lawful_history.specs.Schedule.{events_of};
 ghost use Rattle.lawful_history.specs.History as history;
@@ -62,7 +63,7 @@ fn read_act(
     act: &Act,
 ) -> Result<bool, NoMemory>
     requires act { IsAct (world_of scenario.now) act.now }
-    requires here { (count : ℕ) × (at : history.HistoryState) × IsMoment (world_of scenario.now) lines.now count at moment.old × (count + cost act.now ≤ 4000000) }
+    requires here { (count : ℕ) × (at : history.HistoryState) × IsMoment (world_of scenario.now) lines.now count at moment.old × (count + cost act.now ≤ MOST_ACTS) }
     ensures { let world = world_of scenario.now in
         IfOk result (λ yes. (count : ℕ) (at : history.HistoryState) → IsMoment world lines.now count at moment.old →
         GoesOn world lines.now (count + cost act.now) (run world (events_of act.now) at) moment.new yes) }

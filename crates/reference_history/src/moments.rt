@@ -1,5 +1,6 @@
 //! A moment of the history: the number of lines read, and the state of the peers.
 ghost use Rattle.std.specs.Prelude.{◌≡◌, ℕ, ◌+◌, ◌-◌, ◌<◌, ◌^◌, IfOk, List, length, slice_index_or};
+ghost use Rattle.scenario_text.specs.declared.limits.TheConstants.{MOST_ACTS};
 ghost use Rattle.lawful_history.specs.declared.line.Line as lines;
 ghost use Rattle.lawful_history.specs.Sides.{world_of};
 ghost use Rattle.lawful_history.specs.History as history;
@@ -66,7 +67,7 @@ impl Moment {
         event: Event,
     ) -> Result<bool, NoMemory>
         requires can { CanHappen (world_of scenario.now) (event_seen event) }
-        requires here { (count : ℕ) × (moment : history.HistoryState) × IsMoment (world_of scenario.now) lines.now count moment self.old × (count < 4000000) }
+        requires here { (count : ℕ) × (moment : history.HistoryState) × IsMoment (world_of scenario.now) lines.now count moment self.old × (count < MOST_ACTS) }
         ensures { IfOk result (λ yes. (count : ℕ) (moment : history.HistoryState) → IsMoment (world_of scenario.now) lines.now count moment self.old →
             GoesOn (world_of scenario.now) lines.now (count + 1) (after_event (world_of scenario.now) moment (event_seen event)) self.new yes) }
     {

@@ -10,6 +10,7 @@ use Rattle.section_map.specs.Geometry.{Shape}
 use Rattle.section_map.specs.MayWrite.{MayWrite}
 use Rattle.split_ring.specs.declared.steps.Access.{Access}
 use Rattle.split_ring.specs.declared.steps.Access.TheVariants as access
+use Rattle.port_text.specs.declared.limits.TheConstants.{MOST_TURNS}
 use Rattle.port_text.specs.Scenario.{World}
 use Rattle.std.proofs.lemmas.List.Concat.{flat_map-cons}
 use Rattle.sampling_port.specs.declared.notes.PortField.TheVariants.{Sequence, Length}
@@ -308,7 +309,7 @@ entries_of world (event ∷ events) moment = entry_of world.geometry moment even
 abbrev pub AreKept : World → ℕ → HistoryState → Type 0
 AreKept world n moment = (p : ℕ) → p < world.geometry.peers → Kept world p n (moment.peer_states p)
 
-pub kept_one : (world : World) (n : ℕ) (moment : HistoryState) (event : Event) → n < 4000000 → IsPermittedEvent world event → AreKept world n moment → AreKept world (n + 1) (after_event world.geometry moment event)
+pub kept_one : (world : World) (n : ℕ) (moment : HistoryState) (event : Event) → n < MOST_TURNS → IsPermittedEvent world event → AreKept world n moment → AreKept world (n + 1) (after_event world.geometry moment event)
 kept_one world n moment event small there kept = λ p below. kept_on world world.geometry (event ∷ []) n moment (omega arith) (there, tt) kept p below
 
 record Found (world : World) (events : List Event) (moment : HistoryState) : Type 0 where
@@ -319,7 +320,7 @@ record Found (world : World) (events : List Event) (moment : HistoryState) : Typ
 lines_go : (s new : List Line) (past all : List Line) → reverse new ++ (reverse s ++ past) ≡ all → reverse (s ++ new) ++ past ≡ all
 lines_go s new past all is = ap (λ r. r ++ past) (reverse-append s new) ∙ append_assoc (reverse new) (reverse s) past ∙ is
 
-found : (world : World) (events : List Event) (n : ℕ) (moment : HistoryState) → n + length events ≤ 4000000 → AllByRecursion (IsPermittedEvent world) events → AreKept world n moment → MemoryLaw world.geometry moment.past → Found world events moment
+found : (world : World) (events : List Event) (n : ℕ) (moment : HistoryState) → n + length events ≤ MOST_TURNS → AllByRecursion (IsPermittedEvent world) events → AreKept world n moment → MemoryLaw world.geometry moment.past → Found world events moment
 found world [] n moment few there kept law = record { scheduled = refl; lines = refl; law = law }
 found world (event ∷ events) n moment few there kept law =
     let now = event_law world n (moment.peer_states (event_peer event)) moment.past event (omega arith) (kept (event_peer event) (there_below world event there.0)) law in
@@ -332,7 +333,7 @@ found world (event ∷ events) n moment few there kept law =
     }
 
 -- The event records of a peer from an event on.
-serves_from : PortsFollowCalls → (world : World) (n : ℕ) (moment : HistoryState) (event : Event) (others : List EventRecord) (q : ℕ) (peer : Progress) → world.geometry.peers ≤ 8 → n < 4000000 → IsPermittedEvent world event → AreKept world n moment → Keeps world q (moment.peer_states q) peer →
+serves_from : PortsFollowCalls → (world : World) (n : ℕ) (moment : HistoryState) (event : Event) (others : List EventRecord) (q : ℕ) (peer : Progress) → world.geometry.peers ≤ 8 → n < MOST_TURNS → IsPermittedEvent world event → AreKept world n moment → Keeps world q (moment.peer_states q) peer →
     ((next : Progress) → Keeps world q ((after_event world.geometry moment event).peer_states q) next → (end : Progress) × IsCallSequence world q next (own_entries q others) end) → (b : Bool) → (event_peer event == q) ≡ b →
     (end : Progress) × IsCallSequence world q peer (if b then entry_of world.geometry moment event ∷ own_entries q others else own_entries q others) end
 serves_from follow world n moment event others q peer eight small there kept keeps rest true is =
@@ -346,7 +347,7 @@ serves_from follow world n moment event others q peer eight small there kept kee
     (others_served.0, (on.0, subst (λ (k : ℕ). EventStep world k peer event (step_in world.geometry (moment.peer_states p) moment.past event) on.0) same on.1, others_served.1))
 serves_from follow world n moment event others q peer eight small there kept keeps rest false is = rest peer (rw is keeps)
 
-served : PortsFollowCalls → (world : World) (events : List Event) (n : ℕ) (moment : HistoryState) (q : ℕ) (peer : Progress) → world.geometry.peers ≤ 8 → n + length events ≤ 4000000 → AllByRecursion (IsPermittedEvent world) events → AreKept world n moment →
+served : PortsFollowCalls → (world : World) (events : List Event) (n : ℕ) (moment : HistoryState) (q : ℕ) (peer : Progress) → world.geometry.peers ≤ 8 → n + length events ≤ MOST_TURNS → AllByRecursion (IsPermittedEvent world) events → AreKept world n moment →
     Keeps world q (moment.peer_states q) peer → (end : Progress) × IsCallSequence world q peer (own_entries q (entries_of world events moment)) end
 served follow world [] n moment q peer eight few there kept keeps = (peer, refl)
 served follow world (event ∷ events) n moment q peer eight few there kept keeps =
@@ -363,7 +364,7 @@ pub history_lem : PortsFollowCalls → HistoryIsLawful
 history_lem follow world is =
     let events = schedule world.acts in
     let moment = initial_state world in
-    let few : 0 + length events ≤ 4000000 = few_events world is in
+    let few : 0 + length events ≤ MOST_TURNS = few_events world is in
     let there = all_there world is in
     let kept : AreKept world 0 moment = λ p below. fresh_kept world p is below in
     let f = found world events 0 moment few there kept tt in

@@ -9,6 +9,7 @@ use Rattle.std.proofs.lemmas.List.{reverse-append, reverse-reverse}
 use Rattle.split_ring.specs.declared.steps.Access.{Access}
 use Rattle.split_ring.specs.declared.steps.Access.TheVariants as access
 use Rattle.call_grammar.specs.Words.{words_for}
+use Rattle.port_text.specs.declared.limits.TheConstants.{MOST_TURNS}
 use Rattle.port_text.specs.Scenario.{World, IsWorld}
 use Rattle.sampling_port.specs.declared.notes.PortField.TheVariants.{Sequence, Length}
 use Rattle.sampling_port.specs.declared.notes.PortNote.{PortNote}
@@ -251,7 +252,7 @@ turn_calm world me n peer_state past true busy kept lasts all =
     })
 turn_calm world me n peer_state past false busy kept lasts all = record { all = (tt, all); mine = record { lasts = lasts.lasts; place = lasts.place }; others = λ p writer other. refl }
 
-turned : (world : World) (n me : ℕ) (moment : HistoryState) → n < 4000000 → me < world.geometry.peers → Calm world n moment → Calm world (n + 1) (after_event world.geometry moment (TurnTaken me))
+turned : (world : World) (n me : ℕ) (moment : HistoryState) → n < MOST_TURNS → me < world.geometry.peers → Calm world n moment → Calm world (n + 1) (after_event world.geometry moment (TurnTaken me))
 turned world n me moment small there calm =
     let peer_state = moment.peer_states me in
     let t = turn_calm world me n (opened peer_state) moment.past _ refl (opened_kept world me n peer_state _ _ refl refl (omega arith) (calm.kept me there)) (opened_lasts me peer_state moment.past _ _ (calm.lasts me there)) calm.all in
@@ -283,7 +284,7 @@ poked_highest : (p writer me word value : ℕ) (past : List Line) (b : Bool) →
 poked_highest p writer me word value past true = refl
 poked_highest p writer me word value past false = refl
 
-calm_on : (world : World) (n : ℕ) (moment : HistoryState) (event : Event) → n < 4000000 → IsPermittedEvent world event → Calm world n moment → Calm world (n + 1) (after_event world.geometry moment event)
+calm_on : (world : World) (n : ℕ) (moment : HistoryState) (event : Event) → n < MOST_TURNS → IsPermittedEvent world event → Calm world n moment → Calm world (n + 1) (after_event world.geometry moment event)
 calm_on world n moment (CallQueued me call) small there calm = record {
   all = calm.all;
   kept = kept_one world n moment (CallQueued me call) small there calm.kept;
@@ -301,7 +302,7 @@ calm_on world n moment (Poked me word value) small there calm =
           poked_seat me p (moment.peer_states me) (moment.peer_states p) _ _ (λ is. subst (λ (k : ℕ). Lasts p (moment.peer_states k).port (after_event world.geometry moment (Poked me word value)).past) (sym (eqb-true me p is)) new) new;
     }
 
-calm_run : (world : World) (events : List Event) (n : ℕ) (moment : HistoryState) → n + length events ≤ 4000000 → AllByRecursion (IsPermittedEvent world) events → Calm world n moment → Calm world (n + length events) (run world.geometry events moment)
+calm_run : (world : World) (events : List Event) (n : ℕ) (moment : HistoryState) → n + length events ≤ MOST_TURNS → AllByRecursion (IsPermittedEvent world) events → Calm world n moment → Calm world (n + length events) (run world.geometry events moment)
 calm_run world [] n moment few there calm = subst (λ (k : ℕ). Calm world k moment) (omega arith) calm
 calm_run world (event ∷ events) n moment few there calm =
     subst (λ (k : ℕ). Calm world k (run world.geometry events (after_event world.geometry moment event))) (omega arith)

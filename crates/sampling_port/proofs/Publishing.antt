@@ -13,6 +13,7 @@ use Rattle.section_map.specs.Geometry.{section_start}
 use Rattle.section_map.specs.MayWrite.{InSection, MayWrite}
 use Rattle.split_ring.specs.declared.steps.Access.TheVariants as access
 use Rattle.call_grammar.specs.Words.{words_for, frame_word}
+use Rattle.port_text.specs.declared.limits.TheConstants.{MOST_TURNS}
 use Rattle.port_text.specs.declared.acts.Act.{Act}
 use Rattle.port_text.specs.declared.acts.Act.TheVariants as act
 use Rattle.port_text.specs.Scenario.{World, IsWorld, IsAllowed, is_honest}
@@ -230,7 +231,7 @@ turn_stepped world q me messages past port done false is there before refines bu
 hand_message : (world : World) (port : PortView) (p : Place) (m : List ℕ) → AllByRecursion (IsMessage world) (hand_messages port) → port.place ≡ p → hand_at port p ≡ m ∷ [] → IsMessage world m
 hand_message world port p m all at is = (subst (λ (ms : List (List ℕ)). AllByRecursion (IsMessage world) ms) (ap (hand_at port) at ∙ is) all).0
 
-stands_opened : (world : World) (q me n : ℕ) (messages : List (List ℕ)) (events : List Event) (moment : HistoryState) (done : List (List ℕ)) → IsWorld world → me < world.geometry.peers → n < 4000000 → AllByRecursion (IsMessage world) messages → Good world q messages events n moment done →
+stands_opened : (world : World) (q me n : ℕ) (messages : List (List ℕ)) (events : List Event) (moment : HistoryState) (done : List (List ℕ)) → IsWorld world → me < world.geometry.peers → n < MOST_TURNS → AllByRecursion (IsMessage world) messages → Good world q messages events n moment done →
     Stands world q me (opened (moment.peer_states me)).port moment.past done
 stands_opened world q me n messages events moment done is below small all good =
     let peer_state = moment.peer_states me in
@@ -255,7 +256,7 @@ regroup a b c d = ap (λ r. a ++ r) (append_assoc b c d) ∙ sym (append_assoc a
 still_quiet : (peer_state : PeerState) (past : List Line) → is_busy peer_state.port ≡ false → peer_state.waiting ≡ [] → seat_in peer_state past (TurnTaken 0) ≡ peer_state
 still_quiet peer_state past busy none = let o : opened peer_state ≡ peer_state = rw (busy, none) refl in rw (o, busy) refl
 
-pub turn_good : (world : World) (q me n : ℕ) (messages : List (List ℕ)) (events : List Event) (moment : HistoryState) (done : List (List ℕ)) → IsWorld world → q < world.geometry.peers → me < world.geometry.peers → n < 4000000 → AllByRecursion (IsMessage world) messages →
+pub turn_good : (world : World) (q me n : ℕ) (messages : List (List ℕ)) (events : List Event) (moment : HistoryState) (done : List (List ℕ)) → IsWorld world → q < world.geometry.peers → me < world.geometry.peers → n < MOST_TURNS → AllByRecursion (IsMessage world) messages →
     Good world q messages (TurnTaken me ∷ events) n moment done → (more : List (List ℕ)) × Good world q messages events (n + 1) (after_event world.geometry moment (TurnTaken me)) more
 turn_good world q me n messages events moment done is there below small all good =
     let refines = stands_opened world q me n messages (TurnTaken me ∷ events) moment done is below small all good in
@@ -341,7 +342,7 @@ asked_order q me messages events moment done (call.Publish m) true e order =
     mine ∙ ap (λ r. reverse done ++ r) (sym (append_assoc (hs ++ waiting_messages ws) (m ∷ []) (asked q events)) ∙ ap (λ r. r ++ asked q events) (append_assoc hs (waiting_messages ws) (m ∷ []) ∙ ap (λ r. hs ++ r) (sym w)))
 asked_order q me messages events moment done (call.Publish m) false e order = rw e at order
 
-pub asked_good : (world : World) (q me n : ℕ) (c : PortCall) (messages : List (List ℕ)) (events : List Event) (moment : HistoryState) (done : List (List ℕ)) → IsPermittedEvent world (CallQueued me c) → n < 4000000 → is_honest world me ≡ true →
+pub asked_good : (world : World) (q me n : ℕ) (c : PortCall) (messages : List (List ℕ)) (events : List Event) (moment : HistoryState) (done : List (List ℕ)) → IsPermittedEvent world (CallQueued me c) → n < MOST_TURNS → is_honest world me ≡ true →
     Good world q messages (CallQueued me c ∷ events) n moment done → Good world q messages events (n + 1) (after_event world.geometry moment (CallQueued me c)) done
 asked_good world q me n c messages events moment done there small honest good = record {
   kept = kept_one world n moment (CallQueued me c) small there good.kept;
@@ -393,7 +394,7 @@ poking world q me word value messages past done false is other may before = reco
   others = λ p port away r. reader_past world q p past port done (Denied me word) (not_denied p me word away) refl r;
 }
 
-pub poked_good : (world : World) (q me n word value : ℕ) (messages : List (List ℕ)) (events : List Event) (moment : HistoryState) (done : List (List ℕ)) → IsWorld world → q < world.geometry.peers → is_honest world q ≡ true → IsPermittedEvent world (Poked me word value) → n < 4000000 → is_honest world me ≡ false →
+pub poked_good : (world : World) (q me n word value : ℕ) (messages : List (List ℕ)) (events : List Event) (moment : HistoryState) (done : List (List ℕ)) → IsWorld world → q < world.geometry.peers → is_honest world q ≡ true → IsPermittedEvent world (Poked me word value) → n < MOST_TURNS → is_honest world me ≡ false →
     Good world q messages (Poked me word value ∷ events) n moment done → Good world q messages events (n + 1) (after_event world.geometry moment (Poked me word value)) done
 poked_good world q me n word value messages events moment done is below honest there small hostile good =
     let before = before_of world q n messages (Poked me word value ∷ events) moment done good in
@@ -427,7 +428,7 @@ poked_good world q me n word value messages events moment done is below honest t
 
 -- All events
 
-good_run : (world : World) (q : ℕ) (messages : List (List ℕ)) (events : List Event) (n : ℕ) (moment : HistoryState) (done : List (List ℕ)) → IsWorld world → q < world.geometry.peers → is_honest world q ≡ true → AllByRecursion (IsMessage world) messages → n + length events ≤ 4000000 →
+good_run : (world : World) (q : ℕ) (messages : List (List ℕ)) (events : List Event) (n : ℕ) (moment : HistoryState) (done : List (List ℕ)) → IsWorld world → q < world.geometry.peers → is_honest world q ≡ true → AllByRecursion (IsMessage world) messages → n + length events ≤ MOST_TURNS →
     AllByRecursion (IsPermittedEvent world) events → AllByRecursion (FairEvent world) events → Good world q messages events n moment done → (k : ℕ) × (more : List (List ℕ)) × Good world q messages [] k (run world.geometry events moment) more
 good_run world q messages [] n moment done is below honest all few there fair good = (n, done, good)
 good_run world q messages (CallQueued me c ∷ events) n moment done is below honest all few there fair good =

@@ -9,6 +9,7 @@ use Rattle.std.proofs.lemmas.List.{append-nil, take_more, take_all, length-appen
 use Rattle.std.proofs.lemmas.List.Concat.{flat_map-append, flat_map-cons}
 use Rattle.std.proofs.lemmas.List.Sums.{sum_by-append, sum_by-cons}
 use Rattle.call_grammar.specs.Words.{words_for}
+use Rattle.port_text.specs.declared.limits.TheConstants.{MOST_TURNS}
 use Rattle.port_text.specs.declared.acts.Act.{Act}
 use Rattle.port_text.specs.declared.acts.Act.TheVariants as act
 use Rattle.port_text.specs.Acts.{cost, turns_of}
@@ -218,7 +219,7 @@ with_kept : (world : World) (p me n : ℕ) (peer_state : PeerState) (peer_states
 with_kept world p me n peer_state peer_states true is here other = here refl
 with_kept world p me n peer_state peer_states false is here other = other refl
 
-pub kept_on : (world : World) (g : Shape) (events : List Event) (n : ℕ) (moment : HistoryState) → n + length events ≤ 4000000 → AllByRecursion (IsPermittedEvent world) events → ((p : ℕ) → p < world.geometry.peers → Kept world p n (moment.peer_states p)) →
+pub kept_on : (world : World) (g : Shape) (events : List Event) (n : ℕ) (moment : HistoryState) → n + length events ≤ MOST_TURNS → AllByRecursion (IsPermittedEvent world) events → ((p : ℕ) → p < world.geometry.peers → Kept world p n (moment.peer_states p)) →
     (p : ℕ) → p < world.geometry.peers → Kept world p (n + length events) ((run g events moment).peer_states p)
 kept_on world g [] n moment few there kept p below = subst (λ (k : ℕ). Kept world p k (moment.peer_states p)) (omega arith) (kept p below)
 kept_on world g (event ∷ events) n moment few there kept p below =
@@ -248,10 +249,10 @@ fresh_kept world p is below = record {
   few = omega arith;
 }
 
-pub kept_at : (world : World) (events : List Event) (p : ℕ) → IsWorld world → length events ≤ 4000000 → AllByRecursion (IsPermittedEvent world) events → p < world.geometry.peers → Kept world p (length events) ((moment_of world events).peer_states p)
+pub kept_at : (world : World) (events : List Event) (p : ℕ) → IsWorld world → length events ≤ MOST_TURNS → AllByRecursion (IsPermittedEvent world) events → p < world.geometry.peers → Kept world p (length events) ((moment_of world events).peer_states p)
 kept_at world events p is few there below = subst (λ (k : ℕ). Kept world p k ((moment_of world events).peer_states p)) (omega arith) (kept_on world world.geometry events 0 (initial_state world) (omega arith) there (λ q inside. fresh_kept world q is inside) p below)
 
-pub ready_at : (world : World) (events : List Event) (p : ℕ) (peer_state : PeerState) → IsWorld world → length events ≤ 4000000 → AllByRecursion (IsPermittedEvent world) events → p < world.geometry.peers → peer_state ≡ (moment_of world events).peer_states p → IsReady world p peer_state
+pub ready_at : (world : World) (events : List Event) (p : ℕ) (peer_state : PeerState) → IsWorld world → length events ≤ MOST_TURNS → AllByRecursion (IsPermittedEvent world) events → p < world.geometry.peers → peer_state ≡ (moment_of world events).peer_states p → IsReady world p peer_state
 ready_at world events p peer_state is few there below same =
     let kept = kept_at world events p is few there below in
     let bound = kept.few in
@@ -295,7 +296,7 @@ seat_there world front events event s s' peer_state more runs k found false is a
     let other : k ≢ event_peer event = λ e. eqb-false _ _ is (sym e) in
     runs.peer_states k found (sym (set_beside s.peer_states.items (event_peer event) k peer_state other) ∙ at)
 
-pub goes_on : (world : World) (front : List ℕ) (events : List Event) (event : Event) (s s' : Simulator) (peer_state : sits.PeerState) → IsPermittedEvent world event → length events < 4000000 → OneMore world front (moment_of world events) event s s' peer_state →
+pub goes_on : (world : World) (front : List ℕ) (events : List Event) (event : Event) (s s' : Simulator) (peer_state : sits.PeerState) → IsPermittedEvent world event → length events < MOST_TURNS → OneMore world front (moment_of world events) event s s' peer_state →
     RunsTo world front events s → RunsTo world front (events ++ event ∷ []) s'
 goes_on world front events event s s' peer_state there small more runs =
     let next : moment_of world (events ++ event ∷ []) ≡ after_event world.geometry (moment_of world events) event = run-snoc world.geometry events event (initial_state world) in
@@ -365,7 +366,7 @@ poke_happens (Err e) peer word value s s' peer_states shape after = tt
 one_more : {A : Type 0} (xs : List A) (n : ℕ) (x : A) → (xs ++ replicate n x) ++ x ∷ [] ≡ xs ++ replicate (n + 1) x
 one_more xs n x = append_assoc xs (replicate n x) (x ∷ []) ∙ ap (λ r. xs ++ r) (replicate-append-replicate n 1 x)
 
-pub turn_more : (world : World) (front : List ℕ) (events : List Event) (peer n : ℕ) (s s' : Simulator) → IsPermittedEvent world (TurnTaken peer) → length events + n < 4000000 → Happens (TurnTaken peer) s s' →
+pub turn_more : (world : World) (front : List ℕ) (events : List Event) (peer n : ℕ) (s s' : Simulator) → IsPermittedEvent world (TurnTaken peer) → length events + n < MOST_TURNS → Happens (TurnTaken peer) s s' →
     RunsTo world front (events ++ replicate n (TurnTaken peer)) s → RunsTo world front (events ++ replicate (n + 1) (TurnTaken peer)) s'
 turn_more world front events peer n s s' there small after_event runs =
     let count = length-append events (replicate n (TurnTaken peer)) in
@@ -482,5 +483,5 @@ acts_there w (a ∷ acts) all = rw flat_map-cons (both_there (IsPermittedEvent w
 pub all_there : (w : World) → IsWorld w → AllByRecursion (IsPermittedEvent w) (schedule w.acts)
 all_there w is = acts_there w w.acts (recursion_from_All (IsAllowed w) w.acts is.allowed)
 
-pub few_events : (w : World) → IsWorld w → 0 + length (schedule w.acts) ≤ 4000000
+pub few_events : (w : World) → IsWorld w → 0 + length (schedule w.acts) ≤ MOST_TURNS
 few_events w is = let same = schedule_length w.acts in let most = is.turns in omega arith

@@ -5,6 +5,7 @@ use Rattle.section_map.specs.Geometry.{Shape, word_count}
 use Rattle.section_map.specs.MayWrite.{MayWrite}
 use Rattle.split_ring.specs.declared.steps.Access.{Access}
 use Rattle.split_ring.specs.declared.steps.Access.TheVariants as access
+use Rattle.port_text.specs.declared.limits.TheConstants.{MOST_TURNS}
 use Rattle.port_text.specs.Scenario.{World, IsWorld, IsAllowed}
 use Rattle.port_text.specs.declared.acts.Act.{Act}
 use Rattle.port_text.specs.Acts.{cost}
@@ -64,7 +65,7 @@ IsPermittedEvent world (Poked peer word value) = peer < world.geometry.peers
 pub record RunsTo (world : World) (front : List ℕ) (events : List Event) (simulator : Simulator) : Type 0 where
   pub is_world : IsWorld world
   pub there : AllByRecursion (IsPermittedEvent world) events
-  pub few : length events ≤ 4000000
+  pub few : length events ≤ MOST_TURNS
   pub shape : simulator.world_state.region.shape ≡ world.geometry
   pub after : WorldStateAfter front (moment_of world events).past simulator.world_state
   pub count : length simulator.peer_states.items ≡ world.geometry.peers
@@ -78,30 +79,30 @@ pub record AreAtStart (world : World) (count : ℕ) (peer_states : List sits.Pee
 -- The event happens: if the simulator refines the state after any events, the new one refines the
 -- state after them and this event.
 abbrev pub Happens : Event → Simulator → Simulator → Type 0
-Happens event old new = (world : World) (front : List ℕ) (events : List Event) → IsPermittedEvent world event → length events < 4000000
+Happens event old new = (world : World) (front : List ℕ) (events : List Event) → IsPermittedEvent world event → length events < MOST_TURNS
     → RunsTo world front events old → RunsTo world front (events ++ event ∷ []) new
 
 -- The events of the act happen.
 abbrev pub Plays : Act → Simulator → Simulator → Type 0
-Plays act old new = (world : World) (front : List ℕ) (events : List Event) → IsAllowed world act → length events + cost act ≤ 4000000
+Plays act old new = (world : World) (front : List ℕ) (events : List Event) → IsAllowed world act → length events + cost act ≤ MOST_TURNS
     → RunsTo world front events old → RunsTo world front (events ++ events_of act) new
 
 -- The simulator refines the state after some events, in a world that has the peer, and `more`
 -- further events may happen.
 abbrev pub IsRunning : Simulator → (peer more : ℕ) → Type 0
 IsRunning simulator peer more = (world : World) × (front : List ℕ) × (events : List Event) × RunsTo world front events simulator
-    × (peer < world.geometry.peers) × (length events + more ≤ 4000000)
+    × (peer < world.geometry.peers) × (length events + more ≤ MOST_TURNS)
 
 -- `steps` turns of the peer happen.
 abbrev pub Turns : (peer steps : ℕ) → Simulator → Simulator → Type 0
-Turns peer steps old new = (world : World) (front : List ℕ) (events : List Event) → IsPermittedEvent world (TurnTaken peer) → length events + steps ≤ 4000000
+Turns peer steps old new = (world : World) (front : List ℕ) (events : List Event) → IsPermittedEvent world (TurnTaken peer) → length events + steps ≤ MOST_TURNS
     → RunsTo world front events old → RunsTo world front (events ++ replicate steps (TurnTaken peer)) new
 
 -- The simulator refines the state after some events, in a world that allows the act, and the act's
 -- events may happen.
 abbrev pub MayPlay : Simulator → Act → Type 0
 MayPlay simulator act = (world : World) × (front : List ℕ) × (events : List Event) × RunsTo world front events simulator × IsAllowed world act
-    × (length events + cost act ≤ 4000000)
+    × (length events + cost act ≤ MOST_TURNS)
 
 -- The conditions of a peer's next turn: its port is one of the region, and it may make the calls
 -- that wait.
@@ -111,4 +112,4 @@ pub record IsReady (world : World) (me : ℕ) (peer_state : PeerState) : Type 0 
   pub me_is : peer_state.port.me ≡ me
   pub most : peer_state.port.most ≡ world.most
   pub waiting : AllByRecursion (IsPermittedCall world) peer_state.waiting
-  pub numbers : peer_state.port.published + length peer_state.waiting ≤ 4000000
+  pub numbers : peer_state.port.published + length peer_state.waiting ≤ MOST_TURNS

@@ -1,4 +1,5 @@
 use Rattle.std.proofs.Common.{◌≡◌, ◌≤◌, true, List, [], ◌∷◌, refl, sym, ap, subst, ◌∙◌}
+use Rattle.scenario_text.specs.declared.limits.TheConstants.{MOST_ACTS}
 use Rattle.scenario_text.specs.Scenario.{IsWorld}
 use Rattle.frame_capture.specs.declared.packets.Packet.{Packet}
 use Rattle.frame_capture.specs.Feed.{offered_frames, act_count, feed_acts, feed_world, IsTooLarge}
@@ -23,4 +24,4 @@ returns-clause-made c =
 
 pub returns-clause-fits : goal.returns-clause-fits
 returns-clause-fits c =
-    not_too_large c.args.peer (offered_frames c.args.capture.now.packets) c.requires (subst (λ (ps : List Packet). act_count (offered_frames ps) ≤ 4000000) c.items-packets.ensures c.in-Some.ensures.few)
+    not_too_large c.args.peer (offered_frames c.args.capture.now.packets) c.requires (subst (λ (ps : List Packet). act_count (offered_frames ps) ≤ MOST_ACTS) c.items-packets.ensures c.in-Some.ensures.few)

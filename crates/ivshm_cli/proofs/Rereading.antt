@@ -3,6 +3,8 @@ use Rattle.std.proofs.Common.{◌≡◌, ◌∙◌, ap, Result, Ok, Err, ℕ, �
 use Rattle.std.proofs.lemmas.Bool.{le-ltb, ltb-false}
 use Rattle.std.specs.Prelude.{Some, MatchBool, false}
 use Rattle.scenario_text.specs.Spelling as scenario
+use Rattle.scenario_text.specs.declared.limits.TheConstants.{LONGEST_TEXT}
+use Rattle.record_text.specs.declared.limits.TheConstants.{LONGEST_RECORD}
 use Rattle.line_format.specs.Machine.{Wrong}
 use Rattle.line_format.specs.Texts.{said}
 use Rattle.record_text.specs.declared.faults.RecordCause.{RecordCause}
@@ -45,9 +47,9 @@ rereads within bytes text found status wrote due =
     let is = sim.1 in
     let r : Record = record { version = 2; world = is.world; lines = is.history } in
     let spelled = spelled_by text r (reading text) refl is.again in
-    let few : length (scenario.spelling r.world) ≤ 16777216 = subst (λ (b : List ℕ). length b ≤ 16777216) is.spelled.1 (ltb-false 16777216 (length bytes) sim.0) in
-    let most : length text ≤ 1073741824 = subst (λ (t : List ℕ). length t ≤ 1073741824) (sym spelled.1) (within r spelled.0 is.lawful few) in
-    let short : passes (limit_of Replay) text ≡ false = le-ltb 1073741824 (length text) most in
+    let few : length (scenario.spelling r.world) ≤ LONGEST_TEXT = subst (λ (b : List ℕ). length b ≤ LONGEST_TEXT) is.spelled.1 (ltb-false LONGEST_TEXT (length bytes) sim.0) in
+    let most : length text ≤ LONGEST_RECORD = subst (λ (t : List ℕ). length t ≤ LONGEST_RECORD) (sym spelled.1) (within r spelled.0 is.lawful few) in
+    let short : passes (limit_of Replay) text ≡ false = le-ltb LONGEST_RECORD (length text) most in
     let verdict = subst (λ b. MatchBool b (due.0 ≡ Some TooLong) (IsTextVerdict Replay text due.0)) short due.1 in
     let none = record_unrefused text is.world 2 is.history due.0 spelled verdict in
     let lawful : SpellsLawful text = record { world = is.world; version = 2; history = is.history; spelled = spelled; lawful = is.lawful } in

@@ -125,7 +125,7 @@ feed_turns peer frames =
     let offers = offers_cost peer frames in
     let turns = turns_cost 0 (round_count frames) in
     let both = sum_by-append cost (map (λ f. Offer peer f) frames) (rounds FEED_STEPS (round_count frames)) in
-    let all = map (λ f. Offer peer f) frames ++ rounds (round_count frames) in
+    let all = map (λ f. Offer peer f) frames ++ rounds FEED_STEPS (round_count frames) in
     let first = sum_by-cons cost (Auto peer 0) (Auto (1 - peer) (length frames) ∷ all) in
     let second = sum_by-cons cost (Auto (1 - peer) (length frames)) all in
     omega arith

@@ -5,7 +5,8 @@ use Rattle.std.proofs.lemmas.List.{get_or_append_left, get_or-append-add, length
 use Rattle.std.proofs.lemmas.List.FromFn.{length-map-range_with_len, get_or-map-range_with_len}
 use Rattle.scenario_text.specs.declared.acts.Act.{Act}
 use Rattle.scenario_text.specs.declared.acts.Act.TheVariants.{Auto, Offer, Turn}
-use Rattle.scenario_text.specs.Loads.{load_frame, load_offers, load_rounds, load_acts, load_world}
+use Rattle.scenario_text.specs.declared.limits.TheConstants.{LOAD_STEPS, MOST_LOAD}
+use Rattle.scenario_text.specs.Loads.{load_frame, load_offers, rounds, load_acts, load_world}
 use Rattle.scenario_text.proofs.LoadLaws.{load_is_world}
 use Rattle.lawful_history.specs.declared.line.Line.{Line}
 use Rattle.lawful_history.specs.Schedule.{Event, schedule}
@@ -22,7 +23,11 @@ use Rattle.simulator.specs.declared.simulator.Simulator.{Simulator}
 
 -- the acts of one round
 abbrev round : List Act
-round = Turn 0 64 ∷ Turn 1 64 ∷ []
+round = Turn 0 LOAD_STEPS ∷ Turn 1 LOAD_STEPS ∷ []
+
+-- the rounds of a load
+abbrev load_rounds : ℕ → List Act
+load_rounds n = rounds LOAD_STEPS n
 
 offers_length : (count : ℕ) → length (load_offers count) ≡ count
 unfolding load_offers
@@ -33,15 +38,15 @@ rounds_length_from a zero = refl
 rounds_length_from a (suc n) = let rest = rounds_length_from (a + 1) n in omega arith
 
 rounds_length : (n : ℕ) → length (load_rounds n) ≡ 2 * n
-unfolding load_rounds
+unfolding rounds
 rounds_length n = rounds_length_from 0 n
 
 pub acts_length : (count : ℕ) → length (load_acts count) ≡ 2 + count + 2 * (200 + (count + 2) / 3)
 acts_length count =
-    let rounds = 200 + (count + 2) / 3 in
-    let both = length-append (load_offers count) (load_rounds rounds) in
+    let total = 200 + (count + 2) / 3 in
+    let both = length-append (load_offers count) (load_rounds total) in
     let offers = offers_length count in
-    let turns = rounds_length rounds in
+    let turns = rounds_length total in
     omega arith
 
 -- ---- the act at a position
@@ -77,7 +82,7 @@ round_at_from a (suc n) (suc (suc j)) d inside =
     round_at_from (a + 1) n j d (omega arith) ∙ ap (λ i. get_or round i d) same
 
 turn_at : (count j : ℕ) (d : Act) → j < 2 * (200 + (count + 2) / 3) → get_or (load_acts count) (suc (suc (count + j))) d ≡ get_or round (j % 2) d
-unfolding load_rounds
+unfolding rounds
 turn_at count j d inside =
     let size = offers_length count in
     let at : count + j ≡ length (load_offers count) + j = omega arith in
@@ -109,7 +114,7 @@ turn_again count at act after inside is =
 -- ---- the start
 
 -- at its start a simulator is that of each load
-pub starts_alike : (some count version : ℕ) (s : Simulator) → count ≤ 80000 → RunsTo (load_world some) (no_output version) [] s → RunsTo (load_world count) (no_output version) [] s
+pub starts_alike : (some count version : ℕ) (s : Simulator) → count ≤ MOST_LOAD → RunsTo (load_world some) (no_output version) [] s → RunsTo (load_world count) (no_output version) [] s
 unfolding load_world
 starts_alike some count version s few runs = record {
   there = tt;
@@ -142,7 +147,7 @@ pub acts_of : (world : World) (count : ℕ) → world ≡ load_world count → w
 unfolding load_world
 acts_of world count is = ap (λ (w : World). w.acts) is
 
-pub is_act : (count i : ℕ) (act : Act) → count ≤ 80000 → i < length (load_acts count) → act ≡ get_or (load_acts count) i act → IsAct (load_world count) act
+pub is_act : (count i : ℕ) (act : Act) → count ≤ MOST_LOAD → i < length (load_acts count) → act ≡ get_or (load_acts count) i act → IsAct (load_world count) act
 unfolding load_world
 is_act count i act few inside is = act_at (load_world count) i act (load_is_world count few) inside is
 

@@ -1,6 +1,7 @@
 //! Plays a load without a list of its acts: they repeat those of a shorter load.
 ghost use Rattle.std.specs.Prelude.{◌≡◌, ◌≤◌, ◌<◌, List, [], length, get_or, IfErr, OnOk};
 ghost use Rattle.scenario_text.specs.declared.acts.Act.TheVariants.{Auto};
+ghost use Rattle.scenario_text.specs.declared.limits.TheConstants.{MOST_LOAD};
 ghost use Rattle.scenario_text.specs.Loads.{load_acts, load_world};
 ghost use Rattle.lawful_history.specs.Sessions.{recorded_in};
 ghost use Rattle.lawful_history.specs.History.{history};
@@ -23,7 +24,7 @@ const AUTOS: usize = 2;
 
 /// Returns the number of acts of a load of `count` frames.
 fn act_count(count: u32) -> usize
-    requires { count ≤ 80000 }
+    requires { count ≤ MOST_LOAD }
     ensures { result ≡ length (load_acts count) }
 {
     let count = count as usize;
@@ -33,7 +34,7 @@ fn act_count(count: u32) -> usize
 /// Returns act `at` of a load of `count` frames. `sample` has the acts of a load of `PERIOD`
 /// frames, and `expecting` is the act by which peer 1 expects `count` frames.
 fn act_of<'a>(sample: &'a [Act], expecting: &'a Act, count: u32, at: usize) -> &'a Act
-    requires few { count ≤ 80000 }
+    requires few { count ≤ MOST_LOAD }
     requires sample { sample.now ≡ load_acts PERIOD }
     requires expecting { expecting.now ≡ Auto 1 count }
     requires inside { at < length (load_acts count) }
@@ -56,7 +57,7 @@ fn act_of<'a>(sample: &'a [Act], expecting: &'a Act, count: u32, at: usize) -> &
 /// The lines are those of a record of version 2.
 pub fn play_load<L: Listener>(alloc: Global, count: u32, listener: &mut L) -> Result<(), Stopped>
     requires some { 1 ≤ count }
-    requires few { count ≤ 80000 }
+    requires few { count ≤ MOST_LOAD }
     requires silent { L.received listener.old listener.old [] }
     ensures received { OnOk result (L.received listener.old listener.new (recorded_in (load_world count) 2 (history (load_world count)))) }
     ensures stopped { IfErr result (λ why. why ≡ HeardEnough → StopsWithin (load_world count) 2 (L.stopped_after listener.old listener.new)) }

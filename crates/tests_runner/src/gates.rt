@@ -88,7 +88,7 @@ impl Lockstep {
     }
 
     /// Returns the number of times that the peer ended.
-    pub(crate) fn ended(&self, peer: u32) -> u64 {
+    pub(crate) fn times_ended(&self, peer: u32) -> u64 {
         self.ended.get(peer)
     }
 

@@ -206,7 +206,8 @@ fn check(rt: &impl Abort, parts: &[OwnTrace], number: usize, sights: &[(usize, S
 
 /// Whether the gate counted the turns of both peers, and one end of each.
 fn has_counted(gate: &Lockstep, parts: &[OwnTrace]) -> bool {
-    parts.iter().all(|part| gate.passed(part.peer) == part.turns && gate.ended(part.peer) == 1)
+    parts.iter().all(|part| gate.passed(part.peer) == part.turns
+        && gate.times_ended(part.peer) == 1)
 }
 
 /// Runs a scenario in running form. Returns its trace.

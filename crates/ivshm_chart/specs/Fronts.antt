@@ -6,6 +6,7 @@ use Rattle.lawful_history.specs.declared.line.Line.{Line}
 use Rattle.lawful_history.specs.Frames.{HaveFrames}
 use Rattle.record_text.specs.Spelling.{IsSpelling}
 use Rattle.record_text.specs.Readers.{IsReading}
+use Rattle.record_text.specs.declared.reader.Reader.{Reader}
 use Rattle.ivshm_chart.specs.declared.fronts.Front.{Front}
 
 -- The text spells the record of these lines and of `count` lines after them.

@@ -7,26 +7,26 @@
 
 enum { BATCH = 8 };
 
-struct made {
+struct listed_access {
     ivshm_access access;
-    struct region *by;
+    struct region *region;
 };
 
-static struct made *list;
+static struct listed_access *list;
 static size_t count, room;
 static uint8_t frame[IVSHM_LONGEST];
-static volatile uint32_t sink; /* keeps the reads of `again` */
+static volatile uint32_t sink; /* keeps the reads of `repeat_accesses` */
 
 /* Appends an access to the list. */
 static void append(void *context, const ivshm_access *access, uint32_t value) {
     (void)value;
     if (count == room) {
-        struct made *grown = realloc(list, (2 * room + 1024) * sizeof *list);
+        struct listed_access *grown = realloc(list, (2 * room + 1024) * sizeof *list);
         if (!grown) fail("realloc");
         list = grown;
         room = 2 * room + 1024;
     }
-    list[count++] = (struct made){*access, context};
+    list[count++] = (struct listed_access){*access, context};
 }
 
 static void send(struct region *r, size_t size) {
@@ -44,17 +44,17 @@ static void round_of(struct region *a, struct region *b, size_t size) {
 }
 
 /* Plays a round and records its accesses in the list. */
-static void listed_round(struct region *a, struct region *b, size_t size) {
+static void record_round(struct region *a, struct region *b, size_t size) {
     a->link.setup.accessed = b->link.setup.accessed = append;
     round_of(a, b, size);
     a->link.setup.accessed = b->link.setup.accessed = NULL;
 }
 
 /* Repeats the accesses of the list once. Returns the sum of the values read. */
-static uint32_t again(void) {
+static uint32_t repeat_accesses(void) {
     uint32_t sum = 0;
     for (size_t i = 0; i < count; i++) {
-        struct region *r = list[i].by;
+        struct region *r = list[i].region;
         const ivshm_access *access = &list[i].access;
         switch (access->kind) {
         case IVSHM_READ:
@@ -76,7 +76,7 @@ static uint32_t again(void) {
 /* Prints the time of an access, and of the same access without an end. */
 static void print_floor(double seconds, uint64_t rounds, size_t size) {
     double start = spent(), accesses = (double)(rounds * count);
-    for (uint64_t i = 0; i < rounds; i++) sink = again();
+    for (uint64_t i = 0; i < rounds; i++) sink = repeat_accesses();
     double floor_ns = (spent() - start) * 1e9 / accesses, ends_ns = seconds * 1e9 / accesses;
     printf("%zu bytes: %.1f ns an access; floor %.1f ns an access; %.2f times the floor\n", size, ends_ns, floor_ns, ends_ns / floor_ns);
 }
@@ -99,7 +99,7 @@ int main(int argc, char **argv) {
         tick(&b);
     }
     for (int i = 0; i < 3; i++) round_of(&a, &b, size);
-    if (WAY == 0) listed_round(&a, &b, size);
+    if (WAY == 0) record_round(&a, &b, size);
     uint64_t steps = a.link.counts.steps + b.link.counts.steps;
     double start = spent();
     for (uint64_t i = 0; i < rounds; i++) round_of(&a, &b, size);

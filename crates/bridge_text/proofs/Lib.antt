@@ -1,6 +1,6 @@
-pub mod TableLaws
-pub mod Follows
-pub mod PositionLaws
-pub mod BackLaws
-pub mod WholeLaws
-pub mod ForwardLaws
+pub mod FormsAreTable
+pub mod RowTests
+pub mod PositionInvariant
+pub mod ReadIsSpelled
+pub mod ReadIffSpelled
+pub mod SpelledIsRead

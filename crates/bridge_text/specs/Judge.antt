@@ -20,14 +20,14 @@ use Rattle.bridge_text.specs.Table.{pieces_of, all_forms}
 use Rattle.bridge_text.specs.Spelling.{World, is_in_range, is_frame_length}
 
 -- The value of the lines so far. The default of a line that wasn't read is 0 or empty.
-pub record SoFar : Type 0 where
+pub record DraftView : Type 0 where
   pub position : Position
   pub ports : ℕ
   pub rounds : ℕ
   pub sent : List Sent
 
-abbrev pub world_so_far : SoFar → World
-world_so_far d = record { ports = d.ports; rounds = d.rounds; sent = d.sent }
+abbrev pub world_of_draft : DraftView → World
+world_of_draft d = record { ports = d.ports; rounds = d.rounds; sent = d.sent }
 
 -- BadOrder
 
@@ -47,13 +47,13 @@ position_of Rounds = AtRounds
 position_of Begin = AtBegin
 position_of _ = AtFrames
 
-abbrev pub is_out_of_order : SoFar → Form → Bool
+abbrev pub is_out_of_order : DraftView → Form → Bool
 is_out_of_order d form = not (ordinal_of (position_of form) == ordinal_of d.position)
 
 -- BadNumber
 
-abbrev pub wrong_numbers : SoFar → Form → List ℕ → Option Cause
-wrong_numbers d form ns = if is_in_range (world_so_far d) form ns then None else Some BadNumber
+abbrev pub wrong_numbers : DraftView → Form → List ℕ → Option Cause
+wrong_numbers d form ns = if is_in_range (world_of_draft d) form ns then None else Some BadNumber
 
 -- TooManyFrames
 
@@ -61,15 +61,15 @@ abbrev pub is_frame : Form → Bool
 is_frame Frame = true
 is_frame _ = false
 
-abbrev pub is_too_many : SoFar → Form → Bool
+abbrev pub is_too_many : DraftView → Form → Bool
 is_too_many d form = is_frame form && nat_le MOST_FRAMES (length d.sent)
 
-abbrev pub wrong_row : SoFar → Form → List ℕ → List ℕ → Option Cause
+abbrev pub wrong_row : DraftView → Form → List ℕ → List ℕ → Option Cause
 wrong_row d form ns frame = if is_too_many d form then Some TooManyFrames else None
 
 -- The effect of a line
 
-abbrev pub add : Form → List ℕ → List ℕ → SoFar → SoFar
+abbrev pub add : Form → List ℕ → List ℕ → DraftView → DraftView
 add Version ns frame d = record d { position = AtPorts }
 add Ports ns frame d = record d { position = AtRounds; ports = slice_index ns 0 }
 add Rounds ns frame d = record d { position = AtBegin; rounds = slice_index ns 0 }
@@ -87,13 +87,13 @@ cause Bytes = BadFrame
 
 -- The text
 
-abbrev pub at_start : SoFar
+abbrev pub at_start : DraftView
 at_start = record { position = AtVersion; ports = 0; rounds = 0; sent = [] }
 
-abbrev pub has_ended : SoFar → Bool
+abbrev pub has_ended : DraftView → Bool
 has_ended d = ordinal_of d.position == 5
 
-abbrev pub rules : Rules SoFar Form Cause
+abbrev pub rules : Rules DraftView Form Cause
 rules = record {
   pieces_of = pieces_of;
   forms = all_forms;
@@ -106,7 +106,7 @@ rules = record {
   ended = has_ended;
 }
 
-abbrev pub machine : Machine SoFar Cause
+abbrev pub machine : Machine DraftView Cause
 machine = machine_of rules
 
 -- Answers
@@ -119,8 +119,8 @@ fault_at BadFrame n = faults.BadFrame n
 fault_at TooManyFrames n = faults.TooManyFrames n
 
 -- Bytes after the end are a faulty line.
-abbrev pub sense : Sense SoFar Cause World BridgeFault
-sense = record { start = at_start; value = λ d. Ok (world_so_far d); at = fault_at; after = λ n. faults.BadLine n; no_end = faults.NoEnd }
+abbrev pub sense : Sense DraftView Cause World BridgeFault
+sense = record { start = at_start; value = λ d. Ok (world_of_draft d); at = fault_at; after = λ n. faults.BadLine n; no_end = faults.NoEnd }
 
 -- The run that a text spells, or its first fault.
 abbrev pub answer : List ℕ → Result World BridgeFault

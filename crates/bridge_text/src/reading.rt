@@ -1,9 +1,9 @@
 //! Reading a text of a bridge.
 ghost use Rattle.std.specs.Prelude.{◌≡◌, IfOk};
 ghost use Rattle.bridge_text.specs.Spelling.{World, world_of, IsSpelling};
-ghost use Rattle.bridge_text.specs.Judge.{world_so_far, at_start, answer};
+ghost use Rattle.bridge_text.specs.Judge.{world_of_draft, at_start, answer};
 ghost use Rattle.bridge_text.specs.Answers.{Answers};
-ghost use Rattle.bridge_text.specs.Drafts.{so_far};
+ghost use Rattle.bridge_text.specs.Drafts.{draft_view};
 
 use crate::drafts::Draft;
 use crate::faults::BridgeFault;
@@ -15,7 +15,7 @@ use std::alloc::Global;
 impl Draft {
     /// Returns the draft of a text before its first line.
     pub fn new(alloc: Global) -> Draft
-        ensures { so_far result ≡ at_start }
+        ensures { draft_view result ≡ at_start }
     {
         Draft {
             position: Position::AtVersion,
@@ -27,7 +27,7 @@ impl Draft {
 
     /// Returns the value of the lines up to the end.
     pub fn finish(self) -> Script
-        ensures { world_of result ≡ world_so_far (so_far self) }
+        ensures { world_of result ≡ world_of_draft (draft_view self) }
     {
         let Draft {
             ports,

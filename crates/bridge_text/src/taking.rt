@@ -1,7 +1,7 @@
 //! A text of a bridge as a grammar: the tests of a line, and its effect on a draft.
 ghost use Rattle.std.proofs.Common.{rules as found};
-ghost use Rattle.bridge_text.specs.Judge.{SoFar, rules};
-ghost use Rattle.bridge_text.specs.Drafts.{so_far};
+ghost use Rattle.bridge_text.specs.Judge.{DraftView, rules};
+ghost use Rattle.bridge_text.specs.Drafts.{draft_view};
 
 use crate::drafts::Draft;
 use crate::faults::Cause;
@@ -18,9 +18,9 @@ impl Grammar for Draft {
 
     type Cause = Cause;
 
-    ghost SoFar = { SoFar };
+    ghost DraftView = { DraftView };
 
-    ghost so_far = { so_far };
+    ghost draft_view = { draft_view };
 
     ghost rules = { rules };
 
@@ -67,7 +67,7 @@ impl Grammar for Draft {
         self.position == Position::Ended
     }
 
-    #[tactic(auto, using(crate::proofs::Follows::port_below))]
+    #[tactic(auto, using(crate::proofs::RowTests::port_below))]
     fn add(
         &mut self,
         alloc: Global,

@@ -8,7 +8,7 @@ use Rattle.call_grammar.specs.Ends.{End}
 use Rattle.call_grammar.specs.Ticks.{EndConfig}
 use Rattle.call_grammar.specs.Offers.{start_at}
 use Rattle.call_grammar.specs.Calls.{pending_of}
-use Rattle.call_grammar.specs.Reach.{HasSections}
+use Rattle.call_grammar.specs.Permitted.{HasSections}
 
 pub last_length : (frames : List (List ℕ)) (frame : List ℕ) → lengths_of (frames ++ frame ∷ []) (length frames) ≡ length frame
 last_length frames frame = ap length (get_or-append_seam frames frame [] [])

@@ -6,7 +6,7 @@ pub mod Ticks
 pub mod Offers
 pub mod Polls
 pub mod Calls
-pub mod Reach
+pub mod Permitted
 pub mod Returning
 pub mod Rows
 pub mod Places

@@ -13,7 +13,7 @@ use Rattle.call_grammar.specs.Ticks.{EndConfig, other_state}
 use Rattle.call_grammar.specs.Calls.{Call, tree_of}
 use Rattle.call_grammar.specs.Offers.{PendingOffer, IsOffer}
 use Rattle.call_grammar.specs.Polls.{Item, IsValidItem, item_steps, IsRefusedItem}
-use Rattle.call_grammar.specs.Reach.{HasSections}
+use Rattle.call_grammar.specs.Permitted.{HasSections}
 
 -- The word that an access reads.
 abbrev pub read_by : Access → List ℕ

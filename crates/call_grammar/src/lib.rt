@@ -30,7 +30,7 @@ ghost use Rattle.call_grammar.specs.Trees.{CutsBegin};
 ghost use Rattle.call_grammar.specs.Ends.{PhaseFollowsState};
 ghost use Rattle.call_grammar.specs.Calls.{CallsAreLists, CallsTakeAStep};
 ghost use Rattle.call_grammar.specs.Automatic.{RoundsKeepTheRule};
-ghost use Rattle.call_grammar.specs.Reach.{CallsStayInReach};
+ghost use Rattle.call_grammar.specs.Permitted.{CallsArePermitted};
 ghost use Rattle.call_grammar.specs.Returning.{PollsThatReturnRing};
 ghost use Rattle.call_grammar.specs.Rows.{CallsKeepRows};
 ghost use Rattle.call_grammar.specs.Places.{PlacesFollowTrees};
@@ -74,8 +74,8 @@ pub fn rounds_keep_the_rule()
 /// Law: for all values read, a call writes only its own section and its own State word, and reads
 /// only the other's words.
 // claim: A call writes its own section and State, reads the other's, and rings the other.
-pub fn calls_stay_in_reach()
-    ensures { CallsStayInReach }
+pub fn calls_are_permitted()
+    ensures { CallsArePermitted }
 {}
 
 /// Law: an end sets State 0, or the State of the phase table's move for the value that it read
@@ -95,7 +95,7 @@ pub fn places_follow_trees()
 /// Law: a list of steps is a call exactly if it replays, step by step, from the call's first place
 /// to its end.
 // claim: A list of steps is a call exactly if it is played from the call's first place.
-pub fn played_are_calls()
+pub fn replays_are_calls()
     ensures { ReplaysAreCalls }
 {}
 

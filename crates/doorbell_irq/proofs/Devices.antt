@@ -11,7 +11,7 @@ use Rattle.doorbell_irq.specs.declared.trigger.Trigger.{Trigger}
 use Rattle.doorbell_irq.specs.Triggers.{vector_at, delivery_if, delivery_among}
 use Rattle.doorbell_irq.specs.Refinement.{Refines}
 use Rattle.doorbell_irq.proofs.Lists.{slice_get-same, slice_get-set_same, slice_get-set_other, slice_get-within, nat_cases}
-use Rattle.doorbell_irq.proofs.Same.{delivery_same}
+use Rattle.doorbell_irq.proofs.RegistersOfPeer.{delivery_same}
 use Rattle.doorbell_irq.proofs.Steps.{peer_taken, peer_kept, keeps}
 
 -- Equal deliveries make equal lists.

@@ -1,11 +1,11 @@
 pub mod Lists
-pub mod Same
+pub mod RegistersOfPeer
 pub mod Steps
 pub mod Devices
 pub mod EventKinds
 pub mod EntryWrites
-pub mod Quiet
-pub mod Rounds
+pub mod NoDelivery
+pub mod NextPeer
 pub mod PlainRules
 pub mod RouteBits
 pub mod RouteRules

@@ -8,7 +8,7 @@ use Rattle.doorbell_irq.specs.DeviceRules.{Write, is_one_shot, vector_of, resets
 use Rattle.doorbell_irq.specs.Registers.{register_bytes, delivery_at, Writes, Takes, IsPart, IsPeer, IsWritten, IsSpaceReset, IsReset}
 use Rattle.std.proofs.lemmas.Option.{slice_get_within}
 use Rattle.doorbell_irq.proofs.Lists.{slice_get-within}
-use Rattle.doorbell_irq.proofs.Same.{delivery_same, one_shot_same}
+use Rattle.doorbell_irq.proofs.RegistersOfPeer.{delivery_same, one_shot_same}
 
 -- Writes that write nothing.
 abbrev pub Keeps : Registers → Registers → Type 0

@@ -12,8 +12,8 @@ with_interrupts_on byte Page k = if k == interrupt_control_register then 1 else 
 with_interrupts_on byte part k = byte part k
 
 -- A trigger with vector n would be delivered to the peer if its Interrupt Control bit 0 were set.
-abbrev pub would_come : Wiring → Bool → Bytes → ℕ → Bool
-would_come wiring connected byte n = is_some (delivery_by wiring connected (with_interrupts_on byte) (Some n))
+abbrev pub would_be_delivered : Wiring → Bool → Bytes → ℕ → Bool
+would_be_delivered wiring connected byte n = is_some (delivery_by wiring connected (with_interrupts_on byte) (Some n))
 
 -- Interrupts are raised by INTx.
 abbrev pub is_intx : Wiring → Bool
@@ -22,7 +22,7 @@ is_intx Intx = true
 
 -- The route is that of the peer after these events.
 pub record IsRoute (w : Devices) (events : List Event) (peer : ℕ) (route : Route) : Type 0 where
-  pub vectors : (n : ℕ) → n < 64 → bit route.vectors n ≡ would_come w.wiring (is_connected events peer) (bytes_after w events peer) n
+  pub vectors : (n : ℕ) → n < 64 → bit route.vectors n ≡ would_be_delivered w.wiring (is_connected events peer) (bytes_after w events peer) n
   pub intx : route.intx ≡ is_intx w.wiring
   pub one_shot : route.one_shot ≡ is_one_shot (bytes_after w events peer)
   pub enabled : route.enabled ≡ is_enabled (bytes_after w events peer)

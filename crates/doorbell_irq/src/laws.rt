@@ -39,7 +39,7 @@ pub fn doorbell_words_have_two_halves()
 /// Otherwise there is no delivery.
 // claim: A peer's route determines what each doorbell delivers to it: the bit of its vector,
 //    exactly if interrupts are enabled and that bit of the route is set.
-pub fn routes_tell_deliveries()
+pub fn routes_decide_deliveries()
     ensures { (w : Devices) (events : List Event) (source peer vector : ℕ) (route : Route) → IsWiring w.wiring → vector < 2 ^ 16 →
         IsRoute w events peer route →
         delivery_of w.wiring (is_connected events) (bytes_after w events) (RegisterWritten source doorbell_register (doorbell_word peer vector)) peer

@@ -1,5 +1,5 @@
 //! The devices of a world's peers, as a hypervisor emulates them: configuration spaces, register
-//! pages, MSI-X tables, and the interrupts of doorbells and State writes. It stands on `pci_space`
+//! pages, MSI-X tables, and the interrupts of doorbells and State writes. It uses `pci_space`
 //! for the spaces. Its contracts promise that the effect of each call is that of the device's rules
 //! after all calls before it, for every peer, offset and state.
 //!
@@ -43,7 +43,7 @@ pub use effect::{Delivery, Effect};
 pub use entries::{reset_all, write_at};
 pub use laws::{
     doorbell_words_have_two_halves, one_shot_turns_interrupts_off, peers_apart_are_the_device,
-    routes_tell_deliveries, state_is_what_was_written,
+    routes_decide_deliveries, state_is_what_was_written,
 };
 pub use msix_table::MsixTable;
 pub use registers::{PeerDevice, entry_at_reset};

@@ -9,7 +9,7 @@ ghost use Rattle.doorbell_irq.specs.Events.{Entry, page_rows, entry_rows, vector
 ghost use Rattle.doorbell_irq.specs.DeviceRules.{bit, state_in, is_enabled, is_one_shot, lets_through, vector_by, register_vector, page_write, entry_write, register_at, msix_at};
 ghost use Rattle.doorbell_irq.specs.Registers.{register_bytes, delivery_at, Writes, Takes, IsPeer, IsReset, IsEntryAtReset};
 ghost use Rattle.doorbell_irq.specs.Triggers.{vector_at};
-ghost use Rattle.doorbell_irq.specs.Routes.{would_come, is_intx};
+ghost use Rattle.doorbell_irq.specs.Routes.{would_be_delivered, is_intx};
 
 use crate::doorbell::{REGISTER_DOORBELL, REGISTER_STATE};
 use crate::msix_table::MsixTable;
@@ -232,7 +232,7 @@ impl<E: MsixTable + Drop> PeerDevice<E> {
 
     /// Returns which doorbells this peer's registers let through.
     pub(crate) fn route(&self, wiring: Wiring) -> Route
-        ensures vectors { (n : ℕ) → n < 64 → bit result.vectors n ≡ would_come wiring self.now.connected (register_bytes self.now) n }
+        ensures vectors { (n : ℕ) → n < 64 → bit result.vectors n ≡ would_be_delivered wiring self.now.connected (register_bytes self.now) n }
         ensures intx { result.intx ≡ is_intx wiring }
         ensures one_shot { result.one_shot ≡ is_one_shot (register_bytes self.now) }
         ensures enabled { result.enabled ≡ is_enabled (register_bytes self.now) }
@@ -248,7 +248,7 @@ impl<E: MsixTable + Drop> PeerDevice<E> {
     /// Returns one bit for each vector: whether a trigger with it would be delivered if interrupts
     /// were enabled.
     fn vectors(&self, wiring: Wiring) -> u64
-        ensures { (n : ℕ) → n < 64 → bit result n ≡ would_come wiring self.now.connected (register_bytes self.now) n }
+        ensures { (n : ℕ) → n < 64 → bit result n ≡ would_be_delivered wiring self.now.connected (register_bytes self.now) n }
     {
         let mut vectors = 0;
         for vector in 0..64 {
@@ -261,7 +261,7 @@ impl<E: MsixTable + Drop> PeerDevice<E> {
 
     /// Whether a trigger with this vector would be delivered if interrupts were enabled.
     fn would_take(&self, wiring: Wiring, vector: u32) -> bool
-        ensures { result ≡ would_come wiring self.now.connected (register_bytes self.now) vector }
+        ensures { result ≡ would_be_delivered wiring self.now.connected (register_bytes self.now) vector }
     {
         self.connected && self.lets_through(wiring, vector)
     }

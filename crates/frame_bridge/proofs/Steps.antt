@@ -18,7 +18,7 @@ use Rattle.call_grammar.specs.Offers.{PendingOffer, frame_fits, descriptor_of, w
 use Rattle.call_grammar.specs.Polls.{entry_in, look_marks, published_by}
 use Rattle.call_grammar.specs.Places.{Place, Closed, ReadingOtherState, Clearing, WritingState, Refusing, NotInRun, ReadingUsedIndex, ReadingUsedId, WritingFrameWord, WritingDescAddressLow, WritingDescAddressHigh, WritingDescLength, WritingDescFlags, WritingAvailEntry, WritingAvailIndex, ReadingAvailEvent, RingingOffer, ReadingAvailIndex, WritingAvailEvent, ReadingAvailEntry, ReadingDescAddressLow, ReadingDescAddressHigh, ReadingDescLength, ReadingDescFlags, ReadingFrameWord, WritingUsedId, WritingUsedLength, WritingUsedIndex, RingingPoll, clear_place, tick_place, fill_place, ids_place, notify_place, none_place, items_place, words_place, access_at, marks_at, next_place}
 use Rattle.link_endpoint.specs.Plan.{left_after, delivered_by}
-use Rattle.frame_bridge.specs.Keeps.{job_frame, HeadIs}
+use Rattle.frame_bridge.specs.Keeps.{pending_frame, HeadIs}
 
 -- Accepted frames
 
@@ -77,45 +77,45 @@ silent config _ value is = refl
 
 -- A step ends the offer, or continues it.
 abbrev Goes : Place → Place → Type 0
-Goes place next = (job_frame next ≡ None) ⊎ ((job_frame next ≡ job_frame place) × (is_publishing place ≡ false))
+Goes place next = (pending_frame next ≡ None) ⊎ ((pending_frame next ≡ pending_frame place) × (is_publishing place ≡ false))
 
 if_goes : (place : Place) (b : Bool) (x y : Place) → Goes place x → Goes place y → Goes place (if b then x else y)
 if_goes place true x y one other = one
 if_goes place false x y one other = other
 
-clear_none : (at count state : ℕ) → job_frame (clear_place at count state) ≡ None
+clear_none : (at count state : ℕ) → pending_frame (clear_place at count state) ≡ None
 clear_none at zero state = refl
 clear_none at (suc more) state = refl
 
-tick_none : (config : EndConfig) (move : Move) → job_frame (tick_place config move) ≡ None
+tick_none : (config : EndConfig) (move : Move) → pending_frame (tick_place config move) ≡ None
 tick_none config Stay = refl
 tick_none config (Set state) = refl
 tick_none config (ClearThenSet state) = clear_none config.own config.words state
 
-tell_none : (config : EndConfig) (number : ℕ) → job_frame (notify_place config number) ≡ None
-tell_none config number = by_events (has_events config.sizes)
+notify_none : (config : EndConfig) (number : ℕ) → pending_frame (notify_place config number) ≡ None
+notify_none config number = by_events (has_events config.sizes)
   where
-    by_events : (b : Bool) → job_frame (if b then ReadingAvailEvent number else RingingOffer) ≡ None
+    by_events : (b : Bool) → pending_frame (if b then ReadingAvailEvent number else RingingOffer) ≡ None
     by_events true = refl
     by_events false = refl
 
-none_none : (taken : ℕ) (last : Bool) → job_frame (none_place taken last) ≡ None
+none_none : (taken : ℕ) (last : Bool) → pending_frame (none_place taken last) ≡ None
 none_none taken true = refl
 none_none taken false = refl
 
-items_none : (number count : ℕ) → job_frame (items_place number count) ≡ None
+items_none : (number count : ℕ) → pending_frame (items_place number count) ≡ None
 items_none number zero = refl
 items_none number (suc more) = refl
 
-words_none : (number more entry address bytes : ℕ) (read : List ℕ) (count : ℕ) → job_frame (words_place number more entry address bytes read count) ≡ None
+words_none : (number more entry address bytes : ℕ) (read : List ℕ) (count : ℕ) → pending_frame (words_place number more entry address bytes read count) ≡ None
 words_none number more entry address bytes read zero = refl
 words_none number more entry address bytes read (suc count) = refl
 
-fill_frame : (pending : PendingOffer) (at count : ℕ) → job_frame (fill_place pending at count) ≡ Some pending.frame
+fill_frame : (pending : PendingOffer) (at count : ℕ) → pending_frame (fill_place pending at count) ≡ Some pending.frame
 fill_frame pending at zero = refl
 fill_frame pending at (suc more) = refl
 
-ids_goes : (config : EndConfig) (place : Place) (pending : PendingOffer) (freed count : ℕ) → job_frame place ≡ Some pending.frame → is_publishing place ≡ false →
+ids_goes : (config : EndConfig) (place : Place) (pending : PendingOffer) (freed count : ℕ) → pending_frame place ≡ Some pending.frame → is_publishing place ≡ false →
     Goes place (ids_place config pending freed count)
 ids_goes config place pending freed zero here not_yet =
     if_goes place (frame_fits config pending freed) (fill_place pending 0 (words_for (length pending.frame))) Closed
@@ -140,7 +140,7 @@ goes config (WritingDescAddressHigh pending) value = inr (refl, refl)
 goes config (WritingDescLength pending) value = inr (refl, refl)
 goes config (WritingDescFlags pending) value = inr (refl, refl)
 goes config (WritingAvailEntry pending) value = inr (refl, refl)
-goes config (WritingAvailIndex pending) value = inl (tell_none config pending.number)
+goes config (WritingAvailIndex pending) value = inl (notify_none config pending.number)
 goes config (ReadingAvailEvent number) value = if_goes (ReadingAvailEvent number) (wants_doorbell (low_half value) number) _ _ (inl refl) (inl refl)
 goes config RingingOffer value = inl refl
 goes config (ReadingAvailIndex taken last) value =

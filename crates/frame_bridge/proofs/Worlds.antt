@@ -3,7 +3,7 @@ use Rattle.std.proofs.Common.{◌≡◌, ◌≢◌, ℕ, zero, suc, ◌+◌, ◌
 use Rattle.std.specs.Prelude.{◌==◌, nat_le, slice_index, if◌then◌else◌, filter, All}
 use Rattle.std.specs.List.{AllByRecursion}
 use Rattle.std.proofs.lemmas.Bool.{ne_eqb, eqb-false, leb-true}
-use Rattle.line_format.proofs.SpellLaws.{both_true}
+use Rattle.line_format.proofs.SpellingsAreRead.{both_true}
 use Rattle.std.proofs.lemmas.List.{append-nil, map-append, get_or_default}
 use Rattle.std.proofs.lemmas.List.Elements.{All-append, All-nil, filter-append, recursion_from_All, All-from_recursion}
 use Rattle.call_grammar.specs.Ends.{End, fresh}
@@ -13,8 +13,8 @@ use Rattle.call_grammar.specs.Automatic.{Choice, ChoosesTick, ChoosesOffer, Choo
 use Rattle.link_invariant.specs.LinkConfig.{config_of, IsOffered}
 use Rattle.link_invariant.specs.Runs.{HonestRuns}
 use Rattle.link_invariant.specs.Runs as honest
-use Rattle.pair_sessions.specs.Once.{CalmRuns, starts, begins, steps, others}
-use Rattle.pair_sessions.proofs.Calm.{deliver_lem}
+use Rattle.pair_sessions.specs.CalmRuns.{CalmRuns, starts, begins, steps, others}
+use Rattle.pair_sessions.proofs.CalmRuns.{deliver_lem}
 use Rattle.bridge_text.specs.declared.scripts.Sent.{Sent}
 use Rattle.bridge_text.specs.Spelling as text
 use Rattle.frame_bridge.specs.Forwarding.{Arrival, is_forwarded, forwarded_after, forward}
@@ -24,7 +24,7 @@ use Rattle.frame_bridge.specs.Links.{link_config, AutoEnd, Link, starting, choic
 use Rattle.frame_bridge.specs.Run.{World, Turn, frames_of, started, arriving, world_after}
 use Rattle.frame_bridge.specs.Output.{outs, arrived_at, Delivers}
 use Rattle.frame_bridge.specs.Keeps.{HeadIs, ends_in, places_in, Sound, given_to, Going}
-use Rattle.frame_bridge.proofs.Keeping.{is_ground, put_here, put_other, All_left, All_right, turned_sound}
+use Rattle.frame_bridge.proofs.LinkInvariant.{is_link_config, put_here, put_other, All_left, All_right, turned_sound}
 
 -- Lists of arrivals
 
@@ -73,82 +73,82 @@ arrived_other port other (frame ∷ frames) apart =
 
 -- What a turn delivers
 
-same_delivered : (config : EndConfig) (party : AutoEnd) (c : Choice) → (with_choice config party c).delivered ≡ party.delivered
-same_delivered config party ChoosesTick = refl
-same_delivered config party (ChoosesOffer frame) = refl
-same_delivered config party ChoosesPoll = refl
-same_delivered config party IsFinished = refl
+same_delivered : (config : EndConfig) (auto_end : AutoEnd) (c : Choice) → (with_choice config auto_end c).delivered ≡ auto_end.delivered
+same_delivered config auto_end ChoosesTick = refl
+same_delivered config auto_end (ChoosesOffer frame) = refl
+same_delivered config auto_end ChoosesPoll = refl
+same_delivered config auto_end IsFinished = refl
 
-opened_at : (config : EndConfig) (party : AutoEnd) (b : Bool) → (if b then party else with_choice config party (choice party)).delivered ≡ party.delivered
-opened_at config party true = refl
-opened_at config party false = same_delivered config party (choice party)
+opened_at : (config : EndConfig) (auto_end : AutoEnd) (b : Bool) → (if b then auto_end else with_choice config auto_end (choice auto_end)).delivered ≡ auto_end.delivered
+opened_at config auto_end true = refl
+opened_at config auto_end false = same_delivered config auto_end (choice auto_end)
 
-told_at : (link : Link) (p : ℕ) (party : AutoEnd) (b : Bool) → party.delivered ≡ (link.parties p).delivered →
-    ((if b then step_of_link p link party else link).parties p).delivered ≡
-    (link.parties p).delivered ++ (if b then delivered_by (marks_at (config_of link_config p) party.place (value_in link.memory (access_at (config_of link_config p) party.place))) else [])
-told_at link p party true same =
-    let a = access_at (config_of link_config p) party.place in
-    ap (λ (x : AutoEnd). x.delivered) (put_here link.parties p (stepped (config_of link_config p) (value_in link.memory a) party)) ∙
-    ap (λ (l : List (List ℕ)). l ++ delivered_by (marks_at (config_of link_config p) party.place (value_in link.memory a))) same
-told_at link p party false same = sym (append-nil (link.parties p).delivered)
+recorded_at : (link : Link) (p : ℕ) (auto_end : AutoEnd) (b : Bool) → auto_end.delivered ≡ (link.auto_ends p).delivered →
+    ((if b then step_of_link p link auto_end else link).auto_ends p).delivered ≡
+    (link.auto_ends p).delivered ++ (if b then delivered_by (marks_at (config_of link_config p) auto_end.place (value_in link.memory (access_at (config_of link_config p) auto_end.place))) else [])
+recorded_at link p auto_end true same =
+    let a = access_at (config_of link_config p) auto_end.place in
+    ap (λ (x : AutoEnd). x.delivered) (put_here link.auto_ends p (stepped (config_of link_config p) (value_in link.memory a) auto_end)) ∙
+    ap (λ (l : List (List ℕ)). l ++ delivered_by (marks_at (config_of link_config p) auto_end.place (value_in link.memory a))) same
+recorded_at link p auto_end false same = sym (append-nil (link.auto_ends p).delivered)
 
-pub turned_told : (link : Link) (p : ℕ) → ((turned p link).parties p).delivered ≡ (link.parties p).delivered ++ observed_by p link
-turned_told link p =
-    let party : AutoEnd = opened (config_of link_config p) (link.parties p) in
-    told_at link p party (is_open party.place) (opened_at (config_of link_config p) (link.parties p) (is_open (link.parties p).place))
+pub turned_recorded : (link : Link) (p : ℕ) → ((turned p link).auto_ends p).delivered ≡ (link.auto_ends p).delivered ++ observed_by p link
+turned_recorded link p =
+    let auto_end : AutoEnd = opened (config_of link_config p) (link.auto_ends p) in
+    recorded_at link p auto_end (is_open auto_end.place) (opened_at (config_of link_config p) (link.auto_ends p) (is_open (link.auto_ends p).place))
 
-other_at : (link : Link) (p q : ℕ) (party : AutoEnd) (b : Bool) → q ≢ p → (if b then step_of_link p link party else link).parties q ≡ link.parties q
-other_at link p q party true apart =
-    put_other link.parties p (stepped (config_of link_config p) (value_in link.memory (access_at (config_of link_config p) party.place)) party) q apart
-other_at link p q party false apart = refl
+other_at : (link : Link) (p q : ℕ) (auto_end : AutoEnd) (b : Bool) → q ≢ p → (if b then step_of_link p link auto_end else link).auto_ends q ≡ link.auto_ends q
+other_at link p q auto_end true apart =
+    put_other link.auto_ends p (stepped (config_of link_config p) (value_in link.memory (access_at (config_of link_config p) auto_end.place)) auto_end) q apart
+other_at link p q auto_end false apart = refl
 
-pub turned_other : (link : Link) (p q : ℕ) → q ≢ p → (turned p link).parties q ≡ link.parties q
-turned_other link p q apart = other_at link p q (opened (config_of link_config p) (link.parties p)) (is_open (opened (config_of link_config p) (link.parties p)).place) apart
+pub turned_other : (link : Link) (p q : ℕ) → q ≢ p → (turned p link).auto_ends q ≡ link.auto_ends q
+turned_other link p q apart = other_at link p q (opened (config_of link_config p) (link.auto_ends p)) (is_open (opened (config_of link_config p) (link.auto_ends p)).place) apart
 
 -- A link
 
-copied_end : (parties : ℕ → AutoEnd) (frames : List (List ℕ)) (q : ℕ) (b : Bool) → (q == 1) ≡ b → (if b then record (parties 1) { frames = frames } else parties q).end ≡ (parties q).end
-copied_end parties frames q true is = ap (λ (k : ℕ). (parties k).end) (sym (eqb-true q 1 is))
-copied_end parties frames q false is = refl
+copied_end : (auto_ends : ℕ → AutoEnd) (frames : List (List ℕ)) (q : ℕ) (b : Bool) → (q == 1) ≡ b → (if b then record (auto_ends 1) { frames = frames } else auto_ends q).end ≡ (auto_ends q).end
+copied_end auto_ends frames q true is = ap (λ (k : ℕ). (auto_ends k).end) (sym (eqb-true q 1 is))
+copied_end auto_ends frames q false is = refl
 
-copied_place : (parties : ℕ → AutoEnd) (frames : List (List ℕ)) (q : ℕ) (b : Bool) → (q == 1) ≡ b → (if b then record (parties 1) { frames = frames } else parties q).place ≡ (parties q).place
-copied_place parties frames q true is = ap (λ (k : ℕ). (parties k).place) (sym (eqb-true q 1 is))
-copied_place parties frames q false is = refl
+copied_place : (auto_ends : ℕ → AutoEnd) (frames : List (List ℕ)) (q : ℕ) (b : Bool) → (q == 1) ≡ b → (if b then record (auto_ends 1) { frames = frames } else auto_ends q).place ≡ (auto_ends q).place
+copied_place auto_ends frames q true is = ap (λ (k : ℕ). (auto_ends k).place) (sym (eqb-true q 1 is))
+copied_place auto_ends frames q false is = refl
 
 head_longer : (place : Place) (frames copies : List (List ℕ)) → HeadIs place frames → HeadIs place (frames ++ copies)
 head_longer place frames copies head = λ frame is. let here = head frame is in (here.0 ++ copies, ap (λ (l : List (List ℕ)). l ++ copies) here.1)
 
 pub copies_sound : (sent forwarded copies : List (List ℕ)) (link : Link) → Sound (given_to sent forwarded) link → All (IsOffered link_config) copies →
     Sound (given_to sent (forwarded ++ copies)) (with_copies copies link)
-copies_sound sent forwarded copies link sound may = record { runs = runs; counted = counted; told = told; heads = heads; offered = offered }
+copies_sound sent forwarded copies link sound may = record { runs = runs; counted = counted; recorded = recorded; heads = heads; offered = offered }
   where
-    parties : ℕ → AutoEnd
-    parties = link.parties
+    auto_ends : ℕ → AutoEnd
+    auto_ends = link.auto_ends
 
     longer : List (List ℕ)
-    longer = (link.parties 1).frames ++ copies
+    longer = (link.auto_ends 1).frames ++ copies
 
     runs : CalmRuns link_config link.memory (ends_in (with_copies copies link)) (places_in (with_copies copies link))
     runs =
-        let ends : ends_in link ≡ ends_in (with_copies copies link) = λ i q. sym (copied_end link.parties ((link.parties 1).frames ++ copies) q (q == 1) refl) i in
-        let places : places_in link ≡ places_in (with_copies copies link) = λ i q. sym (copied_place link.parties ((link.parties 1).frames ++ copies) q (q == 1) refl) i in
+        let ends : ends_in link ≡ ends_in (with_copies copies link) = λ i q. sym (copied_end link.auto_ends ((link.auto_ends 1).frames ++ copies) q (q == 1) refl) i in
+        let places : places_in link ≡ places_in (with_copies copies link) = λ i q. sym (copied_place link.auto_ends ((link.auto_ends 1).frames ++ copies) q (q == 1) refl) i in
         subst (λ (e : ℕ → End). CalmRuns link_config link.memory e (places_in (with_copies copies link))) ends
         (subst (λ (p : ℕ → Place). CalmRuns link_config link.memory (ends_in link) p) places sound.runs)
 
-    counted : (p : ℕ) → p < 2 → given_to sent (forwarded ++ copies) p ≡ ((with_copies copies link).parties p).end.accepted ++ ((with_copies copies link).parties p).frames
+    counted : (p : ℕ) → p < 2 → given_to sent (forwarded ++ copies) p ≡ ((with_copies copies link).auto_ends p).end.accepted ++ ((with_copies copies link).auto_ends p).frames
     counted zero below = sound.counted 0 below
     counted (suc zero) below =
-        ap (λ (l : List (List ℕ)). l ++ copies) (sound.counted 1 below) ∙ append_assoc (link.parties 1).end.accepted (link.parties 1).frames copies
+        ap (λ (l : List (List ℕ)). l ++ copies) (sound.counted 1 below) ∙ append_assoc (link.auto_ends 1).end.accepted (link.auto_ends 1).frames copies
     counted (suc (suc p)) below = absurd (omega arith)
 
-    told : (p : ℕ) → p < 2 → ((with_copies copies link).parties p).delivered ≡ ((with_copies copies link).parties p).end.delivered
-    told zero below = sound.told 0 below
-    told (suc zero) below = sound.told 1 below
-    told (suc (suc p)) below = absurd (omega arith)
+    recorded : (p : ℕ) → p < 2 → ((with_copies copies link).auto_ends p).delivered ≡ ((with_copies copies link).auto_ends p).end.delivered
+    recorded zero below = sound.recorded 0 below
+    recorded (suc zero) below = sound.recorded 1 below
+    recorded (suc (suc p)) below = absurd (omega arith)
 
-    heads : (p : ℕ) → p < 2 → HeadIs ((with_copies copies link).parties p).place ((with_copies copies link).parties p).frames
+    heads : (p : ℕ) → p < 2 → HeadIs ((with_copies copies link).auto_ends p).place ((with_copies copies link).auto_ends p).frames
     heads zero below = sound.heads 0 below
-    heads (suc zero) below = head_longer (link.parties 1).place (link.parties 1).frames copies (sound.heads 1 below)
+    heads (suc zero) below = head_longer (link.auto_ends 1).place (link.auto_ends 1).frames copies (sound.heads 1 below)
     heads (suc (suc p)) below = absurd (omega arith)
 
     offered : (p : ℕ) → p < 2 → All (IsOffered link_config) (given_to sent (forwarded ++ copies) p)
@@ -157,21 +157,21 @@ copies_sound sent forwarded copies link sound may = record { runs = runs; counte
     offered (suc (suc p)) below = absurd (omega arith)
 
 -- What the bridge's end delivered was offered by the station.
-pub delivered_offered : (sent forwarded : List (List ℕ)) (link : Link) → Sound (given_to sent forwarded) link → All (IsOffered link_config) (link.parties 1).delivered
+pub delivered_offered : (sent forwarded : List (List ℕ)) (link : Link) → Sound (given_to sent forwarded) link → All (IsOffered link_config) (link.auto_ends 1).delivered
 delivered_offered sent forwarded link sound =
-    let all = deliver_lem link_config link.memory (ends_in link) (places_in link) is_ground sound.runs in
+    let all = deliver_lem link_config link.memory (ends_in link) (places_in link) is_link_config sound.runs in
     let begins_with = (all.3 0 (omega arith)).2 in
-    let accepted : All (IsOffered link_config) (link.parties 0).end.accepted =
-    All_left (IsOffered link_config) (link.parties 0).end.accepted (link.parties 0).frames (subst (All (IsOffered link_config)) (sound.counted 0 (omega arith)) (sound.offered 0 (omega arith))) in
-    let delivered : All (IsOffered link_config) (link.parties 1).end.delivered =
-    All_left (IsOffered link_config) (link.parties 1).end.delivered begins_with.0 (subst (All (IsOffered link_config)) begins_with.1 accepted) in
-    subst (All (IsOffered link_config)) (sym (sound.told 1 (omega arith))) delivered
+    let accepted : All (IsOffered link_config) (link.auto_ends 0).end.accepted =
+    All_left (IsOffered link_config) (link.auto_ends 0).end.accepted (link.auto_ends 0).frames (subst (All (IsOffered link_config)) (sound.counted 0 (omega arith)) (sound.offered 0 (omega arith))) in
+    let delivered : All (IsOffered link_config) (link.auto_ends 1).end.delivered =
+    All_left (IsOffered link_config) (link.auto_ends 1).end.delivered begins_with.0 (subst (All (IsOffered link_config)) begins_with.1 accepted) in
+    subst (All (IsOffered link_config)) (sym (sound.recorded 1 (omega arith))) delivered
 
 -- So was what it delivers in a turn.
-pub told_offered : (sent forwarded : List (List ℕ)) (link : Link) → Sound (given_to sent forwarded) link → All (IsOffered link_config) (observed_by 1 link)
-told_offered sent forwarded link sound =
-    All_right (IsOffered link_config) (link.parties 1).delivered (observed_by 1 link)
-    (subst (All (IsOffered link_config)) (turned_told link 1) (delivered_offered sent forwarded (turned 1 link) (turned_sound (given_to sent forwarded) link 1 sound (omega arith))))
+pub recorded_offered : (sent forwarded : List (List ℕ)) (link : Link) → Sound (given_to sent forwarded) link → All (IsOffered link_config) (observed_by 1 link)
+recorded_offered sent forwarded link sound =
+    All_right (IsOffered link_config) (link.auto_ends 1).delivered (observed_by 1 link)
+    (subst (All (IsOffered link_config)) (turned_recorded link 1) (delivered_offered sent forwarded (turned 1 link) (turned_sound (given_to sent forwarded) link 1 sound (omega arith))))
 
 -- The run
 
@@ -201,8 +201,8 @@ frames_offered w port is =
 -- the start
 
 start_sound : (frames : List (List ℕ)) → All (IsOffered link_config) frames →
-    Sound (given_to frames []) (record { memory = λ w. 0; parties = λ p. starting (if p == 0 then frames else []) })
-start_sound frames may = record { runs = starts (λ w. 0) (λ p. fresh) (λ p. Closed) (λ w. refl) (λ p. refl) (λ p. refl); counted = counted; told = λ p below. refl; heads = λ p below frame is. absurd (cc); offered = offered }
+    Sound (given_to frames []) (record { memory = λ w. 0; auto_ends = λ p. starting (if p == 0 then frames else []) })
+start_sound frames may = record { runs = starts (λ w. 0) (λ p. fresh) (λ p. Closed) (λ w. refl) (λ p. refl) (λ p. refl); counted = counted; recorded = λ p below. refl; heads = λ p below frame is. absurd (cc); offered = offered }
   where
     counted : (p : ℕ) → p < 2 → given_to frames [] p ≡ [] ++ (if p == 0 then frames else [])
     counted zero below = refl
@@ -226,7 +226,7 @@ arriving_if w t false P all = tt
 arriving_offered : (sent : List Sent) (ports : ℕ) (w : World) (t : Turn) → Going sent ports w → t.port < ports → AllByRecursion (λ x. IsOffered link_config x.frame) (arriving w t)
 arriving_offered sent ports w t going below =
     arriving_if w t (t.end == 1) (IsOffered link_config) (recursion_from_All (IsOffered link_config) (observed_by 1 (w.links t.port))
-    (told_offered (frames_of t.port sent) (forward w.arrivals t.port) (w.links t.port) (going.links t.port below)))
+    (recorded_offered (frames_of t.port sent) (forward w.arrivals t.port) (w.links t.port) (going.links t.port below)))
 
 link_if : (sent : List Sent) (ports : ℕ) (w : World) (t : Turn) (port : ℕ) (b : Bool) → Going sent ports w → port < ports → t.end < 2 →
     Sound (given_to (frames_of port sent) (forward w.arrivals port)) (if b then turned t.end (w.links port) else w.links port)
@@ -244,26 +244,26 @@ link_after sent ports w t going there end port below =
     (copies_sound (frames_of port sent) (forward w.arrivals port) copies link (link_if sent ports w t port (port == t.port) going below end) may)
 
 -- What the bridge's end of a port has delivered after a turn.
-told_after : (w : World) (t : Turn) (port end : ℕ) → end < 2 → t.port ≡ port → t.end ≡ end →
-    ((turned end (w.links port)).parties 1).delivered ≡ ((w.links port).parties 1).delivered ++ arrived_at port (if end == 1 then map (arrival port) (observed_by 1 (w.links port)) else [])
-told_after w t port zero below at is = ap (λ (x : AutoEnd). x.delivered) (turned_other (w.links port) 0 1 (λ e. cc)) ∙ sym (append-nil ((w.links port).parties 1).delivered)
-told_after w t port (suc zero) below at is =
-    turned_told (w.links port) 1 ∙ ap (λ (l : List (List ℕ)). ((w.links port).parties 1).delivered ++ l) (sym (arrived_own port (observed_by 1 (w.links port))))
-told_after w t port (suc (suc n)) below at is = absurd (omega arith)
+recorded_after : (w : World) (t : Turn) (port end : ℕ) → end < 2 → t.port ≡ port → t.end ≡ end →
+    ((turned end (w.links port)).auto_ends 1).delivered ≡ ((w.links port).auto_ends 1).delivered ++ arrived_at port (if end == 1 then map (arrival port) (observed_by 1 (w.links port)) else [])
+recorded_after w t port zero below at is = ap (λ (x : AutoEnd). x.delivered) (turned_other (w.links port) 0 1 (λ e. cc)) ∙ sym (append-nil ((w.links port).auto_ends 1).delivered)
+recorded_after w t port (suc zero) below at is =
+    turned_recorded (w.links port) 1 ∙ ap (λ (l : List (List ℕ)). ((w.links port).auto_ends 1).delivered ++ l) (sym (arrived_own port (observed_by 1 (w.links port))))
+recorded_after w t port (suc (suc n)) below at is = absurd (omega arith)
 
 none_from : (w : World) (t : Turn) (port : ℕ) (b : Bool) → t.port ≢ port → arrived_at port (if b then map (arrival t.port) (observed_by 1 (w.links t.port)) else []) ≡ []
 none_from w t port true apart = arrived_other port t.port (observed_by 1 (w.links t.port)) apart
 none_from w t port false apart = refl
 
 arrived_if : (w : World) (t : Turn) (port : ℕ) (b : Bool) → t.end < 2 → (port == t.port) ≡ b →
-    ((if b then turned t.end (w.links port) else w.links port).parties 1).delivered ≡ ((w.links port).parties 1).delivered ++ arrived_at port (arriving w t)
+    ((if b then turned t.end (w.links port) else w.links port).auto_ends 1).delivered ≡ ((w.links port).auto_ends 1).delivered ++ arrived_at port (arriving w t)
 arrived_if w t port true end is =
     let same : t.port ≡ port = sym (eqb-true port t.port is) in
-    told_after w t port t.end end same refl ∙
-    ap (λ (k : ℕ). ((w.links port).parties 1).delivered ++ arrived_at port (if t.end == 1 then map (arrival k) (observed_by 1 (w.links k)) else [])) (sym same)
+    recorded_after w t port t.end end same refl ∙
+    ap (λ (k : ℕ). ((w.links port).auto_ends 1).delivered ++ arrived_at port (if t.end == 1 then map (arrival k) (observed_by 1 (w.links k)) else [])) (sym same)
 arrived_if w t port false end is =
-    sym (append-nil ((w.links port).parties 1).delivered) ∙
-    ap (λ (l : List (List ℕ)). ((w.links port).parties 1).delivered ++ l) (sym (none_from w t port (t.end == 1) (λ e. eqb-false port t.port is (sym e))))
+    sym (append-nil ((w.links port).auto_ends 1).delivered) ∙
+    ap (λ (l : List (List ℕ)). ((w.links port).auto_ends 1).delivered ++ l) (sym (none_from w t port (t.end == 1) (λ e. eqb-false port t.port is (sym e))))
 
 -- A turn of an end of one of the ports preserves it.
 pub going_after : (sent : List Sent) (ports : ℕ) (w : World) (t : Turn) → Going sent ports w → t.port < ports → t.end < 2 → Going sent ports (world_after w t)
@@ -288,25 +288,25 @@ pub delivers : (script : text.World) (w : World) (port : ℕ) → Going script.s
 delivers script w port going below =
     let link : Link = w.links port in
     let sound : Sound (given_to (frames_of port script.sent) (forward w.arrivals port)) link = going.links port below in
-    let all = deliver_lem link_config link.memory (ends_in link) (places_in link) is_ground sound.runs in
+    let all = deliver_lem link_config link.memory (ends_in link) (places_in link) is_link_config sound.runs in
     let station = (all.3 0 (omega arith)).2 in
     let bridge = (all.3 1 (omega arith)).2 in
-    let arrived : arrived_at port w.arrivals ≡ (link.parties 1).end.delivered = going.arrived port below ∙ sound.told 1 (omega arith) in
-    let out : outs w port ≡ (link.parties 0).end.delivered = sound.told 0 (omega arith) in
-    let forwarded : forward w.arrivals port ≡ outs w port ++ (bridge.0 ++ (link.parties 1).frames) =
-    sound.counted 1 (omega arith) ∙ (ap (λ (l : List (List ℕ)). l ++ (link.parties 1).frames) (bridge.1 ∙ ap (λ (l : List (List ℕ)). l ++ bridge.0) (sym out)) ∙
-    append_assoc (outs w port) bridge.0 (link.parties 1).frames) in
+    let arrived : arrived_at port w.arrivals ≡ (link.auto_ends 1).end.delivered = going.arrived port below ∙ sound.recorded 1 (omega arith) in
+    let out : outs w port ≡ (link.auto_ends 0).end.delivered = sound.recorded 0 (omega arith) in
+    let forwarded : forward w.arrivals port ≡ outs w port ++ (bridge.0 ++ (link.auto_ends 1).frames) =
+    sound.counted 1 (omega arith) ∙ (ap (λ (l : List (List ℕ)). l ++ (link.auto_ends 1).frames) (bridge.1 ∙ ap (λ (l : List (List ℕ)). l ++ bridge.0) (sym out)) ∙
+    append_assoc (outs w port) bridge.0 (link.auto_ends 1).frames) in
     record {
       runs = honest_run link.memory (ends_in link) (places_in link) sound.runs;
       arrives = (
-        station.0 ++ (link.parties 0).frames,
-        sound.counted 0 (omega arith) ∙ (ap (λ (l : List (List ℕ)). l ++ (link.parties 0).frames) (station.1 ∙ ap (λ (l : List (List ℕ)). l ++ station.0) (sym arrived)) ∙
-            append_assoc (arrived_at port w.arrivals) station.0 (link.parties 0).frames),
+        station.0 ++ (link.auto_ends 0).frames,
+        sound.counted 0 (omega arith) ∙ (ap (λ (l : List (List ℕ)). l ++ (link.auto_ends 0).frames) (station.1 ∙ ap (λ (l : List (List ℕ)). l ++ station.0) (sym arrived)) ∙
+            append_assoc (arrived_at port w.arrivals) station.0 (link.auto_ends 0).frames),
       );
       goes_out = (
-        bridge.0 ++ (link.parties 1).frames,
+        bridge.0 ++ (link.auto_ends 1).frames,
         forwarded,
-        rest_is (forward w.arrivals port) (outs w port) (bridge.0 ++ (link.parties 1).frames) forwarded,
+        rest_is (forward w.arrivals port) (outs w port) (bridge.0 ++ (link.auto_ends 1).frames) forwarded,
       );
     }
   where

@@ -35,26 +35,26 @@ starting frames = record { end = fresh; place = Closed; frames = frames; round =
 
 -- Its choice if no call is open.
 abbrev pub choice : AutoEnd → Choice
-choice party = choice_of party.end.handshake.phase party.round party.frames (length party.delivered) expected
+choice auto_end = choice_of auto_end.end.handshake.phase auto_end.round auto_end.frames (length auto_end.delivered) expected
 
 abbrev pub with_choice : EndConfig → AutoEnd → Choice → AutoEnd
-with_choice config party ChoosesTick = record party { place = first_place config party.end Tick; round = Anew }
-with_choice config party (ChoosesOffer frame) = record party { place = first_place config party.end (Offer frame); round = AfterOffer }
-with_choice config party ChoosesPoll = record party { place = first_place config party.end Poll; round = AfterPoll }
-with_choice config party IsFinished = party
+with_choice config auto_end ChoosesTick = record auto_end { place = first_place config auto_end.end Tick; round = Anew }
+with_choice config auto_end (ChoosesOffer frame) = record auto_end { place = first_place config auto_end.end (Offer frame); round = AfterOffer }
+with_choice config auto_end ChoosesPoll = record auto_end { place = first_place config auto_end.end Poll; round = AfterPoll }
+with_choice config auto_end IsFinished = auto_end
 
 -- The end with its open call, or with the call that it chooses.
 abbrev pub opened : EndConfig → AutoEnd → AutoEnd
-opened config party = if is_open party.place then party else with_choice config party (choice party)
+opened config auto_end = if is_open auto_end.place then auto_end else with_choice config auto_end (choice auto_end)
 
 -- The end after the step of its open call that reads this value.
 abbrev pub stepped : EndConfig → ℕ → AutoEnd → AutoEnd
-stepped config value party = record {
-  end = end_after party.end (step_at config party.place value);
-  place = next_place config party.place value;
-  frames = left_after party.frames (marks_at config party.place value);
-  round = party.round;
-  delivered = party.delivered ++ delivered_by (marks_at config party.place value);
+stepped config value auto_end = record {
+  end = end_after auto_end.end (step_at config auto_end.place value);
+  place = next_place config auto_end.place value;
+  frames = left_after auto_end.frames (marks_at config auto_end.place value);
+  round = auto_end.round;
+  delivered = auto_end.delivered ++ delivered_by (marks_at config auto_end.place value);
 }
 
 -- The link
@@ -72,31 +72,31 @@ words_after p memory _ = memory
 
 pub record Link : Type 0 where
   pub memory : ℕ → ℕ
-  pub parties : ℕ → AutoEnd
+  pub auto_ends : ℕ → AutoEnd
 
 abbrev pub with_end : (ℕ → AutoEnd) → ℕ → AutoEnd → ℕ → AutoEnd
-with_end parties p party q = if q == p then party else parties q
+with_end auto_ends p auto_end q = if q == p then auto_end else auto_ends q
 
 abbrev pub step_of_link : ℕ → Link → AutoEnd → Link
-step_of_link p link party = record {
-  memory = words_after p link.memory (access_at (config_of link_config p) party.place);
-  parties = with_end link.parties p (stepped (config_of link_config p) (value_in link.memory (access_at (config_of link_config p) party.place)) party);
+step_of_link p link auto_end = record {
+  memory = words_after p link.memory (access_at (config_of link_config p) auto_end.place);
+  auto_ends = with_end link.auto_ends p (stepped (config_of link_config p) (value_in link.memory (access_at (config_of link_config p) auto_end.place)) auto_end);
 }
 
 -- The link after a turn of end p: the next step of its open call, or of the call that it chooses. A
 -- finished end makes no step.
 abbrev pub turned : ℕ → Link → Link
 turned p link =
-    if is_open (opened (config_of link_config p) (link.parties p)).place then step_of_link p link (opened (config_of link_config p) (link.parties p)) else link
+    if is_open (opened (config_of link_config p) (link.auto_ends p)).place then step_of_link p link (opened (config_of link_config p) (link.auto_ends p)) else link
 
 -- The frames that this turn delivers.
 abbrev pub observed_by : ℕ → Link → List (List ℕ)
 observed_by p link =
-    if is_open (opened (config_of link_config p) (link.parties p)).place
-    then delivered_by (marks_at (config_of link_config p) (opened (config_of link_config p) (link.parties p)).place
-    (value_in link.memory (access_at (config_of link_config p) (opened (config_of link_config p) (link.parties p)).place)))
+    if is_open (opened (config_of link_config p) (link.auto_ends p)).place
+    then delivered_by (marks_at (config_of link_config p) (opened (config_of link_config p) (link.auto_ends p)).place
+    (value_in link.memory (access_at (config_of link_config p) (opened (config_of link_config p) (link.auto_ends p)).place)))
     else []
 
 -- The link with these frames appended to those of the bridge's end.
 abbrev pub with_copies : List (List ℕ) → Link → Link
-with_copies copies link = record link { parties = with_end link.parties 1 (record (link.parties 1) { frames = (link.parties 1).frames ++ copies }) }
+with_copies copies link = record link { auto_ends = with_end link.auto_ends 1 (record (link.auto_ends 1) { frames = (link.auto_ends 1).frames ++ copies }) }

@@ -34,7 +34,7 @@ out_row frame = row Out [] frame
 
 -- The frames that the station of this port delivered.
 abbrev pub outs : World → ℕ → List (List ℕ)
-outs w port = ((w.links port).parties 0).delivered
+outs w port = ((w.links port).auto_ends 0).delivered
 
 -- The number of frames that were forwarded to this port and not delivered.
 abbrev pub left : World → ℕ → ℕ
@@ -60,7 +60,7 @@ arrived_at port arrivals = map (λ a. a.frame) (filter (λ a. a.port == port) ar
 -- region. The frames that arrived at it are a prefix of those that its station sends. The frames
 -- that its station delivered are a prefix of those forwarded to it, and the rest is left.
 pub record Delivers (script : text.World) (w : World) (port : ℕ) : Type 0 where
-  pub runs : HonestRuns link_config (w.links port).memory (λ p. ((w.links port).parties p).end) (λ p. ((w.links port).parties p).place)
+  pub runs : HonestRuns link_config (w.links port).memory (λ p. ((w.links port).auto_ends p).end) (λ p. ((w.links port).auto_ends p).place)
   pub arrives : (rest : List (List ℕ)) × (frames_of port script.sent ≡ arrived_at port w.arrivals ++ rest)
   pub goes_out : (rest : List (List ℕ)) × (forward w.arrivals port ≡ outs w port ++ rest) × (left w port ≡ length rest)
 

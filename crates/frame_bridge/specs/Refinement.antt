@@ -25,16 +25,16 @@ abbrev pub shape : Shape
 shape = shape_of 2 4096 0 16384
 
 -- The plan is that of an automatic end.
-pub record IsPlanOf (plan : Plan) (party : links.AutoEnd) : Type 0 where
-  pub frames : plan.frames ≡ party.frames
+pub record IsPlanOf (plan : Plan) (auto_end : links.AutoEnd) : Type 0 where
+  pub frames : plan.frames ≡ auto_end.frames
   pub expected_is : plan.expected ≡ expected
-  pub delivered : HasCounted plan (length party.delivered)
-  pub round : plan.round ≡ party.round
+  pub delivered : HasCounted plan (length auto_end.delivered)
+  pub round : plan.round ≡ auto_end.round
 
 -- The code's end `me` refines this one.
-pub record AutoEndRefines (me : ℕ) (party : links.AutoEnd) (held : AutoEndpoint) : Type 0 where
-  pub end : RefinesAt held.end (config_of link_config me) party.end party.place
-  pub plan : IsPlanOf held.auto party
+pub record AutoEndRefines (me : ℕ) (auto_end : links.AutoEnd) (held : AutoEndpoint) : Type 0 where
+  pub end : RefinesAt held.end (config_of link_config me) auto_end.end auto_end.place
+  pub plan : IsPlanOf held.auto auto_end
 
 -- The region has these words.
 pub record RegionRefines (memory : ℕ → ℕ) (region : Words) : Type 0 where
@@ -48,7 +48,7 @@ is_delivery _ = false
 
 -- The frames of a turn that delivers this one, or none.
 abbrev pub delivered_if : Bool → List ℕ → List (List ℕ)
-delivered_if told frame = if told then frame ∷ [] else []
+delivered_if recorded frame = if recorded then frame ∷ [] else []
 
 -- A port
 
@@ -60,15 +60,15 @@ most_counted = 18446744073709551615
 -- station delivered, and counted both.
 pub record PortRefines (link : links.Link) (forwarded : List (List ℕ)) (port : Port) : Type 0 where
   pub region : RegionRefines link.memory port.region
-  pub station : AutoEndRefines 0 (link.parties 0) port.station
-  pub own : AutoEndRefines 1 (link.parties 1) port.own
-  pub outs : port.outs.items ≡ text_of pieces_of (map out_row (link.parties 0).delivered)
-  pub delivered : port.delivered ≡ min (length (link.parties 0).delivered) most_counted
+  pub station : AutoEndRefines 0 (link.auto_ends 0) port.station
+  pub own : AutoEndRefines 1 (link.auto_ends 1) port.own
+  pub outs : port.outs.items ≡ text_of pieces_of (map out_row (link.auto_ends 0).delivered)
+  pub delivered : port.delivered ≡ min (length (link.auto_ends 0).delivered) most_counted
   pub forwarded_is : port.forwarded ≡ min (length forwarded) most_counted
 
 -- The link of a port at its start, whose station sends these frames.
 abbrev pub start_link : List (List ℕ) → links.Link
-start_link frames = record { memory = λ w. 0; parties = λ p. links.starting (if p == 0 then frames else []) }
+start_link frames = record { memory = λ w. 0; auto_ends = λ p. links.starting (if p == 0 then frames else []) }
 
 -- The port after a frame was appended to those of the bridge's end.
 abbrev pub with_copy : List ℕ → Port → Port

@@ -4,8 +4,8 @@ use Rattle.frame_bridge.specs.declared.learning.Bridge.TheInside.{Inside}
 use Rattle.frame_bridge.specs.BridgeView.{View}
 use Rattle.frame_bridge.specs.Forwarding.{most_known}
 
-abbrev pub seen : Inside → View
-seen i = record { ports = i.ports; table = i.table.entries }
+abbrev pub bridge_view_of : Inside → View
+bridge_view_of i = record { ports = i.ports; table = i.table.entries }
 
 pub record IsWellFormed (i : Inside) : Type 0 where
   pub least : 2 ≤ i.ports

@@ -45,7 +45,7 @@ frames_of port sent = map (λ s. s.frame) (filter (λ s. s.port == port) sent)
 
 abbrev pub started : List Sent → World
 started sent = record {
-  links = λ port. record { memory = λ w. 0; parties = λ p. starting (if p == 0 then frames_of port sent else []) };
+  links = λ port. record { memory = λ w. 0; auto_ends = λ p. starting (if p == 0 then frames_of port sent else []) };
   arrivals = [];
 }
 

@@ -1,7 +1,7 @@
 //! One end of a port's link over the words of its region. It chooses its own calls.
 ghost use Rattle.std.specs.Prelude.{◌≡◌, ℕ, [], ◌<◌, All, IfOk};
 ghost use Rattle.std.specs.List.{list_any};
-ghost use Rattle.call_grammar.specs.Reach.{IsPermittedAccess};
+ghost use Rattle.call_grammar.specs.Permitted.{IsPermittedAccess};
 ghost use Rattle.link_invariant.specs.LinkConfig.{config_of, IsOffered};
 ghost use Rattle.link_endpoint.specs.Engine.{delivered};
 ghost use Rattle.frame_bridge.specs.Links as links;
@@ -64,7 +64,7 @@ pub fn initial_end(
     requires me { me < 2 }
     requires geometry { geometry.now ≡ shape }
     requires queue { queue.now ≡ link_config.sizes }
-    ensures { IfOk result (λ party. AutoEndRefines me (starting []) party) }
+    ensures { IfOk result (λ auto_end. AutoEndRefines me (starting []) auto_end) }
 {
     Ok(AutoEndpoint {
         end: Endpoint::new(alloc, me, geometry, queue, TRAFFIC)?,
@@ -73,34 +73,34 @@ pub fn initial_end(
 }
 
 /// Opens the next call, if no call is open.
-fn open_next(party: &mut AutoEndpoint, me: u32)
-    requires refines { (is : links.AutoEnd) × AutoEndRefines me is party.old × All (IsOffered link_config) is.frames }
-    ensures { (is : links.AutoEnd) → AutoEndRefines me is party.old → AutoEndRefines me (opened (config_of link_config me) is) party.new }
+fn open_next(auto_end: &mut AutoEndpoint, me: u32)
+    requires refines { (is : links.AutoEnd) × AutoEndRefines me is auto_end.old × All (IsOffered link_config) is.frames }
+    ensures { (is : links.AutoEnd) → AutoEndRefines me is auto_end.old → AutoEndRefines me (opened (config_of link_config me) is) auto_end.new }
 {
-    let choice = party.choose();
-    party.open(choice);
+    let choice = auto_end.choose();
+    auto_end.open(choice);
 }
 
 /// Takes a turn: the next step of the open call, or the first step of the call that the end
 /// chooses. Returns whether the step delivers a frame.
-pub fn take_turn(party: &mut AutoEndpoint, region: &mut Region, me: u32) -> bool
+pub fn take_turn(auto_end: &mut AutoEndpoint, region: &mut Region, me: u32) -> bool
     requires me { me < 2 }
     requires shape { region.old.shape ≡ shape }
-    requires refines { (is : links.AutoEnd) × AutoEndRefines me is party.old × All (IsOffered link_config) is.frames }
-    ensures party { (link : links.Link) → AutoEndRefines me (link.parties me) party.old → RegionRefines link.memory region.old →
-        AutoEndRefines me ((turned me link).parties me) party.new }
-    ensures words { (link : links.Link) → AutoEndRefines me (link.parties me) party.old → RegionRefines link.memory region.old →
+    requires refines { (is : links.AutoEnd) × AutoEndRefines me is auto_end.old × All (IsOffered link_config) is.frames }
+    ensures auto_end { (link : links.Link) → AutoEndRefines me (link.auto_ends me) auto_end.old → RegionRefines link.memory region.old →
+        AutoEndRefines me ((turned me link).auto_ends me) auto_end.new }
+    ensures words { (link : links.Link) → AutoEndRefines me (link.auto_ends me) auto_end.old → RegionRefines link.memory region.old →
         RegionRefines (turned me link).memory region.new }
-    ensures told { (link : links.Link) → AutoEndRefines me (link.parties me) party.old → RegionRefines link.memory region.old →
-        observed_by me link ≡ delivered_if result (delivered party.new.end) }
+    ensures recorded { (link : links.Link) → AutoEndRefines me (link.auto_ends me) auto_end.old → RegionRefines link.memory region.old →
+        observed_by me link ≡ delivered_if result (delivered auto_end.new.end) }
     ensures shape { region.new.shape ≡ shape }
 {
-    open_next(party, me);
-    if !party.end.busy() {
+    open_next(auto_end, me);
+    if !auto_end.end.busy() {
         return false;
     }
-    let access = party.end.next();
+    let access = auto_end.end.next();
     let value = perform(region, me, access);
-    let notes = party.took(value);
+    let notes = auto_end.took(value);
     delivers(notes.as_slice())
 }

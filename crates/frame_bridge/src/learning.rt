@@ -25,11 +25,11 @@ pub struct Bridge {
 
 impl Model for Bridge {
     ghost use Rattle.frame_bridge.specs.BridgeView.{View};
-    ghost use Rattle.frame_bridge.specs.Representation.{seen, IsWellFormed};
+    ghost use Rattle.frame_bridge.specs.Representation.{bridge_view_of, IsWellFormed};
 
     ghost Value = { View };
 
-    ghost view = { seen };
+    ghost view = { bridge_view_of };
 
     ghost invariant = { IsWellFormed };
 }

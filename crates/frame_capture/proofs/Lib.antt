@@ -1,10 +1,10 @@
 pub mod Bytes
 pub mod Cuts
 pub mod Delivered
-pub mod FeedLaws
+pub mod FeedIsScenario
 pub mod Heads
 pub mod Offered
-pub mod Puts
+pub mod WrittenParts
 pub mod OneFile
 pub mod OneFault
 pub mod Texts

@@ -5,7 +5,7 @@ use Rattle.std.proofs.lemmas.List.{append-nil, take_more, map-append}
 use Rattle.std.proofs.lemmas.List.Elements.{filter-append, All-append, All-nil, All-cons}
 use Rattle.std.proofs.lemmas.List.Sums.{sum_by-append, sum_by-cons}
 use Rattle.std.proofs.lemmas.Bool.{leb-true}
-use Rattle.line_format.proofs.SpellLaws.{both_true}
+use Rattle.line_format.proofs.SpellingsAreRead.{both_true}
 use Rattle.scenario_text.specs.declared.acts.Act.{Act}
 use Rattle.scenario_text.specs.declared.acts.Act.TheVariants.{Offer}
 use Rattle.frame_capture.specs.declared.feeding.TheConstants.{LONGEST_OFFERED}

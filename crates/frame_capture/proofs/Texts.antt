@@ -8,7 +8,7 @@ use Rattle.std.proofs.lemmas.List.Sums.{sum_by-cons}
 use Rattle.hex.specs.Hex.{lower_digits}
 use Rattle.hex.proofs.HexLemmas.{length-encode_with}
 use Rattle.line_format.specs.Rows.{Row, row, line_of_row, text_of}
-use Rattle.line_format.proofs.LengthLaws.{line_most, text_cons, text_append, text_most}
+use Rattle.line_format.proofs.TextLengths.{line_most, text_cons, text_append, text_most}
 use Rattle.scenario_text.specs.declared.limits.TheConstants.{LONGEST_TEXT, MOST_ACTS}
 use Rattle.scenario_text.specs.declared.acts.Act.{Act}
 use Rattle.scenario_text.specs.declared.acts.Act.TheVariants.{Auto, Offer, Turn}

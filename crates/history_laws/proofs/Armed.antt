@@ -24,7 +24,7 @@ use Rattle.link_invariant.specs.LinkConfig.{LinkConfig, IsLinkConfig, config_of,
 use Rattle.link_invariant.specs.Steps.{MemoryAfter}
 use Rattle.link_invariant.specs.EndInvariant.{PlaceInvariant}
 use Rattle.link_invariant.proofs.WriteSteps.{puts_lem}
-use Rattle.link_invariant.proofs.Wakes.{event_stays}
+use Rattle.link_invariant.proofs.DoorbellIsRung.{event_stays}
 
 -- avail_event is the number of the next frame to be delivered.
 abbrev pub Stood : ℕ → End → Type 0

@@ -5,9 +5,9 @@ use Rattle.history_laws.specs.Indexes.{IndexesAreReadOnce}
 use Rattle.history_laws.specs.Quiet.{ResetsAreQuiet}
 use Rattle.history_laws.specs.Reads.{DeliveredFramesAreRead, RefusedValuesAreRead, OutOfRangeIsRefused}
 use Rattle.history_laws.specs.Spelled.{HistoriesSpellAccepted}
-use Rattle.history_laws.proofs.Stands.{Fine, AnswersTo, Settled}
+use Rattle.history_laws.proofs.LinkPlaces.{Fine, AnswersTo, Settled}
 use Rattle.history_laws.proofs.Lines.{at_line, middle}
-use Rattle.history_laws.proofs.Along.{all_fine, all_settled}
+use Rattle.history_laws.proofs.PlacesAlong.{all_fine, all_settled}
 use Rattle.history_laws.specs.Rows.{EachLine}
 use Rattle.lawful_history.specs.declared.line.Line.{Line}
 use Rattle.std.specs.Prelude.{reverse}

@@ -17,7 +17,7 @@ use Rattle.lawful_history.specs.Memory as touch
 use Rattle.lawful_history.specs.Schedule.{Event, CallQueued, AutoStarted, StormStarted, TurnTaken, RegionAccessed, DeviceAccessed, InterruptDropped, InterruptRepeated, DeviceAccess, ReadsConfig, WritesConfig, ReadsRegister, WritesRegister, ReadsMsix, WritesMsix}
 use Rattle.lawful_history.specs.Schedule as event
 use Rattle.lawful_history.specs.EventRecords.{access_lines, mark_line, turn_lines, denied_lines, region_access_lines, lines_by}
-use Rattle.lawful_history.specs.Device.{devices_of, device_events, arrival, arrived, arrivals_by, lost_count, device_event_of, brought_by, step_interrupts, device_access_line, device_lines}
+use Rattle.lawful_history.specs.Device.{devices_of, device_events, delivery_line, delivery_lines, interrupts_of_event, lost_count, device_event_of, interrupts_of_access, step_interrupts, device_access_line, device_lines}
 use Rattle.history_laws.specs.Devices.{is_of_device, without_devices}
 
 -- Each of these lines is of a device alone.
@@ -28,16 +28,16 @@ arrival_of_device : (b : Bool) (p vector : ℕ) → is_of_device (if b then line
 arrival_of_device true p vector = refl
 arrival_of_device false p vector = refl
 
-arrived_of_devices : (older : List Line) (losses : ℕ → ℕ) (deliveries : List Delivery) → AreOfDevices (arrived older losses deliveries)
+arrived_of_devices : (older : List Line) (losses : ℕ → ℕ) (deliveries : List Delivery) → AreOfDevices (delivery_lines older losses deliveries)
 arrived_of_devices older losses [] = tt
 arrived_of_devices older losses (delivery ∷ deliveries) =
-    (arrival_of_device (nat_lt (lost_count older delivery.peer) (losses delivery.peer)) delivery.peer delivery.vector, arrived_of_devices (arrival older losses delivery ∷ older) losses deliveries)
+    (arrival_of_device (nat_lt (lost_count older delivery.peer) (losses delivery.peer)) delivery.peer delivery.vector, arrived_of_devices (delivery_line older losses delivery ∷ older) losses deliveries)
 
-arrivals_of_devices : (world : World) (older : List Line) (losses : ℕ → ℕ) (line : Line) (told : Option device.Event) → AreOfDevices (arrivals_by world older losses line told)
+arrivals_of_devices : (world : World) (older : List Line) (losses : ℕ → ℕ) (line : Line) (side_event : Option device.Event) → AreOfDevices (interrupts_of_event world older losses line side_event)
 arrivals_of_devices world older losses line None = tt
 arrivals_of_devices world older losses line (Some e) = arrived_of_devices (line ∷ older) losses (effect_of (devices_of world) (device_events older) e).deliveries.items
 
-brought_of_devices : (world : World) (older : List Line) (losses : ℕ → ℕ) (lines : List Line) → AreOfDevices (brought_by world older losses lines)
+brought_of_devices : (world : World) (older : List Line) (losses : ℕ → ℕ) (lines : List Line) → AreOfDevices (interrupts_of_access world older losses lines)
 brought_of_devices world older losses [] = tt
 brought_of_devices world older losses (line ∷ lines) = arrivals_of_devices world older losses line (device_event_of line)
 

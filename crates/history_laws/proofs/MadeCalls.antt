@@ -19,9 +19,9 @@ use Rattle.lawful_history.specs.EventRecords.{EventRecord, event_of, owner, own}
 use Rattle.lawful_history.specs.Order.{Progress, initial_progress, EventStep, noted, IsCallSequence}
 use Rattle.lawful_history.proofs.Owners.{is_same}
 use Rattle.history_laws.specs.Calls.{with_step, steps_since, next_call, Begun, all_steps, InTurn, InTurns, AreFinished, AreCalls, MakesCalls, CallsEndWithinBounds}
-use Rattle.history_laws.proofs.Proper.{link_config_of, IsProper, all_proper}
-use Rattle.history_laws.proofs.Grounds.{who_is}
-use Rattle.history_laws.proofs.Along.{two_links}
+use Rattle.history_laws.proofs.PermittedEvents.{link_config_of, IsProper, all_proper}
+use Rattle.history_laws.proofs.LinkPeers.{config_is}
+use Rattle.history_laws.proofs.PlacesAlong.{two_links}
 use Rattle.history_laws.proofs.WholeCalls.{along_on, finished_call, open_call}
 use Rattle.history_laws.proofs.OwnEntries.{MayCall, may_call_on, next_given, TakesStep, TurnIs, turn_is, Keeps, few_in_flight, keeps_at_first, keeps_begun, keeps_step, keeps_reset}
 
@@ -157,8 +157,8 @@ module _ (world : World) (p : ℕ) (is : IsWorld world) (honest : is_link world 
       (subst (λ (e : End). Keeps world p e mid.left) (sym end_is) (subst (λ (t : CallTree). Keeps world p old.end t) (sym left_is) g.keeps))
       (subst (λ (t : CallTree). Split world p (entry ∷ old.past) t) (sym left_is) (split_on world p old.past old.left entry other none g.split)) g
 
-  own_who : config_of world p ≡ pair.config_of (link_config_of world) p
-  own_who = who_is world p below
+  own_config : config_of world p ≡ pair.config_of (link_config_of world) p
+  own_config = config_is world p below
 
   -- A step of this call, which satisfies the end's invariant and extends the list of calls.
   takes : (old mid : Progress) (q : ℕ) (went : Option Step) (device : List Line) (tree : CallTree) → IsOwn world p (TurnTaken q) → EventStep world p old (TurnTaken q) went mid → Keeps world p old.end tree → (t : TakesStep tree old went mid) →
@@ -179,7 +179,7 @@ module _ (world : World) (p : ℕ) (is : IsWorld world) (honest : is_link world 
   )
   turned_going old mid q went device mine acts g (inr (inl b)) =
       let keeps = keeps_begun world p old.end b.call is (next_given world old b.call g.may b.next) (subst (λ (t : CallTree). Keeps world p old.end t) b.closed g.keeps) in
-      let same = subst (λ (w : EndConfig). Keeps world p old.end (tree_of w old.end b.call)) (sym own_who) keeps in (
+      let same = subst (λ (w : EndConfig). Keeps world p old.end (tree_of w old.end b.call)) (sym own_config) keeps in (
         takes old mid q went device (tree_of (config_of world p) old.end b.call) mine acts same b.takes
             (split_begins world p old b.call b.takes.left b.takes.step device g.led (few_in_flight world p old.end old.left g.keeps) b.closed b.next b.takes.goes g.split) g,
         b.takes.past_is,

@@ -31,21 +31,21 @@ use Rattle.link_invariant.specs.Steps.{ReadsMemory, MemoryAfter}
 use Rattle.link_invariant.specs.EndInvariant.{EndInvariant}
 use Rattle.link_invariant.specs.LinkConfig as pair
 use Rattle.link_invariant.specs.Sides.{SideIs}
-use Rattle.link_invariant.proofs.WholeKept.{spelled_lem}
+use Rattle.link_invariant.proofs.LinkInvariantKept.{spelled_lem}
 use Rattle.lawful_history.specs.declared.line.Line.{Line}
 use Rattle.lawful_history.specs.declared.line.Line.TheVariants as line
 use Rattle.lawful_history.specs.Memory.{last_write}
 use Rattle.lawful_history.specs.Sides.{config_of}
-use Rattle.history_laws.specs.SideEvents.{Tells, Silent, line_side_event_of, side_after, side_of}
+use Rattle.history_laws.specs.SideEvents.{HasEvent, HasNoEvent, line_side_event_of, side_after, side_of}
 use Rattle.history_laws.specs.Indexes.{IsLoneRead, IsIndexRead, IsLoneIndex}
 use Rattle.history_laws.specs.Reads.{Got, got, reads_of, IsReadFrame, IsReadBeyond, entry_read}
 use Rattle.history_laws.specs.Spelled.{section_words}
-use Rattle.history_laws.proofs.Proper.{link_config_of, is_ground}
+use Rattle.history_laws.proofs.PermittedEvents.{link_config_of, is_link_config}
 use Rattle.history_laws.proofs.ReadPlaces.{ReadsAre, reads_taken, with_entry_word, high_taken, length_taken, flags_taken, word_taken}
-use Rattle.history_laws.proofs.Stands.{IsQuiet, EndsLook, BringsNone, first_after, quiet_lines}
-use Rattle.history_laws.proofs.Outside.{here_is, section_is}
+use Rattle.history_laws.proofs.LinkPlaces.{IsQuiet, EndsLook, BringsNone, first_after, quiet_lines}
+use Rattle.history_laws.proofs.OtherLines.{here_is, section_is}
 use Rattle.history_laws.proofs.StepLines.{MarksRest, stored_at}
-use Rattle.history_laws.proofs.Grounds.{who_is}
+use Rattle.history_laws.proofs.LinkPeers.{config_is}
 use Rattle.history_laws.proofs.MarkLines.{after_access}
 use Rattle.history_laws.proofs.Unrung.{UnrungAt, AreSilent, marked_ends}
 use Rattle.history_laws.proofs.Armed.{ArmedIs}
@@ -78,7 +78,7 @@ HeadAt config p place value past older = Unit {0}
 ends_silent : (p : ℕ) (lines past : List Line) → AreSilent lines → ¬ EndsLook p past → ¬ EndsLook p (reverse lines ++ past)
 ends_silent p [] past silent none = none
 ends_silent p (l ∷ lines) past silent none =
-    let first : ¬ EndsLook p (l ∷ past) = λ look. let told : Silent ≡ Tells p (Marked (Look 0)) = sym silent.0 ∙ ap line_side_event_of look in cc in
+    let first : ¬ EndsLook p (l ∷ past) = λ look. let side_event : HasNoEvent ≡ HasEvent p (Marked (Look 0)) = sym silent.0 ∙ ap line_side_event_of look in cc in
     subst (λ (ls : List Line). ¬ EndsLook p ls) (sym (first_after l lines past)) (ends_silent p lines (l ∷ past) silent.1 first)
 
 -- A read adds no line of the devices.
@@ -171,11 +171,11 @@ within_denies a b test = λ within. grind (arith, nat_tests)
 module _ (world : World) (p : ℕ) (past older : List Line) (value : ℕ) (end : End) (is : IsWorld world) (below : p < 2) where
   -- A refused value, with the scenario's configuration of its peer.
   refused_rest : (field : FieldName) (refused : ℕ) → IsReadBeyond (pair.config_of (link_config_of world) p) (side_of older p) (reads_of older p) field refused → IsLoneIndex (pair.config_of (link_config_of world) p) p older field refused → MarksRest world older p (refusal field refused)
-  refused_rest field refused read lone = (subst (λ (w : EndConfig). IsReadBeyond w (side_of older p) (reads_of older p) field refused × IsLoneIndex w p older field refused) (sym (who_is world p below)) (read, lone), tt)
+  refused_rest field refused read lone = (subst (λ (w : EndConfig). IsReadBeyond w (side_of older p) (reads_of older p) field refused × IsLoneIndex w p older field refused) (sym (config_is world p below)) (read, lone), tt)
 
   -- An index that was read once, with the scenario's configuration of its peer.
   index_rest : (index : Field) (own count : ℕ) → IsIndexRead (pair.config_of (link_config_of world) p) p older index own count → IsIndexRead (config_of world p) p older index own count
-  index_rest index own count read = subst (λ (w : EndConfig). IsIndexRead w p older index own count) (sym (who_is world p below)) read
+  index_rest index own count read = subst (λ (w : EndConfig). IsIndexRead w p older index own count) (sym (config_is world p below)) read
 
   number_is : (place : Place) (number : ℕ) → number ≡ length end.delivered → AtMarks world p past older place value end → Stays (side_of older p) (side_of past p) → number ≡ length (side_of older p).delivered
   number_is place number is_count a stays = is_count ∙ delivered_number end place (side_of past p) (side_of older p).delivered a.side stays.delivered
@@ -220,7 +220,7 @@ module _ (world : World) (p : ℕ) (past older : List Line) (value : ℕ) (end :
   accept_rest : (pending : PendingOffer) → AtMarks world p past older (WritingAvailIndex pending) value end → MarksRest world older p (marks_at (pair.config_of (link_config_of world) p) (WritingAvailIndex pending) value)
   accept_rest pending a =
       let link_config = link_config_of world in
-      let spelled = spelled_lem.accepted link_config (last_write past) (last_write older) p end pending (is_ground world is) below a.alone a.left in
+      let spelled = spelled_lem.accepted link_config (last_write past) (last_write older) p end pending (is_link_config world is) below a.alone a.left in
       let number : pending.number ≡ length (side_of older p).accepted = a.alone.holds.1 ∙ accepted_number end (WritingAvailIndex pending) (side_of past p) (side_of older p).accepted a.side a.stays.accepted in
       let at : ℕ → ℕ → ℕ = λ start word. last_write older (start + word) in
       let words : at (section_of link_config p) ≡ section_words world older p = ap at (section_is world p) in (
@@ -245,7 +245,7 @@ module _ (world : World) (p : ℕ) (past older : List Line) (value : ℕ) (end :
         frame_is = ap (λ (b : ℕ). frame_in b (words ++ value ∷ [])) r.6;
       } in
       let n = number_is (ReadingFrameWord number more entry address bytes words left) number a.alone.holds.1 a a.stays in (
-        subst (λ (w : EndConfig). IsReadFrame w (length (side_of older p).delivered) (reads_of older p) (frame_in bytes (words ++ value ∷ []))) (sym (who_is world p below))
+        subst (λ (w : EndConfig). IsReadFrame w (length (side_of older p).delivered) (reads_of older p) (frame_in bytes (words ++ value ∷ []))) (sym (config_is world p below))
             (subst (λ (k : ℕ). IsReadFrame config k (reads_of older p) (frame_in bytes (words ++ value ∷ []))) n frame),
         tt,
       )

@@ -7,11 +7,11 @@ use Rattle.link_machine.specs.LinkMachine.{Marked}
 use Rattle.lawful_history.specs.declared.line.Line.{Line}
 use Rattle.lawful_history.specs.declared.line.Line.TheVariants as line
 use Rattle.lawful_history.specs.EventRecords.{mark_line}
-use Rattle.history_laws.specs.SideEvents.{Tells, line_side_event_of}
+use Rattle.history_laws.specs.SideEvents.{HasEvent, line_side_event_of}
 use Rattle.history_laws.specs.Reads.{Breaks, reading_of}
 
 -- The line of a mark has the mark as its side event, and empties the list of reads.
-pub mark_is : (p : ℕ) (mark : Mark) → (line_side_event_of (mark_line p mark) ≡ Tells p (Marked mark)) × (reading_of (mark_line p mark) ≡ Breaks p)
+pub mark_is : (p : ℕ) (mark : Mark) → (line_side_event_of (mark_line p mark) ≡ HasEvent p (Marked mark)) × (reading_of (mark_line p mark) ≡ Breaks p)
 mark_is p (Saw value) = (refl, refl)
 mark_is p (Reclaim count) = (refl, refl)
 mark_is p Full = (refl, refl)

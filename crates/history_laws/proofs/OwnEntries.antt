@@ -14,23 +14,23 @@ use Rattle.call_grammar.specs.Calls.{EndConfig, Call, Tick, Offer, Poll, tree_of
 use Rattle.call_grammar.specs.Automatic.{Choice, ChoosesTick, ChoosesOffer, ChoosesPoll, IsFinished, is_anew, was_offer, is_empty, first_or_poll, choice_by_rule}
 use Rattle.call_grammar.specs.Places.{Place, Closed, first_place, access_at, next_place, remaining}
 use Rattle.call_grammar.specs.StepBounds.{HasFewInFlight}
-use Rattle.call_grammar.proofs.Following.{following}
-use Rattle.call_grammar.proofs.Lists.{takes_a_step}
+use Rattle.call_grammar.proofs.PlacesFollowTrees.{following}
+use Rattle.call_grammar.proofs.CallsAreLists.{takes_a_step}
 use Rattle.link_invariant.specs.LinkConfig as pair
 use Rattle.link_invariant.specs.LinkConfig.{IsOffered, IsGivenTo}
 use Rattle.link_invariant.specs.Steps.{MemoryAfter}
 use Rattle.link_invariant.specs.EndInvariant.{EndInvariant}
-use Rattle.link_invariant.proofs.AloneKept.{alone_kept}
+use Rattle.link_invariant.proofs.EndInvariantKept.{alone_kept}
 use Rattle.link_invariant.proofs.PairKept.{starts_alone}
 use Rattle.lawful_history.specs.Schedule.{Event, CallQueued, AutoStarted, StormStarted, TurnTaken, DeviceReset, event_peer}
 use Rattle.lawful_history.specs.Sides.{config_of}
 use Rattle.lawful_history.specs.EventRecords.{EventRecord}
 use Rattle.lawful_history.specs.Order.{Chooser, Nobody, TheRule, TheStorm, chooser_after, chooser, queued_with, queued_after, queued_since_reset, marks_of, with_frame, without_accepted, without_all_accepted, frames_after, frames_left, delivered_in, Progress, chooses_by, chosen_next, queued_or_chosen, begins_by, GoesOn, CallStep, Turns}
 use Rattle.history_laws.specs.Calls.{call_chosen, chosen_call, asked_or_chosen_call, next_call}
-use Rattle.history_laws.proofs.Proper.{link_config_of, is_ground, IsProper}
+use Rattle.history_laws.proofs.PermittedEvents.{link_config_of, is_link_config, IsProper}
 use Rattle.lawful_history.proofs.Left.{HoldsOfOffer, but_first}
-use Rattle.history_laws.proofs.Suits.{waiting_given, frames_offered}
-use Rattle.history_laws.proofs.Outside.{here_is}
+use Rattle.history_laws.proofs.QueuedCalls.{waiting_given, frames_offered}
+use Rattle.history_laws.proofs.OtherLines.{here_is}
 use Rattle.history_laws.proofs.StepLines.{stored_at}
 use Rattle.history_laws.proofs.Turns.{ended_is_closed, goes_is_open}
 
@@ -234,7 +234,7 @@ keeps_begun world p end call is given k =
     record {
       memory = k.memory;
       place = first_place config end call;
-      alone = alone_kept.begins (link_config_of world) p k.memory end call (is_ground world is) given (subst (λ (x : Place). EndInvariant (link_config_of world) k.memory p end x) closed k.alone);
+      alone = alone_kept.begins (link_config_of world) p k.memory end call (is_link_config world is) given (subst (λ (x : Place). EndInvariant (link_config_of world) k.memory p end x) closed k.alone);
       rest = following.begins config end call;
     }
 
@@ -262,7 +262,7 @@ keeps_step world p end left new step is below goes k =
       memory = after;
       place = next_place config k.place g.0;
       alone = subst (λ (s : Step). EndInvariant (link_config_of world) after p (end_after end s) (next_place config k.place g.0)) (sym g.1)
-          (alone_kept.steps (link_config_of world) p k.memory after end k.place g.0 (is_ground world is) below (goes_is_open config k.place step new here) (leaves p k.memory (access_at config k.place)) k.alone);
+          (alone_kept.steps (link_config_of world) p k.memory after end k.place g.0 (is_link_config world is) below (goes_is_open config k.place step new here) (leaves p k.memory (access_at config k.place)) k.alone);
       rest = sym g.2;
     }
 
@@ -272,6 +272,6 @@ keeps_reset world p end left is below k =
     record {
       memory = after;
       place = Closed;
-      alone = alone_kept.resets (link_config_of world) p k.memory after end k.place (is_ground world is) below (record { here = here_is p 0 (k.memory p); neighbour_word = λ w ne. stored_at p 0 k.memory w ne }) k.alone;
+      alone = alone_kept.resets (link_config_of world) p k.memory after end k.place (is_link_config world is) below (record { here = here_is p 0 (k.memory p); neighbour_word = λ w ne. stored_at p 0 k.memory w ne }) k.alone;
       rest = refl;
     }

@@ -14,15 +14,15 @@ use Rattle.call_grammar.specs.Ends.{End, after_reset, end_after}
 use Rattle.call_grammar.specs.Calls.{Call, EndConfig}
 use Rattle.call_grammar.specs.Places.{Place, Closed, WritingState, Refusing, first_place, access_at, marks_at, next_place, step_at, is_open}
 use Rattle.link_machine.specs.LinkMachine.{Side}
-use Rattle.link_machine.specs.LinkMachine as told
+use Rattle.link_machine.specs.LinkMachine as side_event
 use Rattle.link_invariant.specs.LinkConfig.{LinkConfig, config_of, fields, IsGivenTo}
 use Rattle.link_invariant.specs.Steps.{Stored, IsUntouched, OnlyEndChanges, ReadsMemory}
 use Rattle.link_invariant.specs.EndInvariant.{RefusalIsFinal, EndInvariant}
 use Rattle.link_invariant.specs.LinkInvariant.{LinkInvariant}
 use Rattle.link_invariant.proofs.Fields.{fields_same, theirs_stay}
-use Rattle.link_invariant.proofs.AloneKept.{alone_kept}
+use Rattle.link_invariant.proofs.EndInvariantKept.{alone_kept}
 use Rattle.link_invariant.specs.Sides.{SideIs}
-use Rattle.link_invariant.proofs.WholeKept.{whole_kept}
+use Rattle.link_invariant.proofs.LinkInvariantKept.{whole_kept}
 use Rattle.link_invariant.proofs.RowsKept.{follow_lem}
 use Rattle.link_invariant.proofs.RunsKept.{side_like}
 use Rattle.lawful_history.specs.declared.line.Line.{Line}
@@ -35,17 +35,17 @@ use Rattle.history_laws.specs.Rows.{EachLine}
 use Rattle.history_laws.specs.Reads.{Got, reads_of, IsReadBeyond, got}
 use Rattle.history_laws.proofs.ReadPlaces.{ReadsAre, first_reads, reads_on}
 use Rattle.history_laws.proofs.MarkFacts.{AtMarks, at_access, head_is, marks_rest}
-use Rattle.history_laws.proofs.Proper.{link_config_of, is_ground}
-use Rattle.history_laws.proofs.Stands.{Fine, Stands, IsQuiet, Settled, BringsNone, answers, quiet_silent}
-use Rattle.history_laws.proofs.Outside.{here_is}
+use Rattle.history_laws.proofs.PermittedEvents.{link_config_of, is_link_config}
+use Rattle.history_laws.proofs.LinkPlaces.{Fine, Stands, IsQuiet, Settled, BringsNone, answers, quiet_silent}
+use Rattle.history_laws.proofs.OtherLines.{here_is}
 use Rattle.history_laws.proofs.MarkLines.{after_access}
 use Rattle.history_laws.proofs.Armed.{ArmedIs, begin_armed, reset_armed, armed_on}
 use Rattle.split_ring.specs.Layout.{has_events}
 use Rattle.link_invariant.specs.Fields.{AvailEvent}
 use Rattle.history_laws.proofs.Unrung.{UnrungIs, at_place, line_is, lines_are, marked_ends, step_none, step_is, access_is}
-use Rattle.history_laws.proofs.StepLines.{RestsAt, StepWent, step_went, stored_at, one_told, broken_here, broken_beside, AnswersMarks, ReadsAlone}
-use Rattle.history_laws.proofs.Beyond.{refuses}
-use Rattle.history_laws.proofs.Grounds.{who_is}
+use Rattle.history_laws.proofs.StepLines.{RestsAt, StepWent, step_went, stored_at, one_side_event, broken_here, broken_beside, AnswersMarks, ReadsAlone}
+use Rattle.history_laws.proofs.OutOfRangeIsRefused.{refuses}
+use Rattle.history_laws.proofs.LinkPeers.{config_is}
 use Rattle.split_ring.specs.declared.ranges.Refused.{Refused}
 use Rattle.call_grammar.specs.Steps.{Mark, Refuse}
 use Rattle.call_grammar.specs.Offers.{refusal}
@@ -114,7 +114,7 @@ come_stands world past after ends after_ends places after_places p end place new
         (subst (λ (x : End). ArmedIs (fields (link_config_of world) (last_write after) p AvailEvent) x place) (sym only.end_is) (armed has)))
     armed_at has q below' honest' (inr e) =
         let other = other_is p below in
-        let same = fields_same (link_config_of world) (last_write past) (last_write after) (1 - p) (is_ground world is) keeps.untouched.section AvailEvent in
+        let same = fields_same (link_config_of world) (last_write past) (last_write after) (1 - p) (is_link_config world is) keeps.untouched.section AvailEvent in
         let before : ArmedIs (fields (link_config_of world) (last_write past) (1 - p) AvailEvent) (ends (1 - p)) (places (1 - p)) =
         subst (λ (k : ℕ). ArmedIs (fields (link_config_of world) (last_write past) k AvailEvent) (ends k) (places k)) e (s.armed has q below' honest') in
         subst (λ (k : ℕ). ArmedIs (fields (link_config_of world) (last_write after) k AvailEvent) (after_ends k) (after_places k)) (sym e)
@@ -137,7 +137,7 @@ begins_stands world past ends after_ends places after_places p call is below hon
     let link_config = link_config_of world in
     let config = config_of link_config p in
     come_stands world past past ends after_ends places after_places p (ends p) (first_place config (ends p) call) (side_of past p) is below honest only
-    (whole_kept.begins link_config (is_link world) (last_write past) ends after_ends places after_places p call (is_ground world is) below honest record { given = given; closed = closed; comes = only } s.holds)
+    (whole_kept.begins link_config (is_link world) (last_write past) ends after_ends places after_places p call (is_link_config world is) below honest record { given = given; closed = closed; comes = only } s.holds)
     (follow_lem.begins config (ends p) call (side_of past p) (subst (λ (x : Place). SideIs (ends p) x (side_of past p)) closed (s.sides p below honest)))
     (first_reads config (reads_of past p) (ends p) call (subst (λ (x : Place). ReadsAre config x (reads_of past p)) closed (s.reads p below honest)))
     (at_place world p (first_place config (ends p) call) past (subst (λ (x : Place). UnrungIs world p x past) closed (s.unrung p below honest)))
@@ -189,8 +189,8 @@ reads_alone : (world : World) (past device : List Line) (p value : ℕ) (end : E
     ReadsAlone world p a value device (marks_at (config_of (link_config_of world) p) place value) past
 reads_alone world past device p value end place is below honest (access.Read word) at none alone si reads = (
   none,
-  answered_by world past p word value (marks_at (config_of (link_config_of world) p) place value) (λ refused _ beyond. refuses (link_config_of world) p (last_write past) end (side_of past p) (reads_of past p) value word refused.field refused.value (is_ground world is) place alone si reads at
-      (subst (λ (w : EndConfig). IsReadBeyond w (side_of past p) (reads_of past p ++ got word value ∷ []) refused.field refused.value) (who_is world p below) beyond)),
+  answered_by world past p word value (marks_at (config_of (link_config_of world) p) place value) (λ refused _ beyond. refuses (link_config_of world) p (last_write past) end (side_of past p) (reads_of past p) value word refused.field refused.value (is_link_config world is) place alone si reads at
+      (subst (λ (w : EndConfig). IsReadBeyond w (side_of past p) (reads_of past p ++ got word value ∷ []) refused.field refused.value) (config_is world p below) beyond)),
 )
 reads_alone world past device p value end place is below honest (access.Write word written) at none alone si reads = tt
 reads_alone world past device p value end place is below honest (access.State state) at none alone si reads = tt
@@ -214,7 +214,7 @@ step_stands world past device ends after_ends places after_places p value is bel
     let alone = s.holds.alone p below honest in
     let unrung = s.unrung p below honest in
     let silent = quiet_silent device quiet in
-    let f = follow_lem.steps link_config (is_link world) (last_write past) ends places p value (side_of past p) (side_of past (1 - p)) (is_ground world is) below honest s.holds si (sym (s.states (1 - p) o2)) (s.sides (1 - p) o2) opened met in
+    let f = follow_lem.steps link_config (is_link world) (last_write past) ends places p value (side_of past p) (side_of past (1 - p)) (is_link_config world is) below honest s.holds si (sym (s.states (1 - p) o2)) (s.sides (1 - p) o2) opened met in
     let rests = rests_at world past p a (λ _ refused. zero_at link_config p (ends p) place alone.rests (sym si.refused ∙ refused)) (λ word v e zero. alone_kept.quiet link_config p (last_write past) (ends p) place word v alone (phase_reset (ends p).handshake.phase (sym si.state ∙ zero)) e) in
     let older = reverse device ++ after_access p a value past in
     let there = at_access world p a value device past quiet in
@@ -222,11 +222,11 @@ step_stands world past device ends after_ends places after_places p value is bel
     let after = reverse (step_lines p step device) ++ past in
     let went : StepWent world p past a value marks after f.0 = step_went world p a value device marks past f.0 below honest quiet f.1 rests (marks_rest world p past older value (ends p) is below place at_marks) (reads_alone world past device p value (ends p) place is below honest a refl none alone si reads) s.settled s.fine in
     come_stands world past after ends after_ends places after_places p (end_after (ends p) step) (next_place config place value) f.0 is below honest only
-    (whole_kept.steps link_config (is_link world) (last_write past) (last_write after) ends after_ends places after_places p value (is_ground world is) below honest record { opened = opened; meets = met; leaves = went.left; comes = only } s.holds) f.2
+    (whole_kept.steps link_config (is_link world) (last_write past) (last_write after) ends after_ends places after_places p value (is_link_config world is) below honest record { opened = opened; meets = met; leaves = went.left; comes = only } s.holds) f.2
     (subst (λ (r : List Got). ReadsAre config (next_place config place value) r) (sym went.reads_here) (reads_on config place value (reads_of past p) reads))
     (step_is world p past device value silent place unrung)
-    (λ has. armed_on link_config (is_ground world is) p below (last_write past) (last_write after) (ends p) place value opened went.left alone.holds (s.armed has p below honest))
-    (record { here = went.here; neighbour_word = went.neighbour_word; untouched = theirs_stay link_config (last_write past) (last_write after) p (is_ground world is) below (alone_kept.own link_config p (last_write past) (last_write after) (ends p) place (is_ground world is) below went.left alone); reads_beside = went.reads_beside; unrung_beside = λ x was. lines_are world (1 - p) x (step_lines p step device) past (step_none p (1 - p) a value device marks silent (inl (λ e. other_is p below (sym e)))) was; settled = went.settled; fine = went.fine }) s
+    (λ has. armed_on link_config (is_link_config world is) p below (last_write past) (last_write after) (ends p) place value opened went.left alone.holds (s.armed has p below honest))
+    (record { here = went.here; neighbour_word = went.neighbour_word; untouched = theirs_stay link_config (last_write past) (last_write after) p (is_link_config world is) below (alone_kept.own link_config p (last_write past) (last_write after) (ends p) place (is_link_config world is) below went.left alone); reads_beside = went.reads_beside; unrung_beside = λ x was. lines_are world (1 - p) x (step_lines p step device) past (step_none p (1 - p) a value device marks silent (inl (λ e. other_is p below (sym e)))) was; settled = went.settled; fine = went.fine }) s
 
 -- A device reset
 
@@ -237,9 +237,9 @@ own_reset_stands world past ends after_ends places after_places p is below hones
     let after = line.Reset p ∷ past in
     let stored : Stored (last_write past) (last_write after) p 0 = record { here = here_is p 0 (last_write past p); neighbour_word = stored_at p 0 (last_write past) } in
     let f = follow_lem.resets world.queue (is_link world (1 - p)) (ends p) (places p) (side_of past p) (side_of past (1 - p)) (s.sides p below honest) in
-    let one = one_told world past (line.Reset p) p told.WasReset f.0 below honest refl f.1 tt (answers world past (line.Reset p) s.settled) in
+    let one = one_side_event world past (line.Reset p) p side_event.WasReset f.0 below honest refl f.1 tt (answers world past (line.Reset p) s.settled) in
     come_stands world past after ends after_ends places after_places p (after_reset (ends p)) Closed f.0 is below honest only
-    (whole_kept.resets link_config (is_link world) (last_write past) (last_write after) ends after_ends places after_places p (is_ground world is) below honest record { stored = stored; comes = only } s.holds) f.2 (broken_here (line.Reset p) past p refl)
+    (whole_kept.resets link_config (is_link world) (last_write past) (last_write after) ends after_ends places after_places p (is_link_config world is) below honest record { stored = stored; comes = only } s.holds) f.2 (broken_here (line.Reset p) past p refl)
     (marked_ends world p (line.Reset p) past refl (λ accept. let e = accept.1 in cc))
     (λ has. reset_armed (fields link_config (last_write after) p AvailEvent) (ends p))
-    (record { here = one.here; neighbour_word = one.neighbour_word; untouched = theirs_stay link_config (last_write past) (last_write after) p (is_ground world is) below (λ w ne apart. stored.neighbour_word w ne); reads_beside = broken_beside (line.Reset p) past p below refl; unrung_beside = λ x was. line_is world (1 - p) x (line.Reset p) past (λ accept. let e = accept.1 in cc) was; settled = tt; fine = (one.fine, s.fine) }) s
+    (record { here = one.here; neighbour_word = one.neighbour_word; untouched = theirs_stay link_config (last_write past) (last_write after) p (is_link_config world is) below (λ w ne apart. stored.neighbour_word w ne); reads_beside = broken_beside (line.Reset p) past p below refl; unrung_beside = λ x was. line_is world (1 - p) x (line.Reset p) past (λ accept. let e = accept.1 in cc) was; settled = tt; fine = (one.fine, s.fine) }) s

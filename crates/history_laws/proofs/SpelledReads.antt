@@ -7,13 +7,13 @@ use Rattle.call_grammar.specs.Calls.{EndConfig}
 use Rattle.call_grammar.specs.Words.{frame_in}
 use Rattle.call_grammar.specs.Offers.{avail_entry_of}
 use Rattle.call_grammar.specs.Polls.{Item, item_entry, item_address, IsValidItem, item_steps, word_steps, return_steps}
-use Rattle.call_grammar.specs.Reach.{HasSections}
+use Rattle.call_grammar.specs.Permitted.{HasSections}
 use Rattle.call_grammar.specs.ReadsOnce as once
 use Rattle.call_grammar.specs.ReadsOnce.{IsNone, AreDistinct}
 use Rattle.call_grammar.specs.ItemSpelling.{AllMatchWords}
 use Rattle.call_grammar.proofs.OfferLists.{yes, no}
 use Rattle.call_grammar.proofs.ItemWords as items
-use Rattle.call_grammar.proofs.Distinct.{distinct}
+use Rattle.call_grammar.proofs.FieldsAreReadOnce.{distinct}
 use Rattle.lawful_history.specs.Sides.{config_of}
 use Rattle.lawful_history.proofs.Exists.{has_sections}
 use Rattle.history_laws.specs.SideEvents.{side_of}

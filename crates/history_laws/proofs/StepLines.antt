@@ -15,14 +15,14 @@ use Rattle.lawful_history.specs.declared.line.Line.{Line}
 use Rattle.lawful_history.specs.declared.line.Line.TheVariants as line
 use Rattle.lawful_history.specs.Memory.{last_write}
 use Rattle.lawful_history.specs.EventRecords.{mark_line, step_lines}
-use Rattle.lawful_history.proofs.Apart.{mark_apart}
-use Rattle.history_laws.specs.SideEvents.{LineSideEvent, Tells, line_side_event_of, side_marked, side_after, side_after_line, side_of}
+use Rattle.lawful_history.proofs.MemoryLawLine.{mark_apart}
+use Rattle.history_laws.specs.SideEvents.{LineSideEvent, HasEvent, line_side_event_of, side_marked, side_after, side_after_line, side_of}
 use Rattle.history_laws.specs.Rows.{EachLine, IsRow, HasRow}
 use Rattle.history_laws.specs.Reads.{Got, got, Reading, Breaks, reading_of, reads_with, reads_of}
 use Rattle.history_laws.proofs.ReadPlaces.{reads_taken, reads_marked}
 use Rattle.history_laws.proofs.MarkLines.{mark_is, after_access}
-use Rattle.history_laws.proofs.Stands.{MarkRests, Rests, Fine, IsQuiet, quiet_lines, memory_after, first_after, AnswersTo, SettledBy, Settled, writes_told, answers}
-use Rattle.history_laws.proofs.Outside.{here_is, there_is}
+use Rattle.history_laws.proofs.LinkPlaces.{MarkRests, Rests, Fine, IsQuiet, quiet_lines, memory_after, first_after, AnswersTo, SettledBy, Settled, writes_side_event, answers}
+use Rattle.history_laws.proofs.OtherLines.{here_is, there_is}
 
 -- The row of a side event determines the side after it
 
@@ -39,7 +39,7 @@ mark_new sizes honest side other Down new row = row.1
 mark_new sizes honest side other (Refuse refused) new row = row.3
 mark_new sizes honest side other Over new row = row
 
-pub row_new : (sizes : Sizes) (mine theirs : Bool) (side other : Side) (told : SideEvent) (new : Side) → Row sizes mine theirs side other told new → new ≡ side_after told side
+pub row_new : (sizes : Sizes) (mine theirs : Bool) (side other : Side) (side_event : SideEvent) (new : Side) → Row sizes mine theirs side other side_event new → new ≡ side_after side_event side
 row_new sizes mine theirs side other (Gave value) new row = row
 row_new sizes mine theirs side other (Wrote state) new row = row.1
 row_new sizes mine theirs side other (Marked mark) new row = mark_new sizes theirs side other mark new row.1
@@ -47,7 +47,7 @@ row_new sizes mine theirs side other WasReset new row = row
 
 -- A line of an honest link peer with a side event, and its row
 
-pub record OneTold (world : World) (past : List Line) (line : Line) (p : ℕ) (new other : Side) : Type 0 where
+pub record OneSideEvent (world : World) (past : List Line) (line : Line) (p : ℕ) (new other : Side) : Type 0 where
   pub fine : Fine world past line
   pub here : side_of (line ∷ past) p ≡ new
   pub neighbour_word : side_of (line ∷ past) (1 - p) ≡ other
@@ -55,29 +55,29 @@ pub record OneTold (world : World) (past : List Line) (line : Line) (p : ℕ) (n
 other_of : (p : ℕ) → p < 2 → p ≢ 1 - p
 other_of p below e = absurd (omega arith)
 
-is_row : (world : World) (past : List Line) (p : ℕ) (told : SideEvent) (new : Side) → p < 2 → Row world.queue (is_link world p) (is_link world (1 - p)) (side_of past p) (side_of past (1 - p)) told new → IsRow world past p told new
+is_row : (world : World) (past : List Line) (p : ℕ) (side_event : SideEvent) (new : Side) → p < 2 → Row world.queue (is_link world p) (is_link world (1 - p)) (side_of past p) (side_of past (1 - p)) side_event new → IsRow world past p side_event new
 is_row world past p (Gave value) new below row = λ _. row
 is_row world past p (Wrote state) new below row = λ _. row
 is_row world past p (Marked mark) new below row = (below, row)
 is_row world past p WasReset new below row = λ _. row
 
-pub one_told : (world : World) (past : List Line) (line : Line) (p : ℕ) (told : SideEvent) (new : Side) → p < 2 → is_link world p ≡ true → line_side_event_of line ≡ Tells p told →
-    Row world.queue true (is_link world (1 - p)) (side_of past p) (side_of past (1 - p)) told new → Rests world past (Tells p told) → AnswersTo world past line → OneTold world past line p new (side_of past (1 - p))
-one_told world past line p told new below honest tells row rests answered =
-    let now : side_of (line ∷ past) p ≡ side_after told (side_of past p) = ap (λ (t : LineSideEvent). side_after_line t p (side_of past p)) tells ∙ here_is p (side_after told (side_of past p)) (side_of past p) in
-    let is : side_of (line ∷ past) p ≡ new = now ∙ sym (row_new world.queue true (is_link world (1 - p)) (side_of past p) (side_of past (1 - p)) told new row) in
-    let row_here : Row world.queue (is_link world p) (is_link world (1 - p)) (side_of past p) (side_of past (1 - p)) told (side_of (line ∷ past) p) =
-    subst (λ (b : Bool). Row world.queue b (is_link world (1 - p)) (side_of past p) (side_of past (1 - p)) told (side_of (line ∷ past) p)) (sym honest)
-    (subst (λ (x : Side). Row world.queue true (is_link world (1 - p)) (side_of past p) (side_of past (1 - p)) told x) (sym is) row) in
+pub one_side_event : (world : World) (past : List Line) (line : Line) (p : ℕ) (side_event : SideEvent) (new : Side) → p < 2 → is_link world p ≡ true → line_side_event_of line ≡ HasEvent p side_event →
+    Row world.queue true (is_link world (1 - p)) (side_of past p) (side_of past (1 - p)) side_event new → Rests world past (HasEvent p side_event) → AnswersTo world past line → OneSideEvent world past line p new (side_of past (1 - p))
+one_side_event world past line p side_event new below honest tells row rests answered =
+    let now : side_of (line ∷ past) p ≡ side_after side_event (side_of past p) = ap (λ (t : LineSideEvent). side_after_line t p (side_of past p)) tells ∙ here_is p (side_after side_event (side_of past p)) (side_of past p) in
+    let is : side_of (line ∷ past) p ≡ new = now ∙ sym (row_new world.queue true (is_link world (1 - p)) (side_of past p) (side_of past (1 - p)) side_event new row) in
+    let row_here : Row world.queue (is_link world p) (is_link world (1 - p)) (side_of past p) (side_of past (1 - p)) side_event (side_of (line ∷ past) p) =
+    subst (λ (b : Bool). Row world.queue b (is_link world (1 - p)) (side_of past p) (side_of past (1 - p)) side_event (side_of (line ∷ past) p)) (sym honest)
+    (subst (λ (x : Side). Row world.queue true (is_link world (1 - p)) (side_of past p) (side_of past (1 - p)) side_event x) (sym is) row) in
     record {
       fine = (
-        subst (λ (t : LineSideEvent). HasRow world past line t) (sym tells) (is_row world past p told (side_of (line ∷ past) p) below row_here),
+        subst (λ (t : LineSideEvent). HasRow world past line t) (sym tells) (is_row world past p side_event (side_of (line ∷ past) p) below row_here),
         subst (λ (t : LineSideEvent). Rests world past t) (sym tells) rests,
         answered,
-        writes_told world past line p told tells,
+        writes_side_event world past line p side_event tells,
       );
       here = is;
-      neighbour_word = ap (λ (t : LineSideEvent). side_after_line t (1 - p) (side_of past (1 - p))) tells ∙ there_is p (1 - p) (side_after told (side_of past (1 - p))) (side_of past (1 - p)) (other_of p below);
+      neighbour_word = ap (λ (t : LineSideEvent). side_after_line t (1 - p) (side_of past (1 - p))) tells ∙ there_is p (1 - p) (side_after side_event (side_of past (1 - p))) (side_of past (1 - p)) (other_of p below);
     }
 
 pub broken_here : (line : Line) (past : List Line) (p : ℕ) → reading_of line ≡ Breaks p → reads_of (line ∷ past) p ≡ []
@@ -126,7 +126,7 @@ marks_went world p (mark ∷ marks) past side new below honest is rests answered
     let first = mark_line p mark in
     let row : Row world.queue true (is_link world (1 - p)) (side_of past p) (side_of past (1 - p)) (Marked mark) along.0 =
     subst (λ (x : Side). Row world.queue true (is_link world (1 - p)) x (side_of past (1 - p)) (Marked mark) along.0) (sym is) along.1 in
-    let one = one_told world past first p (Marked mark) along.0 below honest (mark_is p mark).0 row rests.0 answered in
+    let one = one_side_event world past first p (Marked mark) along.0 below honest (mark_is p mark).0 row rests.0 answered in
     let rest = marks_went world p marks (first ∷ past) along.0 new below honest one.here rests.1 (settled_marks world (first ∷ past) p marks (mark_settled world past p mark))
     (subst (λ (x : Side). FollowsRows world.queue (is_link world (1 - p)) x along.0 (map Marked marks) new) (sym one.neighbour_word) along.2) (one.fine, fine) in
     subst (λ (new_lines : List Line). Went world p past new_lines (mark ∷ marks) new) (sym (first_after first (map (mark_line p) marks) past)) record {
@@ -185,7 +185,7 @@ pub record StepWent (world : World) (p : ℕ) (past : List Line) (a : Access) (v
 abbrev pub RestsAt : World → List Line → ℕ → Access → Type 0
 RestsAt world past p (access.Read word) = Unit {0}
 RestsAt world past p (access.Write word written) = is_link world p ≡ true → (side_of past p).state ≢ 0
-RestsAt world past p (access.State state) = Rests world past (Tells p (Wrote state))
+RestsAt world past p (access.State state) = Rests world past (HasEvent p (Wrote state))
 RestsAt world past p (access.Ring target vector) = Unit {0}
 RestsAt world past p access.Nothing = Unit {0}
 
@@ -205,7 +205,7 @@ pub step_went : (world : World) (p : ℕ) (a : Access) (value : ℕ) (device : L
     StepWent world p past a value marks (reverse (step_lines p (step_of a value marks) device) ++ past) new
 step_went world p (access.Read word) value device marks past new below honest quiet along rests marks_rest alone settled fine =
     let first = line.Read p word value in
-    let one = one_told world past first p (Gave value) along.0 below honest refl along.1 tt (answers world past first settled) in
+    let one = one_side_event world past first p (Gave value) along.0 below honest refl along.1 tt (answers world past first settled) in
     let rest = tail_went world p device marks (first ∷ past) along.0 new below honest quiet one.here marks_rest (inr alone)
     (subst (λ (x : Side). FollowsRows world.queue (is_link world (1 - p)) x along.0 (map Marked marks) new) (sym one.neighbour_word) along.2) (one.fine, fine) in
     subst (λ (after : List Line). StepWent world p past (access.Read word) value marks after new) (sym (first_after first (device ++ map (mark_line p) marks) past)) record {
@@ -234,7 +234,7 @@ step_went world p (access.Write word written) value device marks past new below 
     }
 step_went world p (access.State state) value device marks past new below honest quiet along rests marks_rest alone settled fine =
     let first = line.State p state in
-    let one = one_told world past first p (Wrote state) along.0 below honest refl along.1 rests (answers world past first settled) in
+    let one = one_side_event world past first p (Wrote state) along.0 below honest refl along.1 rests (answers world past first settled) in
     let rest = tail_went world p device marks (first ∷ past) along.0 new below honest quiet one.here marks_rest (inl tt)
     (subst (λ (x : Side). FollowsRows world.queue (is_link world (1 - p)) x along.0 (map Marked marks) new) (sym one.neighbour_word) along.2) (one.fine, fine) in
     subst (λ (after : List Line). StepWent world p past (access.State state) value marks after new) (sym (first_after first (device ++ map (mark_line p) marks) past)) record {

@@ -11,11 +11,11 @@ use Rattle.call_grammar.specs.Steps.{Step, step_of, value_given}
 use Rattle.call_grammar.specs.Trees.{CallTree, Ended, Does, Reads, Goes}
 use Rattle.call_grammar.specs.Ends.{End, end_after}
 use Rattle.call_grammar.specs.Calls.{EndConfig, Call, Tick, Offer, Poll, tree_of}
-use Rattle.call_grammar.specs.Reach.{MayDo, StaysInReach}
+use Rattle.call_grammar.specs.Permitted.{MayDo, IsPermittedTree}
 use Rattle.call_grammar.specs.Automatic.{Choice, ChoosesTick, ChoosesOffer, ChoosesPoll, IsFinished, choice_of}
 use Rattle.call_grammar.specs.Places.{Place, Closed, first_place, access_at, next_place, step_at, is_open, remaining}
 use Rattle.call_grammar.proofs.OfferLists.{yes, no}
-use Rattle.call_grammar.proofs.Following.{following}
+use Rattle.call_grammar.proofs.PlacesFollowTrees.{following}
 use Rattle.link_invariant.specs.LinkConfig.{IsOffered, LinkConfig}
 use Rattle.link_invariant.specs.Steps.{ReadsMemory}
 use Rattle.link_invariant.specs.LinkConfig as pair
@@ -29,11 +29,11 @@ use Rattle.lawful_history.specs.EventRecords.{step_lines, turn_lines}
 use Rattle.lawful_history.specs.Peers.{Auto, Driver, Waits, Chooses, Storms, Peer, with_choice, chosen, opened_by, opened}
 use Rattle.lawful_history.specs.History.{driven_step, driven, step_by, moved_by}
 use Rattle.lawful_history.proofs.Left.{HoldsOfOffer, choice_offers}
-use Rattle.history_laws.proofs.Proper.{link_config_of}
-use Rattle.history_laws.proofs.Stands.{Stands, IsQuiet, quiet_lines, stands_alike, ends_alike, BringsNone}
-use Rattle.history_laws.proofs.Grounds.{who_is}
+use Rattle.history_laws.proofs.PermittedEvents.{link_config_of}
+use Rattle.history_laws.proofs.LinkPlaces.{Stands, IsQuiet, quiet_lines, stands_alike, ends_alike, BringsNone}
+use Rattle.history_laws.proofs.LinkPeers.{config_is}
 use Rattle.history_laws.proofs.OwnSteps.{begins_stands, step_stands}
-use Rattle.history_laws.proofs.Suits.{DriverSuits, Suits, opened_suits}
+use Rattle.history_laws.proofs.QueuedCalls.{DriverSuits, Suits, opened_suits}
 
 -- One peer's place changed.
 pub placed : (ℕ → Place) → ℕ → Place → ℕ → Place
@@ -181,7 +181,7 @@ idle_driver world p peer (Chooses auto) suits = (refl, refl)
 idle_driver world p peer (Storms x) suits = absurd (let f : true ≡ false = suits in cc)
 
 moves_stands : (world : World) (past : List Line) (device : Option Step → List Line) (ends after_ends : ℕ → End) (places : ℕ → Place) (p : ℕ) (peer : Peer) (tree : CallTree) → IsWorld world → p < 2 → is_link world p ≡ true → ((went : Option Step) → AllByRecursion IsQuiet (device went)) → ((step : Step) → BringsNone step.access (device (Some step))) →
-    StaysInReach (pair.config_of (link_config_of world) p) tree → remaining (pair.config_of (link_config_of world) p) (places p) ≡ tree → tree ≡ peer.left → peer.end ≡ ends p → DriverSuits world true peer.driver → after_ends p ≡ (moved_by peer tree past).end →
+    IsPermittedTree (pair.config_of (link_config_of world) p) tree → remaining (pair.config_of (link_config_of world) p) (places p) ≡ tree → tree ≡ peer.left → peer.end ≡ ends p → DriverSuits world true peer.driver → after_ends p ≡ (moved_by peer tree past).end →
     ((q : ℕ) → q ≢ p → after_ends q ≡ ends q) → Stands world past ends places → Came world (reverse (turn_lines p (step_by world p peer.driver tree past) (device (step_by world p peer.driver tree past))) ++ past) after_ends places p (moved_by peer tree past).left
 moves_stands world past device ends after_ends places p peer Ended is below honest quiet brought stays at left_is end_is suits after_is ends_stay s =
     let idle = idle_driver world p peer peer.driver suits in
@@ -212,21 +212,21 @@ moves_stands world past device ends after_ends places p peer (Reads word marks r
 
 -- The turn of an honest link peer with the link's configuration.
 turn_as : (world : World) (past : List Line) (device : Option Step → List Line) (ends after_ends : ℕ → End) (places : ℕ → Place) (p : ℕ) (peer : Peer) (config : EndConfig) → config ≡ pair.config_of (link_config_of world) p → IsWorld world → p < 2 → is_link world p ≡ true → ((went : Option Step) → AllByRecursion IsQuiet (device went)) → ((step : Step) → BringsNone step.access (device (Some step))) →
-    StaysInReach config (opened config peer).left → remaining config (places p) ≡ peer.left → peer.end ≡ ends p → Suits world true peer → after_ends p ≡ (moved_by (opened config peer) (opened config peer).left past).end →
+    IsPermittedTree config (opened config peer).left → remaining config (places p) ≡ peer.left → peer.end ≡ ends p → Suits world true peer → after_ends p ≡ (moved_by (opened config peer) (opened config peer).left past).end →
     ((q : ℕ) → q ≢ p → after_ends q ≡ ends q) → Stands world past ends places →
     Came world (reverse (turn_lines p (step_by world p (opened config peer).driver (opened config peer).left past) (device (step_by world p (opened config peer).driver (opened config peer).left past))) ++ past) after_ends places p (moved_by (opened config peer) (opened config peer).left past).left
-turn_as world past device ends after_ends places p peer config who_is' is below honest quiet brought stays at end_is suits after_is ends_stay s =
+turn_as world past device ends after_ends places p peer config config_is' is below honest quiet brought stays at end_is suits after_is ends_stay s =
     let now = opened config peer in
     let opens : OpensAs world config peer.end (places p) now.left = opened_by_opens world config peer (places p) peer.left peer.waiting at refl suits.waiting suits in
-    let opens_here : OpensAs world (pair.config_of (link_config_of world) p) (ends p) (places p) now.left = subst (λ (e : End). OpensAs world (pair.config_of (link_config_of world) p) e (places p) now.left) end_is (subst (λ (w : EndConfig). OpensAs world w peer.end (places p) now.left) who_is' opens) in
+    let opens_here : OpensAs world (pair.config_of (link_config_of world) p) (ends p) (places p) now.left = subst (λ (e : End). OpensAs world (pair.config_of (link_config_of world) p) e (places p) now.left) end_is (subst (λ (w : EndConfig). OpensAs world w peer.end (places p) now.left) config_is' opens) in
     let first = opens_stands world past ends places p now.left is below honest opens_here s in
-    let came = moves_stands world past device ends after_ends first.after_places p now now.left is below honest quiet brought (subst (λ (w : EndConfig). StaysInReach w now.left) who_is' stays) first.here refl (opened_end config peer ∙ end_is) (opened_suits world config peer true suits).driver after_is ends_stay first.refines in
+    let came = moves_stands world past device ends after_ends first.after_places p now now.left is below honest quiet brought (subst (λ (w : EndConfig). IsPermittedTree w now.left) config_is' stays) first.here refl (opened_end config peer ∙ end_is) (opened_suits world config peer true suits).driver after_is ends_stay first.refines in
     record { after_places = came.after_places; refines = came.refines; here = came.here; neighbour_word = λ q ne. came.neighbour_word q ne ∙ first.neighbour_word q ne }
 
 pub turn_stands : (world : World) (past : List Line) (device : Option Step → List Line) (ends after_ends : ℕ → End) (places : ℕ → Place) (p : ℕ) (peer : Peer) → IsWorld world → p < 2 → is_link world p ≡ true → ((went : Option Step) → AllByRecursion IsQuiet (device went)) → ((step : Step) → BringsNone step.access (device (Some step))) →
-    StaysInReach (config_of world p) (opened (config_of world p) peer).left → remaining (pair.config_of (link_config_of world) p) (places p) ≡ peer.left → peer.end ≡ ends p → Suits world true peer →
+    IsPermittedTree (config_of world p) (opened (config_of world p) peer).left → remaining (pair.config_of (link_config_of world) p) (places p) ≡ peer.left → peer.end ≡ ends p → Suits world true peer →
     after_ends p ≡ (moved_by (opened (config_of world p) peer) (opened (config_of world p) peer).left past).end → ((q : ℕ) → q ≢ p → after_ends q ≡ ends q) → Stands world past ends places →
     Came world (reverse (turn_lines p (step_by world p (opened (config_of world p) peer).driver (opened (config_of world p) peer).left past) (device (step_by world p (opened (config_of world p) peer).driver (opened (config_of world p) peer).left past))) ++ past) after_ends places p (moved_by (opened (config_of world p) peer) (opened (config_of world p) peer).left past).left
 turn_stands world past device ends after_ends places p peer is below honest quiet brought stays at end_is suits after_is ends_stay s =
-    let e = who_is world p below in
+    let e = config_is world p below in
     turn_as world past device ends after_ends places p peer (config_of world p) e is below honest quiet brought stays (subst (λ (w : EndConfig). remaining w (places p) ≡ peer.left) (sym e) at) end_is suits after_is ends_stay s

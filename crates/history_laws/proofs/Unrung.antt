@@ -13,14 +13,14 @@ use Rattle.call_grammar.specs.Offers.{wants_doorbell}
 use Rattle.call_grammar.specs.Places.{Place, Closed, WritingAvailIndex, ReadingAvailEvent, RingingOffer, access_at, marks_at, next_place, step_at}
 use Rattle.link_machine.specs.LinkMachine.{Marked}
 use Rattle.link_invariant.specs.LinkConfig as pair
-use Rattle.link_invariant.proofs.Wakes.{AcceptsNone, marks_none}
+use Rattle.link_invariant.proofs.DoorbellIsRung.{AcceptsNone, marks_none}
 use Rattle.lawful_history.specs.declared.line.Line.{Line}
 use Rattle.lawful_history.specs.declared.line.Line.TheVariants as line
 use Rattle.lawful_history.specs.EventRecords.{access_lines, mark_line, step_lines}
-use Rattle.history_laws.specs.SideEvents.{Tells, Silent, line_side_event_of}
+use Rattle.history_laws.specs.SideEvents.{HasEvent, HasNoEvent, line_side_event_of}
 use Rattle.history_laws.specs.Reads.{Reading, Takes, Breaks, Passes, reading_of}
 use Rattle.history_laws.specs.Wake.{doorbell_of}
-use Rattle.history_laws.proofs.Proper.{link_config_of}
+use Rattle.history_laws.proofs.PermittedEvents.{link_config_of}
 use Rattle.history_laws.proofs.MarkLines.{mark_is, after_access}
 
 -- The last mark of peer p since its reset is an accept, and its doorbell hasn't rung since.
@@ -80,12 +80,12 @@ lines_are world p (ReadingAvailEvent number) lines past none is = tt
 lines_are world p RingingOffer lines past none is = tt
 lines_are world p place lines past none is = λ unrung. is (lines_unrung world p lines past none unrung)
 
-pub silent_none : (p : ℕ) (l : Line) → line_side_event_of l ≡ Silent → IsAccept p l → ⊥
-silent_none p l silent accept = let e : line_side_event_of l ≡ Tells p (Marked (Accept accept.0)) = ap line_side_event_of accept.1 in cc
+pub silent_none : (p : ℕ) (l : Line) → line_side_event_of l ≡ HasNoEvent → IsAccept p l → ⊥
+silent_none p l silent accept = let e : line_side_event_of l ≡ HasEvent p (Marked (Accept accept.0)) = ap line_side_event_of accept.1 in cc
 
-pub told_none : (p peer : ℕ) (l : Line) (mark : Mark) → line_side_event_of l ≡ Tells peer (Marked mark) → ((frame : List ℕ) → mark ≢ Accept frame) ⊎ (peer ≢ p) → IsAccept p l → ⊥
-told_none p peer l mark tells (inl none) accept = let e : line_side_event_of l ≡ Tells p (Marked (Accept accept.0)) = ap line_side_event_of accept.1 in none accept.0 (cc)
-told_none p peer l mark tells (inr ne) accept = let e : line_side_event_of l ≡ Tells p (Marked (Accept accept.0)) = ap line_side_event_of accept.1 in ne (cc)
+pub side_event_none : (p peer : ℕ) (l : Line) (mark : Mark) → line_side_event_of l ≡ HasEvent peer (Marked mark) → ((frame : List ℕ) → mark ≢ Accept frame) ⊎ (peer ≢ p) → IsAccept p l → ⊥
+side_event_none p peer l mark tells (inl none) accept = let e : line_side_event_of l ≡ HasEvent p (Marked (Accept accept.0)) = ap line_side_event_of accept.1 in none accept.0 (cc)
+side_event_none p peer l mark tells (inr ne) accept = let e : line_side_event_of l ≡ HasEvent p (Marked (Accept accept.0)) = ap line_side_event_of accept.1 in ne (cc)
 
 pub marked_ends : (world : World) (p : ℕ) (l : Line) (older : List Line) → reading_of l ≡ Breaks p → (IsAccept p l → ⊥) → ¬ Unrung world p (l ∷ older)
 marked_ends world p l older breaks none (inl accept) = none accept
@@ -99,7 +99,7 @@ both p [] others mine theirs = theirs
 both p (l ∷ lines) others mine theirs = (mine.0, both p lines others mine.1 theirs)
 
 abbrev pub AreSilent : List Line → Type 0
-AreSilent lines = AllByRecursion (λ l. line_side_event_of l ≡ Silent) lines
+AreSilent lines = AllByRecursion (λ l. line_side_event_of l ≡ HasNoEvent) lines
 
 pub silents_none : (p : ℕ) (lines : List Line) → AreSilent lines → NoAccepts p lines
 silents_none p [] silent = tt
@@ -107,7 +107,7 @@ silents_none p (l ∷ lines) silent = (silent_none p l silent.0, silents_none p 
 
 others_marks : (p q : ℕ) → p ≢ q → (marks : List Mark) → NoAccepts q (map (mark_line p) marks)
 others_marks p q ne [] = tt
-others_marks p q ne (mark ∷ marks) = (told_none q p (mark_line p mark) mark (mark_is p mark).0 (inr ne), others_marks p q ne marks)
+others_marks p q ne (mark ∷ marks) = (side_event_none q p (mark_line p mark) mark (mark_is p mark).0 (inr ne), others_marks p q ne marks)
 
 first_none : (mark : Mark) (marks : List Mark) → AcceptsNone (mark ∷ marks) → (frame : List ℕ) → mark ≢ Accept frame
 first_none mark marks none frame e = subst (λ (m : Mark). AcceptsNone (m ∷ marks)) e none
@@ -118,7 +118,7 @@ rest_none mark marks none = none
 
 own_marks : (p : ℕ) (marks : List Mark) → AcceptsNone marks → NoAccepts p (map (mark_line p) marks)
 own_marks p [] none = tt
-own_marks p (mark ∷ marks) none = (told_none p p (mark_line p mark) mark (mark_is p mark).0 (inl (first_none mark marks none)), own_marks p marks (rest_none mark marks none))
+own_marks p (mark ∷ marks) none = (side_event_none p p (mark_line p mark) mark (mark_is p mark).0 (inl (first_none mark marks none)), own_marks p marks (rest_none mark marks none))
 
 access_none : (p q : ℕ) (a : Access) (value : ℕ) → NoAccepts q (access_lines p a value)
 access_none p q (access.Read word) value = (λ accept. let e = accept.1 in cc, tt)
@@ -139,16 +139,16 @@ over_last world p lines past unrung =
 
 -- The state after the step.
 module _ (world : World) (p : ℕ) (past device : List Line) (value : ℕ) (silent : AreSilent device) where
-  told_is : (b : Bool) (number : ℕ) (after : List Line) → UnrungIs world p (if b then ReadingAvailEvent number else RingingOffer) after
-  told_is true number after = tt
-  told_is false number after = tt
+  side_event_is : (b : Bool) (number : ℕ) (after : List Line) → UnrungIs world p (if b then ReadingAvailEvent number else RingingOffer) after
+  side_event_is true number after = tt
+  side_event_is false number after = tt
 
   heard_is : (b : Bool) (first : Line) → UnrungIs world p (if b then RingingOffer else Closed) (reverse (first ∷ (device ++ map (mark_line p) (if b then [] else Over ∷ []))) ++ past)
   heard_is true first = tt
   heard_is false first = over_last world p (first ∷ device) past
 
   pub step_is : (place : Place) → UnrungIs world p place past → UnrungIs world p (next_place (pair.config_of (link_config_of world) p) place value) (reverse (step_lines p (step_at (pair.config_of (link_config_of world) p) place value) device) ++ past)
-  step_is (WritingAvailIndex pending) is = told_is (has_events world.queue) pending.number _
+  step_is (WritingAvailIndex pending) is = side_event_is (has_events world.queue) pending.number _
   step_is (ReadingAvailEvent number) is = heard_is (wants_doorbell (low_half value) number) _
   step_is RingingOffer is = over_last world p (doorbell_of world p ∷ device) past
   step_is place is =

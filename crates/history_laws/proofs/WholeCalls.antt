@@ -16,9 +16,9 @@ use Rattle.call_grammar.specs.Offers.{doorbell_step}
 use Rattle.call_grammar.specs.Polls.{Item, item_entry, item_address, IsValidItem, word_steps, return_steps, item_steps, AreValidItems, items_steps, IsRefusedItem, is_last, IsLook, FindsNothing, LooksAgain, IsPoll}
 use Rattle.call_grammar.specs.StepBounds.{marks_bound, items_bound, bound_of, HasFewInFlight}
 use Rattle.call_grammar.proofs.OfferLists.{no}
-use Rattle.call_grammar.proofs.Bounding.{bounding, frame_length}
+use Rattle.call_grammar.proofs.CallsMeetBounds.{bounding, frame_length}
 use Rattle.call_grammar.proofs.Cuts.{cuts}
-use Rattle.call_grammar.proofs.Lists.{lists}
+use Rattle.call_grammar.proofs.CallsAreLists.{lists}
 use Rattle.history_laws.specs.Calls.{Begun, IsFinishedCall, IsOpenCall, most_of}
 
 -- The steps along a tree

@@ -6,13 +6,13 @@ use Rattle.link_machine.specs.LinkMachine.{Wrote, Marked}
 use Rattle.lawful_history.specs.declared.line.Line.{Line}
 use Rattle.lawful_history.specs.declared.line.Line.TheVariants.{Look, Done}
 use Rattle.lawful_history.specs.Lawful.{IsLawful}
-use Rattle.history_laws.specs.SideEvents.{LineSideEvent, Tells, Silent, line_side_event_of}
+use Rattle.history_laws.specs.SideEvents.{LineSideEvent, HasEvent, HasNoEvent, line_side_event_of}
 
 -- 1 if the line is a delivery of peer p, else 0.
 abbrev pub delivers : LineSideEvent → ℕ → ℕ
-delivers (Tells peer (Marked (mark.Deliver frame))) p = if peer == p then 1 else 0
-delivers (Tells peer _) p = 0
-delivers Silent p = 0
+delivers (HasEvent peer (Marked (mark.Deliver frame))) p = if peer == p then 1 else 0
+delivers (HasEvent peer _) p = 0
+delivers HasNoEvent p = 0
 
 -- The number of frames that peer p delivers in these lines.
 abbrev pub deliver_count : ℕ → List Line → ℕ
@@ -21,10 +21,10 @@ deliver_count p (line ∷ lines) = delivers (line_side_event_of line) p + delive
 
 -- The line is neither another read of the available index of peer p nor a write of its State.
 abbrev pub IsWithin : ℕ → LineSideEvent → Type 0
-IsWithin p (Tells peer (Wrote state)) = peer ≢ p
-IsWithin p (Tells peer (Marked (mark.Look count))) = peer ≢ p
-IsWithin p (Tells peer _) = Unit {0}
-IsWithin p Silent = Unit {0}
+IsWithin p (HasEvent peer (Wrote state)) = peer ≢ p
+IsWithin p (HasEvent peer (Marked (mark.Look count))) = peer ≢ p
+IsWithin p (HasEvent peer _) = Unit {0}
+IsWithin p HasNoEvent = Unit {0}
 
 -- Between a read of the available index and the end of its poll, the number of frames delivered is
 -- the number found.

@@ -5,13 +5,13 @@ use Rattle.scenario_text.specs.Scenario.{World, IsWorld, is_link}
 use Rattle.link_machine.specs.LinkMachine.{Side, Log, no_sessions, log_after, DeliversInOrder}
 use Rattle.lawful_history.specs.declared.line.Line.{Line}
 use Rattle.lawful_history.specs.Lawful.{IsLawful}
-use Rattle.history_laws.specs.SideEvents.{LineSideEvent, Tells, Silent, line_side_event_of, side_of}
+use Rattle.history_laws.specs.SideEvents.{LineSideEvent, HasEvent, HasNoEvent, line_side_event_of, side_of}
 
 -- The sessions of peer p after a line with this side event, from its sessions, the other's sessions
 -- and its side before the line.
 abbrev pub log_after_line : LineSideEvent → ℕ → Side → Log → Log → Log
-log_after_line (Tells peer told) p side log others = if peer == p then log_after log others side told else log
-log_after_line Silent p side log others = log
+log_after_line (HasEvent peer side_event) p side log others = if peer == p then log_after log others side side_event else log
+log_after_line HasNoEvent p side log others = log
 
 -- The sessions of peer p after these lines, which are listed newest first.
 abbrev pub log_of : List Line → ℕ → Log

@@ -10,25 +10,25 @@ use Rattle.lawful_history.specs.declared.line.Line.TheVariants as line
 -- The side event of a line and its peer: the value of a read, a write of its State, a mark, or the
 -- reset of its device; or none.
 pub data LineSideEvent : Type 0 where
-  Tells : (peer : ℕ) (told : SideEvent) → LineSideEvent
-  Silent : LineSideEvent
+  HasEvent : (peer : ℕ) (side_event : SideEvent) → LineSideEvent
+  HasNoEvent : LineSideEvent
 
 abbrev pub line_side_event_of : Line → LineSideEvent
-line_side_event_of (line.Read peer word value) = Tells peer (Gave value)
-line_side_event_of (line.State peer value) = Tells peer (Wrote value)
-line_side_event_of (line.Reset peer) = Tells peer WasReset
-line_side_event_of (line.Saw peer value) = Tells peer (Marked (Saw value))
-line_side_event_of (line.Reclaim peer count) = Tells peer (Marked (Reclaim count))
-line_side_event_of (line.Full peer) = Tells peer (Marked Full)
-line_side_event_of (line.Accept peer frame) = Tells peer (Marked (Accept frame))
-line_side_event_of (line.Look peer count) = Tells peer (Marked (Look count))
-line_side_event_of (line.Deliver peer frame) = Tells peer (Marked (Deliver frame))
-line_side_event_of (line.Return peer) = Tells peer (Marked Return)
-line_side_event_of (line.Done peer) = Tells peer (Marked Done)
-line_side_event_of (line.Down peer) = Tells peer (Marked Down)
-line_side_event_of (line.Refuse peer refused) = Tells peer (Marked (Refuse refused))
-line_side_event_of (line.Over peer) = Tells peer (Marked Over)
-line_side_event_of _ = Silent
+line_side_event_of (line.Read peer word value) = HasEvent peer (Gave value)
+line_side_event_of (line.State peer value) = HasEvent peer (Wrote value)
+line_side_event_of (line.Reset peer) = HasEvent peer WasReset
+line_side_event_of (line.Saw peer value) = HasEvent peer (Marked (Saw value))
+line_side_event_of (line.Reclaim peer count) = HasEvent peer (Marked (Reclaim count))
+line_side_event_of (line.Full peer) = HasEvent peer (Marked Full)
+line_side_event_of (line.Accept peer frame) = HasEvent peer (Marked (Accept frame))
+line_side_event_of (line.Look peer count) = HasEvent peer (Marked (Look count))
+line_side_event_of (line.Deliver peer frame) = HasEvent peer (Marked (Deliver frame))
+line_side_event_of (line.Return peer) = HasEvent peer (Marked Return)
+line_side_event_of (line.Done peer) = HasEvent peer (Marked Done)
+line_side_event_of (line.Down peer) = HasEvent peer (Marked Down)
+line_side_event_of (line.Refuse peer refused) = HasEvent peer (Marked (Refuse refused))
+line_side_event_of (line.Over peer) = HasEvent peer (Marked Over)
+line_side_event_of _ = HasNoEvent
 
 -- The side after a mark, as the row of the mark determines it.
 abbrev pub side_marked : Mark → Side → Side
@@ -49,8 +49,8 @@ side_after (Marked mark) side = side_marked mark side
 side_after WasReset side = record side { state = 0; seen = None; refused = false; read = [] }
 
 abbrev pub side_after_line : LineSideEvent → ℕ → Side → Side
-side_after_line (Tells peer told) p side = if peer == p then side_after told side else side
-side_after_line Silent p side = side
+side_after_line (HasEvent peer side_event) p side = if peer == p then side_after side_event side else side
+side_after_line HasNoEvent p side = side
 
 -- The side of peer p after these lines.
 abbrev pub side_of : List Line → ℕ → Side

@@ -15,7 +15,7 @@ use Rattle.lawful_history.specs.declared.line.Line.TheVariants.{Doorbell, Accept
 use Rattle.lawful_history.specs.Memory.{last_write, DoesNotWrite}
 use Rattle.lawful_history.specs.Sides.{traffic_vector}
 use Rattle.lawful_history.specs.Lawful.{IsLawful}
-use Rattle.history_laws.specs.SideEvents.{LineSideEvent, Tells, Silent, line_side_event_of, side_of}
+use Rattle.history_laws.specs.SideEvents.{LineSideEvent, HasEvent, HasNoEvent, line_side_event_of, side_of}
 
 -- The word that holds the avail_event of peer p.
 abbrev pub event_word : World → ℕ → ℕ
@@ -36,9 +36,9 @@ doorbell_of world p = Doorbell p (1 - p) (traffic_vector world.wiring)
 -- An open call of peer p stays open: the line is neither a mark of p, nor a write of its State, nor
 -- its reset.
 abbrev pub GoesOn : ℕ → LineSideEvent → Type 0
-GoesOn p (Tells peer (Gave value)) = Unit {0}
-GoesOn p (Tells peer _) = peer ≢ p
-GoesOn p Silent = Unit {0}
+GoesOn p (HasEvent peer (Gave value)) = Unit {0}
+GoesOn p (HasEvent peer _) = peer ≢ p
+GoesOn p HasNoEvent = Unit {0}
 
 -- One of these lines is the doorbell of peer p.
 abbrev pub IsRungIn : World → ℕ → List Line → Type 0
@@ -46,10 +46,10 @@ IsRungIn world p lines = (earlier later : List Line) × (lines ≡ earlier ++ do
 
 -- The line is no accept of peer p and opens no session of p, which a write of State 2 does.
 abbrev pub AcceptsNothing : ℕ → LineSideEvent → Type 0
-AcceptsNothing p (Tells peer (Wrote state)) = peer ≡ p → state ≢ 2
-AcceptsNothing p (Tells peer (Marked (mark.Accept frame))) = peer ≢ p
-AcceptsNothing p (Tells peer _) = Unit {0}
-AcceptsNothing p Silent = Unit {0}
+AcceptsNothing p (HasEvent peer (Wrote state)) = peer ≡ p → state ≢ 2
+AcceptsNothing p (HasEvent peer (Marked (mark.Accept frame))) = peer ≢ p
+AcceptsNothing p (HasEvent peer _) = Unit {0}
+AcceptsNothing p HasNoEvent = Unit {0}
 
 pub record WakesAreRung : Type 0 where
   -- A finished poll that found no frame leaves its peer's avail_event at the number of the next

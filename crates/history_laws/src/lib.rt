@@ -20,8 +20,8 @@
 //!   can look up. The values of these reads hold the frame, by the definition for the words of a
 //!   section.
 //! - That a refused side writes only 0 is a row of the link machine, which is about one write.
-//!   `refused_peers_rest` says the same of all lines from a refusal to the next reset, without a
-//!   side.
+//!   `refused_peers_stay_in_reset` says the same of all lines from a refusal to the next reset,
+//!   without a side.
 #![tactic(auto)]
 
 ghost use Rattle.history_laws.specs.Calls.{CallsEndWithinBounds};
@@ -65,7 +65,7 @@ pub fn refused_values_are_out_of_range()
 
 /// Law: a peer that refused sets no State except 0 until its device is reset.
 // claim: A peer that refused sets no State but 0 until its device is reset.
-pub fn refused_peers_rest()
+pub fn refused_peers_stay_in_reset()
     ensures { RefusedPeersStayInReset }
 {}
 
@@ -102,7 +102,7 @@ pub fn sessions_are_numbered()
 /// side.
 // claim: When a frame is accepted, the section of its peer spells it, whatever the other side
 //    writes.
-pub fn accepted_frames_stand_in_the_section()
+pub fn accepted_frames_are_spelled()
     ensures { HistoriesSpellAccepted }
 {}
 

@@ -1,3 +1,3 @@
-pub mod Answering
-pub mod Told
+pub mod AnswerCauses
+pub mod NumbersDetermineValues
 pub mod Sessions

@@ -7,7 +7,7 @@ use Rattle.split_ring.specs.declared.steps.Note.TheVariants as note
 use Rattle.call_grammar.specs.Ends.{End, fresh, after_reset}
 use Rattle.call_grammar.specs.Calls.{EndConfig, Offer, in_run}
 use Rattle.call_grammar.specs.Places as places
-use Rattle.call_grammar.specs.Reach.{IsPermittedAccess}
+use Rattle.call_grammar.specs.Permitted.{IsPermittedAccess}
 use Rattle.call_grammar.specs.StepBounds.{HasFewInFlight}
 use Rattle.call_grammar.specs.Words.{word_bytes}
 use Rattle.call_grammar.specs.Bursts.{StepsThrough, ReadsBurst, WritesBurst}
@@ -15,12 +15,12 @@ use Rattle.tx_engine.specs.declared.ahead.Bursts.{Bursts}
 use Rattle.tx_engine.specs.Ahead.{words_of, listed, last_words, WritesAll}
 use Rattle.link_endpoint.specs.declared.place.Call.{Call}
 use Rattle.link_endpoint.specs.declared.place.Call.TheVariants.{Stop}
-use Rattle.link_endpoint.specs.Engine.{Engine, fresh_engine, engine_after_reset, is_busy, is_down, is_refusing, is_reading_state, is_tick, offered, delivered, call_of, comes_down, reads_ahead, frame_ahead}
+use Rattle.link_endpoint.specs.Engine.{Engine, fresh_engine, engine_after_reset, is_busy, is_down, is_refusing, is_reading_state, is_tick, offered, delivered, call_of, begins_down, reads_ahead, frame_ahead}
 use Rattle.link_endpoint.specs.Refinement.{RefinesAt, Takes, Opens}
 use Rattle.link_endpoint.specs.declared.order.Ordering.{Ordering}
 use Rattle.link_endpoint.specs.Orders.{order_at}
 use Rattle.link_endpoint.specs.Bursts.{IsTaken}
-use Rattle.link_endpoint.specs.Leaving.{Refuses, Leaves, KeepsRefused, Stays}
+use Rattle.link_endpoint.specs.Refusal.{RecordsRefusal, EndsRefusal, KeepsRefused, KeepsPhase}
 use Rattle.ivshm_c.specs.declared.end_state.Outcome.{Outcome}
 use Rattle.ivshm_c.specs.declared.end_state.Outcome.TheVariants as outcome
 
@@ -30,7 +30,7 @@ use Rattle.ivshm_c.specs.declared.end_state.Outcome.TheVariants as outcome
 pub record Begins (call : Call) (old new : Engine) : Type 0 where
   pub refines : (config : EndConfig) (end : End) → RefinesAt old config end places.Closed → RefinesAt new config end (places.first_place config end (call_of call))
   pub opened : is_busy new ≡ true
-  pub down : is_down new ≡ comes_down call old.phase
+  pub down : is_down new ≡ begins_down call old.phase
   pub looks : is_reading_state new ≡ is_tick call
   pub offered : offered new ≡ offered old
   pub kept : Opens old new
@@ -92,10 +92,10 @@ WritesAtOnce old count new = (values : List ℕ) → length values ≡ count →
 -- next, which puts the end into RESET, where it stays.
 pub record Steps (old : Engine) (value : ℕ) (notes : List Note) (new : Engine) : Type 0 where
   pub takes : Takes old value notes new
-  pub refuses : Refuses notes new
-  pub leaves : Leaves old notes new
+  pub refuses : RecordsRefusal notes new
+  pub leaves : EndsRefusal old notes new
   pub keeps : KeepsRefused old new
-  pub stays : Stays old value notes new
+  pub stays : KeepsPhase old value notes new
 
 -- A new end of this peer: its only open call is a Stop, which begins with State 0.
 pub record IsStarted (config : EndConfig) (new : Engine) : Type 0 where

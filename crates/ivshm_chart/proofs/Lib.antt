@@ -1,2 +1,2 @@
-mod Keeping
+mod KeptLines
 pub mod Causes

@@ -68,12 +68,12 @@ short_marks world older (Over peer) = from (is_link world peer && enters_run old
   from false = All-nil IsShortLine
 short_marks world older _ = All-nil IsShortLine
 
-short_told : (world : World) (older history : List Line) → All IsShortLine history → All IsShortLine (with_sessions world older history)
-short_told world older [] short = All-nil IsShortLine
-short_told world older (line ∷ history) short =
+short_recorded : (world : World) (older history : List Line) → All IsShortLine history → All IsShortLine (with_sessions world older history)
+short_recorded world older [] short = All-nil IsShortLine
+short_recorded world older (line ∷ history) short =
     All-append IsShortLine (marks_before world older line) (line ∷ with_sessions world (line ∷ older) history) (short_marks world older line)
     (All-cons IsShortLine line (with_sessions world (line ∷ older) history) (All-head IsShortLine line history short)
-    (short_told world (line ∷ older) history (All-tail IsShortLine line history short)))
+    (short_recorded world (line ∷ older) history (All-tail IsShortLine line history short)))
 
 -- Each frame that a lawful history delivers fits into a packet.
 pub short_lines : DeliveredFramesAreRead → (world : World) (version : ℕ) (lines : List Line) → IsWorld world → IsLawfulIn world version lines → All IsShortLine lines
@@ -83,5 +83,5 @@ short_lines read world version lines is lawful =
       short = short_rest read world is [] lawful.0 lawful.1
 
       from : (marked : Bool) → All IsShortLine (if marked then with_sessions world [] lawful.0 else lawful.0)
-      from true = short_told world [] lawful.0 short
+      from true = short_recorded world [] lawful.0 short
       from false = short

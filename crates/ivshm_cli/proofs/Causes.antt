@@ -10,7 +10,7 @@ use Rattle.ivshm_cli.specs.declared.runs.Ran.{Ran}
 use Rattle.ivshm_cli.specs.Forms.{IsVerdict}
 use Rattle.program_edge.specs.Exit.{has_reply}
 use Rattle.ivshm_cli.specs.Due.{Follows, IsDue, limit_for, writes_nothing, HasCause, WritesReply, WritesFront, WritesRefusal, Runs, usage_line}
-use Rattle.ivshm_cli.proofs.Replaying.{answer_of}
+use Rattle.ivshm_cli.proofs.ReplayFindsOne.{answer_of}
 use Rattle.ivshm_cli.proofs.Complete.{not_refused, due_usage}
 
 refusal_of : (form : Command) (before now : Input) (before' now' : Output) (ran : Option Ran) → WritesReply (Some form) before now before' now' ran Refused → WritesRefusal form before now before' now'

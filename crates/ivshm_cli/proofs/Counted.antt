@@ -11,12 +11,12 @@ use Rattle.ivshm_cli.specs.Load.{is_accept, is_deliver, is_refuse, written_to, l
 use Rattle.ivshm_cli.specs.Counted.{none_of, with_line, last_from, HasCounted, lines_of_counts}
 
 -- The fold that replaces the last value by each new one gives the last.
-last_is_fold : (told : Line → Option ℕ) (lines : List Line) (o : Option ℕ) → unwrap_or (last_or o (filter_map told lines)) 0 ≡ fold (λ last line. unwrap_or (told line) last) (unwrap_or o 0) lines
-last_is_fold told [] o = refl
-last_is_fold told (line ∷ lines) o =
-    elim (told line) as (λ (said : Option ℕ). unwrap_or (last_or o (cons_option said (filter_map told lines))) 0 ≡ fold (λ last line. unwrap_or (told line) last) (unwrap_or said (unwrap_or o 0)) lines) [
-      | Some value ↦ last_is_fold told lines (Some value)
-      | None ↦ last_is_fold told lines o
+last_is_fold : (recorded : Line → Option ℕ) (lines : List Line) (o : Option ℕ) → unwrap_or (last_or o (filter_map recorded lines)) 0 ≡ fold (λ last line. unwrap_or (recorded line) last) (unwrap_or o 0) lines
+last_is_fold recorded [] o = refl
+last_is_fold recorded (line ∷ lines) o =
+    elim (recorded line) as (λ (said : Option ℕ). unwrap_or (last_or o (cons_option said (filter_map recorded lines))) 0 ≡ fold (λ last line. unwrap_or (recorded line) last) (unwrap_or said (unwrap_or o 0)) lines) [
+      | Some value ↦ last_is_fold recorded lines (Some value)
+      | None ↦ last_is_fold recorded lines o
     ]
 
 -- Counts of lines after other lines.

@@ -3,9 +3,9 @@
 ghost use Rattle.ivshm_cli.specs.Whole.{RecordsKeepTheLaws, WrittenRecordsReplayAsSame};
 
 use history_laws::{
-    accepted_frames_stand_in_the_section, calls_end_within_bounds, delivered_frames_are_read,
+    accepted_frames_are_spelled, calls_end_within_bounds, delivered_frames_are_read,
     done_polls_deliver_all, histories_deliver, histories_run_the_machine,
-    honest_peers_never_refuse, indexes_are_read_once, refused_peers_rest,
+    honest_peers_never_refuse, indexes_are_read_once, refused_peers_stay_in_reset,
     refused_values_are_out_of_range, refused_values_are_read, resets_are_quiet,
     sessions_are_numbered, values_out_of_range_are_refused, wakes_are_rung,
 };
@@ -28,7 +28,7 @@ pub fn records_keep_the_laws()
     histories_run_the_machine();
     calls_end_within_bounds();
     delivered_frames_are_read();
-    accepted_frames_stand_in_the_section();
+    accepted_frames_are_spelled();
     indexes_are_read_once();
     done_polls_deliver_all();
     resets_are_quiet();
@@ -36,7 +36,7 @@ pub fn records_keep_the_laws()
     values_out_of_range_are_refused();
     refused_values_are_out_of_range();
     refused_values_are_read();
-    refused_peers_rest();
+    refused_peers_stay_in_reset();
     honest_peers_never_refuse();
     histories_deliver();
     versions_differ_in_marks();

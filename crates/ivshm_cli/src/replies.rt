@@ -29,7 +29,7 @@ use crate::verdicts::{difference_text, verdict_text};
 use bridge_text::{BridgeFault, spelled_is_read};
 use frame_bridge::bridge;
 use ivs_base::{NoMemory, ReadEnd, Source, read_all};
-use lawful_history::{one_history, records_tell_one_history};
+use lawful_history::{one_history, records_hold_one_history};
 use peer_runner::Gate;
 use port_text::{PortsFault, printed_is_read_again};
 use program_edge::{Command, Status, limit};
@@ -265,7 +265,7 @@ fn loaded(alloc: Global, count: u32) -> Result<Vec<u8>, NoMemory>
     requires few { count ≤ MOST_FRAMES }
     ensures { IfOk result (λ text. IsLoadOf count text.items) }
 {
-    records_tell_one_history();
+    records_hold_one_history();
     // the sizes are those of every load
     let least = load(alloc, 1)?;
     let mut counts = Counts::none(&least);

@@ -1,4 +1,4 @@
-pub mod Answering
+pub mod AnswerCauses
 pub mod Pushed
 pub mod Accesses
 pub mod AppliedEvents

@@ -7,7 +7,7 @@ ghost use Rattle.ivshm_explain.specs.Differences.{IsReplayed, IsRecordVerdict};
 
 use crate::verdicts::Verdict;
 use ivs_base::NoMemory;
-use lawful_history::{Lines, records_tell_one_history};
+use lawful_history::{Lines, records_hold_one_history};
 use program_edge::Refusal;
 use record_text::{Trace, parse};
 use scenario_text::Scenario;
@@ -31,7 +31,7 @@ fn lawful_lines(alloc: Global, scenario: &Scenario, version: u32) -> Result<Line
     requires { is_version version ≡ true }
     ensures { IfOk result (IsLawfulIn (world_of scenario.now) version) }
 {
-    records_tell_one_history();
+    records_hold_one_history();
     let mut simulator = Simulator::new(alloc, scenario, version)?;
     for act in scenario.acts.items() {
         simulator.act(act)?;

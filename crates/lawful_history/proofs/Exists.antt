@@ -20,7 +20,7 @@ use Rattle.call_grammar.specs.Steps.{Mark, Step, step_of}
 use Rattle.call_grammar.specs.Trees.{CallTree, Ended, Does, Reads}
 use Rattle.call_grammar.specs.Calls.{EndConfig, Call, Tick, Stop, Offer, Poll}
 use Rattle.call_grammar.specs.Automatic.{Choice, ChoosesTick, ChoosesOffer, ChoosesPoll, IsFinished}
-use Rattle.call_grammar.specs.Reach.{MayDo, StaysInReach, HasSections, IsPermittedCall, CallsStayInReach}
+use Rattle.call_grammar.specs.Permitted.{MayDo, IsPermittedTree, HasSections, IsPermittedCall, CallsArePermitted}
 use Rattle.lawful_history.specs.declared.line.Line.{Line}
 use Rattle.lawful_history.specs.declared.line.Line.TheVariants as line
 use Rattle.lawful_history.specs.Memory.{MemoryLaw, last_write, memory_effect_of}
@@ -30,14 +30,14 @@ use Rattle.lawful_history.specs.Storm.{next_number, draw, drawn_access, storm_st
 use Rattle.lawful_history.specs.EventRecords.{EventRecord, event_of, owner, mark_line, access_lines, step_lines, turn_lines, region_access_lines, lines_by, lines_of, own}
 use Rattle.lawful_history.specs.Peers.{Auto, Driver, Waits, Chooses, Storms, Peer, at_start, with_call_by, cut, with_choice, chosen, opened_by, opened, driver_after}
 use Rattle.lawful_history.specs.Order.{Progress, initial_progress, EventStep, noted, IsCallSequence}
-use Rattle.lawful_history.specs.Device.{devices_of, device_events, arrival, arrived, arrivals_by, lost_count, device_event_of, brought_by, step_interrupts, device_access_line, device_lines, DeviceRules}
+use Rattle.lawful_history.specs.Device.{devices_of, device_events, delivery_line, delivery_lines, interrupts_of_event, lost_count, device_event_of, interrupts_of_access, step_interrupts, device_access_line, device_lines, DeviceRules}
 use Rattle.lawful_history.specs.History.{HistoryState, driven_step, driven, step_by, moved_by, acted_step, step_in, peer_in, peer_at, step_of_event, entry_of, peer_after, peer_of_progress, IsWithin, after_event, run, initial_state, HistoryIsLawful}
-use Rattle.lawful_history.proofs.InOrder.{keeps_order}
+use Rattle.lawful_history.proofs.PeersKeepOrder.{keeps_order}
 use Rattle.lawful_history.proofs.Left.{HoldsOfOffer, choice_offers, left_keeps}
 use Rattle.lawful_history.proofs.Owners.{is_same, is_other, not_below}
-use Rattle.lawful_history.proofs.Apart.{Harmless, harmless_law, marks_harmless}
+use Rattle.lawful_history.proofs.MemoryLawLine.{Harmless, harmless_law, marks_harmless}
 use Rattle.lawful_history.specs.Permitted.{IsPermittedEvent}
-use Rattle.lawful_history.proofs.There.{there_below, all_there}
+use Rattle.lawful_history.proofs.EventsArePermitted.{there_below, all_there}
 use Rattle.section_map.proofs.Tests.{may_of_test, may_denies}
 
 abbrev AllHarmless : Shape → List Line → Type 0
@@ -53,16 +53,16 @@ arrival_harmless : (g : Shape) (b : Bool) (p vector : ℕ) → Harmless g (memor
 arrival_harmless g true p vector = tt
 arrival_harmless g false p vector = tt
 
-arrived_harmless : (g : Shape) (older : List Line) (losses : ℕ → ℕ) (deliveries : List Delivery) → AllHarmless g (arrived older losses deliveries)
+arrived_harmless : (g : Shape) (older : List Line) (losses : ℕ → ℕ) (deliveries : List Delivery) → AllHarmless g (delivery_lines older losses deliveries)
 arrived_harmless g older losses [] = tt
 arrived_harmless g older losses (delivery ∷ deliveries) =
-    (arrival_harmless g (nat_lt (lost_count older delivery.peer) (losses delivery.peer)) delivery.peer delivery.vector, arrived_harmless g (arrival older losses delivery ∷ older) losses deliveries)
+    (arrival_harmless g (nat_lt (lost_count older delivery.peer) (losses delivery.peer)) delivery.peer delivery.vector, arrived_harmless g (delivery_line older losses delivery ∷ older) losses deliveries)
 
-arrivals_harmless : (world : World) (older : List Line) (losses : ℕ → ℕ) (line : Line) (told : Option device.Event) → AllHarmless world.geometry (arrivals_by world older losses line told)
+arrivals_harmless : (world : World) (older : List Line) (losses : ℕ → ℕ) (line : Line) (recorded : Option device.Event) → AllHarmless world.geometry (interrupts_of_event world older losses line recorded)
 arrivals_harmless world older losses line None = tt
 arrivals_harmless world older losses line (Some event) = arrived_harmless world.geometry (line ∷ older) losses (effect_of (devices_of world) (device_events older) event).deliveries.items
 
-brought_harmless : (world : World) (older : List Line) (losses : ℕ → ℕ) (lines : List Line) → AllHarmless world.geometry (brought_by world older losses lines)
+brought_harmless : (world : World) (older : List Line) (losses : ℕ → ℕ) (lines : List Line) → AllHarmless world.geometry (interrupts_of_access world older losses lines)
 brought_harmless world older losses [] = tt
 brought_harmless world older losses (line ∷ lines) = arrivals_harmless world older losses line (device_event_of line)
 
@@ -143,7 +143,7 @@ driven_law world p (Chooses auto) dev past is harmless law = harmless_law world.
 driven_law world p (Storms x) dev past is harmless law = harmless_law world.geometry (step_lines p (storm_step world p x) dev) past (storm_harmless world p (draw (next_number x)) (draw (next_number (next_number x))) (draw (next_number (next_number (next_number x)))) dev is harmless) law
 
 -- A turn of a call with permitted accesses satisfies the law.
-turn_law : (world : World) (p : ℕ) (driver : Driver) (tree : CallTree) (dev past : List Line) → IsWorld world → StaysInReach (config_of world p) tree → AllHarmless world.geometry dev → MemoryLaw world.geometry past →
+turn_law : (world : World) (p : ℕ) (driver : Driver) (tree : CallTree) (dev past : List Line) → IsWorld world → IsPermittedTree (config_of world p) tree → AllHarmless world.geometry dev → MemoryLaw world.geometry past →
     MemoryLaw world.geometry (reverse (turn_lines p (step_by world p driver tree past) dev) ++ past)
 turn_law world p driver Ended dev past is stays harmless law = driven_law world p driver dev past is harmless law
 turn_law world p driver (Does a marks rest) dev past is stays harmless law = harmless_law world.geometry (step_lines p (step_of a 0 marks) dev) past (do_harmless world p a marks dev stays.0 harmless) law
@@ -180,30 +180,30 @@ AreGiven config (Storms x) = Unit {0}
 -- The invariant of a peer: its open call has permitted accesses only, and the calls to come are
 -- permitted.
 pub record IsFit (config : EndConfig) (peer : Peer) : Type 0 where
-  pub stays : StaysInReach config peer.left
+  pub stays : IsPermittedTree config peer.left
   pub given : AllByRecursion (IsPermittedCall config) peer.waiting
   pub frames : AreGiven config peer.driver
 
-with_choice_fits : CallsStayInReach → (config : EndConfig) (peer : Peer) (auto : Auto) (choice : Choice) → HasSections config → HoldsOfOffer (λ frame. IsPermittedCall config (Offer frame)) choice → AllByRecursion (λ frame. IsPermittedCall config (Offer frame)) auto.frames → IsFit config peer →
+with_choice_fits : CallsArePermitted → (config : EndConfig) (peer : Peer) (auto : Auto) (choice : Choice) → HasSections config → HoldsOfOffer (λ frame. IsPermittedCall config (Offer frame)) choice → AllByRecursion (λ frame. IsPermittedCall config (Offer frame)) auto.frames → IsFit config peer →
     IsFit config (with_choice config peer auto choice)
 with_choice_fits reach config peer auto ChoosesTick has fits given fit = record { stays = reach.calls config peer.end Tick has tt; given = fit.given; frames = given }
 with_choice_fits reach config peer auto (ChoosesOffer frame) has fits given fit = record { stays = reach.calls config peer.end (Offer frame) has fits; given = fit.given; frames = given }
 with_choice_fits reach config peer auto ChoosesPoll has fits given fit = record { stays = reach.calls config peer.end Poll has tt; given = fit.given; frames = given }
 with_choice_fits reach config peer auto IsFinished has fits given fit = fit
 
-chosen_fits : CallsStayInReach → (config : EndConfig) (peer : Peer) (driver : Driver) → HasSections config → AreGiven config driver → IsFit config peer → IsFit config (chosen config peer driver)
+chosen_fits : CallsArePermitted → (config : EndConfig) (peer : Peer) (driver : Driver) → HasSections config → AreGiven config driver → IsFit config peer → IsFit config (chosen config peer driver)
 chosen_fits reach config peer Waits has given fit = fit
 chosen_fits reach config peer (Chooses auto) has given fit =
     with_choice_fits reach config peer auto _ has (choice_offers (λ frame. IsPermittedCall config (Offer frame)) peer.end.handshake.phase auto.round auto.frames auto.delivered auto.expected given) given fit
 chosen_fits reach config peer (Storms x) has given fit = fit
 
-opened_by_fits : CallsStayInReach → (config : EndConfig) (peer : Peer) (tree : CallTree) (waiting : List Call) → HasSections config → AllByRecursion (IsPermittedCall config) waiting → IsFit config peer → IsFit config (opened_by config peer tree waiting)
+opened_by_fits : CallsArePermitted → (config : EndConfig) (peer : Peer) (tree : CallTree) (waiting : List Call) → HasSections config → AllByRecursion (IsPermittedCall config) waiting → IsFit config peer → IsFit config (opened_by config peer tree waiting)
 opened_by_fits reach config peer Ended [] has given fit = chosen_fits reach config peer peer.driver has fit.frames fit
 opened_by_fits reach config peer Ended (call ∷ waiting) has given fit = record { stays = reach.calls config peer.end call has given.0; given = given.1; frames = fit.frames }
 opened_by_fits reach config peer (Does a marks rest) waiting has given fit = fit
 opened_by_fits reach config peer (Reads word marks rest) waiting has given fit = fit
 
-pub opened_fits : CallsStayInReach → (config : EndConfig) (peer : Peer) → HasSections config → IsFit config peer → IsFit config (opened config peer)
+pub opened_fits : CallsArePermitted → (config : EndConfig) (peer : Peer) → HasSections config → IsFit config peer → IsFit config (opened config peer)
 opened_fits reach config peer has fit = opened_by_fits reach config peer peer.left peer.waiting has fit.given fit
 
 driver_given : (config : EndConfig) (driver : Driver) (marks : List Mark) → AreGiven config driver → AreGiven config (driver_after driver marks)
@@ -216,7 +216,7 @@ driven_fits config peer Waits fit = fit
 driven_fits config peer (Chooses auto) fit = fit
 driven_fits config peer (Storms x) fit = record { stays = fit.stays; given = fit.given; frames = tt }
 
-moved_fits : (config : EndConfig) (peer : Peer) (tree : CallTree) (past : List Line) → StaysInReach config tree → IsFit config peer → IsFit config (moved_by peer tree past)
+moved_fits : (config : EndConfig) (peer : Peer) (tree : CallTree) (past : List Line) → IsPermittedTree config tree → IsFit config peer → IsFit config (moved_by peer tree past)
 moved_fits config peer Ended past stays fit = driven_fits config peer peer.driver fit
 moved_fits config peer (Does a marks rest) past stays fit = record { stays = stays.1; given = fit.given; frames = driver_given config peer.driver marks fit.frames }
 moved_fits config peer (Reads word marks rest) past stays fit =
@@ -265,7 +265,7 @@ peer_same world moment event below = get_or-set_same moment.peers (event_peer ev
 pub peer_other : (world : World) (moment : HistoryState) (event : Event) (q : ℕ) → q ≢ event_peer event → peer_at (after_event world moment event) q ≡ peer_at moment q
 peer_other world moment event q other = get_or-set_other moment.peers (event_peer event) q (peer_after world moment event) at_start other
 
-lines_law : CallsStayInReach → (world : World) (peer : Peer) (past dev : List Line) (event : Event) → IsWorld world → IsFit (config_of world (event_peer event)) peer → AllHarmless world.geometry dev → MemoryLaw world.geometry past →
+lines_law : CallsArePermitted → (world : World) (peer : Peer) (past dev : List Line) (event : Event) → IsWorld world → IsFit (config_of world (event_peer event)) peer → AllHarmless world.geometry dev → MemoryLaw world.geometry past →
     MemoryLaw world.geometry (reverse (lines_by event (step_in world peer past event) dev) ++ past)
 lines_law reach world peer past dev (CallQueued p call) is fit harmless law = harmless_law world.geometry dev past harmless law
 lines_law reach world peer past dev (AutoStarted p expected) is fit harmless law = harmless_law world.geometry dev past harmless law
@@ -278,11 +278,11 @@ lines_law reach world peer past dev (DeviceAccessed p a) is fit harmless law = h
 lines_law reach world peer past dev (InterruptDropped p) is fit harmless law = harmless_law world.geometry dev past harmless law
 lines_law reach world peer past dev (InterruptRepeated p vector) is fit harmless law = harmless_law world.geometry dev past harmless law
 
-event_law : CallsStayInReach → (world : World) (moment : HistoryState) (event : Event) → IsWorld world → Good world moment → MemoryLaw world.geometry (after_event world moment event).past
+event_law : CallsArePermitted → (world : World) (moment : HistoryState) (event : Event) → IsWorld world → Good world moment → MemoryLaw world.geometry (after_event world moment event).past
 event_law reach world moment event is good =
     lines_law reach world (peer_at moment (event_peer event)) moment.past _ event is (good.fits (event_peer event)) (device_harmless world moment.past moment.losses event (step_of_event world moment event)) good.law
 
-peer_fits : CallsStayInReach → (world : World) (peer : Peer) (past : List Line) (event : Event) → IsWorld world → IsPermittedEvent world event → IsFit (config_of world (event_peer event)) peer →
+peer_fits : CallsArePermitted → (world : World) (peer : Peer) (past : List Line) (event : Event) → IsWorld world → IsPermittedEvent world event → IsFit (config_of world (event_peer event)) peer →
     IsFit (config_of world (event_peer event)) (peer_in world peer past event)
 peer_fits reach world peer past (CallQueued p call) is there fit = asked_fits (config_of world p) peer peer.driver call fit.frames there.1 fit
 peer_fits reach world peer past (AutoStarted p expected) is there fit = record { stays = fit.stays; given = fit.given; frames = tt }
@@ -304,7 +304,7 @@ stays_on P world moment event below here q true is there =
     subst (λ (k : ℕ). P k (peer_at (after_event world moment event) k)) (is_same (event_peer event) q is) now
 stays_on P world moment event below here q false is there = subst (λ (x : Peer). P q x) (sym (peer_other world moment event q (is_other (event_peer event) q is))) there
 
-pub good_on : CallsStayInReach → (world : World) (moment : HistoryState) (event : Event) → IsWorld world → IsPermittedEvent world event → Good world moment → Good world (after_event world moment event)
+pub good_on : CallsArePermitted → (world : World) (moment : HistoryState) (event : Event) → IsWorld world → IsPermittedEvent world event → Good world moment → Good world (after_event world moment event)
 good_on reach world moment event is there good =
     let below : event_peer event < length moment.peers = omega (arith, good.count, there_below world event there) in
     record {
@@ -369,7 +369,7 @@ served world (event ∷ events) moment q peer there count keeps =
     serves_from world moment event (entries_of world events (after_event world moment event)) q peer (omega (arith, count, there_below world event there.0)) keeps
     (λ next kept. served world events (after_event world moment event) q next there.1 (length-set moment.peers (event_peer event) (peer_after world moment event) ∙ count) kept) (event_peer event == q) refl
 
-found : CallsStayInReach → (world : World) (events : List Event) (moment : HistoryState) → IsWorld world → AllByRecursion (IsPermittedEvent world) events → Good world moment → Found world events moment
+found : CallsArePermitted → (world : World) (events : List Event) (moment : HistoryState) → IsWorld world → AllByRecursion (IsPermittedEvent world) events → Good world moment → Found world events moment
 found reach world [] moment is there good = record { scheduled = refl; owners = tt; lines = refl; law = good.law; device = tt }
 found reach world (event ∷ events) moment is there good =
     let rest = found reach world events (after_event world moment event) is there.1 (good_on reach world moment event is there.0 good) in
@@ -393,7 +393,7 @@ good_at_first world = record {
   count = length-replicate world.geometry.peers at_start;
 }
 
-pub history_lem : CallsStayInReach → HistoryIsLawful
+pub history_lem : CallsArePermitted → HistoryIsLawful
 history_lem reach world is =
     let events = schedule world.acts in
     let f = found reach world events (initial_state world) is (all_there world is) (good_at_first world) in
@@ -402,7 +402,7 @@ history_lem reach world is =
       record {
         events = f.scheduled;
         owners = All-from_recursion (λ (entry : EventRecord). owner entry < world.geometry.peers) entries f.owners;
-        told = sym (reverse-reverse (flat_map lines_of entries)) ∙ ap reverse (sym (append-nil (reverse (flat_map lines_of entries))) ∙ f.lines);
+        recorded = sym (reverse-reverse (flat_map lines_of entries)) ∙ ap reverse (sym (append-nil (reverse (flat_map lines_of entries))) ∙ f.lines);
         memory = rw reverse-reverse f.law;
         device = f.device;
         calls = λ p below. served world events (initial_state world) p initial_progress (all_there world is) (good_at_first world).count

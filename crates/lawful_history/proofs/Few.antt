@@ -17,7 +17,7 @@ use Rattle.lawful_history.specs.declared.line.Line.{Line}
 use Rattle.lawful_history.specs.declared.line.Line.TheVariants as line
 use Rattle.lawful_history.specs.Schedule.{Event, CallQueued, AutoStarted, StormStarted, TurnTaken, RegionAccessed, DeviceReset, DeviceAccessed, InterruptDropped, InterruptRepeated, DeviceAccess, ReadsConfig, WritesConfig, ReadsRegister, WritesRegister, ReadsMsix, WritesMsix, events_of, schedule}
 use Rattle.lawful_history.specs.EventRecords.{mark_line, access_lines, step_lines, turn_lines, denied_lines, region_access_lines, lines_by, lines_of}
-use Rattle.lawful_history.specs.Device.{devices_of, device_events, arrival, arrived, arrivals_by, lost_count, device_event_of, brought_by, step_interrupts, device_access_line, device_lines}
+use Rattle.lawful_history.specs.Device.{devices_of, device_events, delivery_line, delivery_lines, interrupts_of_event, lost_count, device_event_of, interrupts_of_access, step_interrupts, device_access_line, device_lines}
 use Rattle.lawful_history.specs.Sessions.{writes_state, opened_in}
 use Rattle.lawful_history.specs.History.{HistoryState, entry_of, step_of_event, after_event, run, initial_state}
 
@@ -54,17 +54,17 @@ none_arrival : (p : ℕ) (b : Bool) (q vector : ℕ) (lines : List Line) → Ope
 none_arrival p true q vector lines rest = rest
 none_arrival p false q vector lines rest = rest
 
-none_arrived : (p : ℕ) (older : List Line) (losses : ℕ → ℕ) (deliveries : List Delivery) → OpensNone p (arrived older losses deliveries)
+none_arrived : (p : ℕ) (older : List Line) (losses : ℕ → ℕ) (deliveries : List Delivery) → OpensNone p (delivery_lines older losses deliveries)
 none_arrived p older losses [] = refl
 none_arrived p older losses (delivery ∷ deliveries) =
-    none_arrival p (nat_lt (lost_count older delivery.peer) (losses delivery.peer)) delivery.peer delivery.vector (arrived (arrival older losses delivery ∷ older) losses deliveries)
-    (none_arrived p (arrival older losses delivery ∷ older) losses deliveries)
+    none_arrival p (nat_lt (lost_count older delivery.peer) (losses delivery.peer)) delivery.peer delivery.vector (delivery_lines (delivery_line older losses delivery ∷ older) losses deliveries)
+    (none_arrived p (delivery_line older losses delivery ∷ older) losses deliveries)
 
-none_arrivals : (p : ℕ) (world : World) (older : List Line) (losses : ℕ → ℕ) (line : Line) (told : Option device.Event) → OpensNone p (arrivals_by world older losses line told)
+none_arrivals : (p : ℕ) (world : World) (older : List Line) (losses : ℕ → ℕ) (line : Line) (recorded : Option device.Event) → OpensNone p (interrupts_of_event world older losses line recorded)
 none_arrivals p world older losses line None = refl
 none_arrivals p world older losses line (Some event) = none_arrived p (line ∷ older) losses (effect_of (devices_of world) (device_events older) event).deliveries.items
 
-none_brought : (p : ℕ) (world : World) (older : List Line) (losses : ℕ → ℕ) (lines : List Line) → OpensNone p (brought_by world older losses lines)
+none_brought : (p : ℕ) (world : World) (older : List Line) (losses : ℕ → ℕ) (lines : List Line) → OpensNone p (interrupts_of_access world older losses lines)
 none_brought p world older losses [] = refl
 none_brought p world older losses (line ∷ lines) = none_arrivals p world older losses line (device_event_of line)
 

@@ -1,11 +1,11 @@
 pub mod Owners
 pub mod Unique
-pub mod Apart
-pub mod InOrder
+pub mod MemoryLawLine
+pub mod PeersKeepOrder
 pub mod Left
 pub mod Exists
-pub mod There
+pub mod EventsArePermitted
 pub mod Written
 pub mod Begins
-pub mod Marks
+pub mod SessionMarks
 pub mod Few

@@ -219,7 +219,7 @@ same_entries world past losses peers (d ∷ ds) (d' ∷ ds') same f f' =
 
 follows : (world : World) (lines : List Line) (entries : List EventRecord) → IsLawfulBy world lines entries → Follows world [] (λ p. 0) (λ p. initial_progress) entries
 follows world lines entries by = record {
-  law = rw append-nil (rw (← by.told) at by.memory);
+  law = rw append-nil (rw (← by.recorded) at by.memory);
   device = by.device;
   owners = recursion_from_All (λ (entry : EventRecord). owner entry < world.geometry.peers) entries by.owners;
   calls = by.calls;
@@ -228,4 +228,4 @@ follows world lines entries by = record {
 pub one_history_lem : HasOneHistory
 one_history_lem world lines others lawful lawful' =
     let same = same_entries world [] (λ p. 0) (λ p. initial_progress) lawful.0 lawful'.0 (lawful.1.events ∙ sym lawful'.1.events) (follows world lines lawful.0 lawful.1) (follows world others lawful'.0 lawful'.1) in
-    sym lawful.1.told ∙ ap (λ (entries : List EventRecord). flat_map lines_of entries) same ∙ lawful'.1.told
+    sym lawful.1.recorded ∙ ap (λ (entries : List EventRecord). flat_map lines_of entries) same ∙ lawful'.1.recorded

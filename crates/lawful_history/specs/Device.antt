@@ -49,32 +49,32 @@ lost_count [] peer = 0
 lost_count (line ∷ older) peer = lost_by line peer + lost_count older peer
 
 -- A delivery is lost if fewer interrupts were lost at its peer than are to be dropped.
-abbrev pub arrival : List Line → (ℕ → ℕ) → Delivery → Line
-arrival older losses delivery =
+abbrev pub delivery_line : List Line → (ℕ → ℕ) → Delivery → Line
+delivery_line older losses delivery =
     if nat_lt (lost_count older delivery.peer) (losses delivery.peer) then line.Lost delivery.peer delivery.vector
     else line.Interrupt delivery.peer delivery.vector
 
 -- The lines of these deliveries, in order.
-abbrev pub arrived : List Line → (ℕ → ℕ) → List Delivery → List Line
-arrived older losses [] = []
-arrived older losses (delivery ∷ deliveries) = arrival older losses delivery ∷ arrived (arrival older losses delivery ∷ older) losses deliveries
+abbrev pub delivery_lines : List Line → (ℕ → ℕ) → List Delivery → List Line
+delivery_lines older losses [] = []
+delivery_lines older losses (delivery ∷ deliveries) = delivery_line older losses delivery ∷ delivery_lines (delivery_line older losses delivery ∷ older) losses deliveries
 
 -- The interrupts that a line causes after older ones, in ascending order of peer.
-abbrev pub arrivals_by : World → List Line → (ℕ → ℕ) → Line → Option device.Event → List Line
-arrivals_by world older losses line None = []
-arrivals_by world older losses line (Some event) = arrived (line ∷ older) losses (effect_of (devices_of world) (device_events older) event).deliveries.items
+abbrev pub interrupts_of_event : World → List Line → (ℕ → ℕ) → Line → Option device.Event → List Line
+interrupts_of_event world older losses line None = []
+interrupts_of_event world older losses line (Some event) = delivery_lines (line ∷ older) losses (effect_of (devices_of world) (device_events older) event).deliveries.items
 
-abbrev pub arrivals : World → List Line → (ℕ → ℕ) → Line → List Line
-arrivals world older losses line = arrivals_by world older losses line (device_event_of line)
+abbrev pub interrupts_of_line : World → List Line → (ℕ → ℕ) → Line → List Line
+interrupts_of_line world older losses line = interrupts_of_event world older losses line (device_event_of line)
 
 -- The interrupts that the line of an access causes.
-abbrev pub brought_by : World → List Line → (ℕ → ℕ) → List Line → List Line
-brought_by world older losses [] = []
-brought_by world older losses (line ∷ lines) = arrivals world older losses line
+abbrev pub interrupts_of_access : World → List Line → (ℕ → ℕ) → List Line → List Line
+interrupts_of_access world older losses [] = []
+interrupts_of_access world older losses (line ∷ lines) = interrupts_of_line world older losses line
 
 abbrev pub step_interrupts : World → List Line → (ℕ → ℕ) → ℕ → Option Step → List Line
 step_interrupts world older losses peer None = []
-step_interrupts world older losses peer (Some step) = brought_by world older losses (access_lines peer step.access step.value)
+step_interrupts world older losses peer (Some step) = interrupts_of_access world older losses (access_lines peer step.access step.value)
 
 -- The bytes of the peer's device after these lines.
 abbrev pub bytes_of : World → List Line → ℕ → Bytes
@@ -95,7 +95,7 @@ device_access_line world older peer (WritesMsix offset value) = line.MsixWrite p
 abbrev pub device_lines : World → List Line → (ℕ → ℕ) → Event → Option Step → List Line
 device_lines world older losses (TurnTaken peer) went = step_interrupts world older losses peer went
 device_lines world older losses (RegionAccessed peer a) went = step_interrupts world older losses peer went
-device_lines world older losses (DeviceReset peer) went = arrivals world older losses (line.Reset peer)
+device_lines world older losses (DeviceReset peer) went = interrupts_of_line world older losses (line.Reset peer)
 device_lines world older losses (DeviceAccessed peer a) went = device_access_line world older peer a ∷ []
 device_lines world older losses (InterruptRepeated peer vector) went = line.Interrupt peer vector ∷ []
 device_lines world older losses _ went = []

@@ -19,7 +19,7 @@ use Rattle.lawful_history.specs.Sessions.{recorded_in, with_sessions, without_se
 pub record IsLawfulBy (world : World) (lines : List Line) (entries : List EventRecord) : Type 0 where
   pub events : map event_of entries ≡ schedule world.acts
   pub owners : All (λ entry. owner entry < world.geometry.peers) entries
-  pub told : flat_map lines_of entries ≡ lines
+  pub recorded : flat_map lines_of entries ≡ lines
   pub memory : MemoryLaw world.geometry (reverse lines)
   pub device : DeviceRules world [] (λ peer. 0) entries
   pub calls : (peer : ℕ) → peer < world.geometry.peers → (end : Progress) × IsCallSequence world peer initial_progress (own peer entries) end

@@ -1,7 +1,7 @@
 -- The permitted events of a world.
 use Rattle.std.specs.Prelude.{◌<◌}
 use Rattle.scenario_text.specs.Scenario.{World}
-use Rattle.call_grammar.specs.Reach.{IsPermittedCall}
+use Rattle.call_grammar.specs.Permitted.{IsPermittedCall}
 use Rattle.lawful_history.specs.Sides.{config_of}
 use Rattle.lawful_history.specs.Schedule.{Event, CallQueued, event_peer}
 

@@ -2,12 +2,12 @@
 ghost use Rattle.lawful_history.specs.Lawful.{HasMarksInTwo, HasNoMarksInOne, HasOneHistory, HasOneHistoryIn, HasRecordInTwo, ReadsWhatWasWritten, WritesWhereItMay};
 ghost use Rattle.lawful_history.specs.History.{CutHistoriesBegin, HistoryIsLawful, HistoryIsLawfulIn, PeersKeepOrder};
 
-use call_grammar::calls_stay_in_reach;
+use call_grammar::calls_are_permitted;
 
 /// Law: a scenario has at most one lawful history: the schedule and the values read determine each
 /// next line.
 // top claim: A scenario has at most one lawful history. below: lawful_history.history_is_lawful,
-//    lawful_history.records_tell_one_history.one
+//    lawful_history.records_hold_one_history.one
 pub fn one_history()
     ensures { HasOneHistory }
 {}
@@ -17,14 +17,14 @@ pub fn one_history()
 pub fn history_is_lawful()
     ensures { HistoryIsLawful }
 {
-    calls_stay_in_reach();
+    calls_are_permitted();
 }
 
 /// Law: for each version a scenario has exactly one list of lines that a record may have.
-// claim one, told: A record of either version holds exactly one history of its scenario.
-pub fn records_tell_one_history()
+// claim one, recorded: A record of either version holds exactly one history of its scenario.
+pub fn records_hold_one_history()
     ensures one { HasOneHistoryIn }
-    ensures told { HistoryIsLawfulIn }
+    ensures recorded { HistoryIsLawfulIn }
 {
     one_history();
     history_is_lawful();

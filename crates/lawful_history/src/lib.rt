@@ -35,6 +35,6 @@ mod same;
 
 pub use laws::{
     cut_histories_begin, history_is_lawful, memory_is_kept, one_history, peers_keep_order,
-    records_tell_one_history, versions_differ_in_marks,
+    records_hold_one_history, versions_differ_in_marks,
 };
 pub use line::{Line, Lines};

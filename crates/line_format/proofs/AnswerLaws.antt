@@ -7,7 +7,7 @@ use Rattle.line_format.specs.Machine.{Machine, Wrong, read}
 use Rattle.line_format.specs.Reading.{Reads}
 use Rattle.line_format.specs.Texts.{Sense, said, answer}
 use Rattle.line_format.specs.Answers.{Unless, Refuses, Answers, fault_of_text}
-use Rattle.line_format.proofs.TextLaws.{IsForward, spelled_is_read}
+use Rattle.line_format.proofs.LawsOfTexts.{IsForward, spelled_is_read}
 
 -- The fault of a failed allocation is that alone, and no fault of a text.
 pub record IsApart {S C W E : Type 0} (s : Sense S C W E) (is_no_memory : E → Bool) (no_memory : E) : Type 0 where

@@ -8,8 +8,8 @@ use Rattle.std.proofs.lemmas.List.Concat.{flat_map-append, flat_map-cons}
 use Rattle.line_format.specs.Numbers.{number_of}
 use Rattle.line_format.specs.Forms.{Piece, Word, Number, Fit, spell}
 use Rattle.line_format.specs.Rows.{Row, line_of_row, text_of, numbered}
-use Rattle.line_format.proofs.NumberLaws.{number_of-decimal}
-use Rattle.line_format.proofs.StepLaws.{not_false}
+use Rattle.line_format.proofs.DecimalFields.{number_of-decimal}
+use Rattle.line_format.proofs.TestChains.{not_false}
 
 -- ---- parts of a text
 

@@ -8,11 +8,11 @@ use Rattle.line_format.specs.Rows.{Row, line_of_row, text_of}
 use Rattle.line_format.specs.Machine.{Machine, Leads, HasNoNewline, text_of_lines, read}
 use Rattle.line_format.specs.Grammar.{Rules, step, machine_of}
 use Rattle.line_format.specs.Texts.{Sense}
-use Rattle.line_format.proofs.MachineLaws.{read_is_lines}
-use Rattle.line_format.proofs.TableLaws.{IsTable}
-use Rattle.line_format.proofs.RowLaws.{bare, row_plain, text_is_lines, text-cons}
-use Rattle.line_format.proofs.GrammarLaws.{CanFollow, with_row, row_of_follows, step-row, step-ok}
-use Rattle.line_format.proofs.TextLaws.{HasLines}
+use Rattle.line_format.proofs.ReadingLines.{read_is_lines}
+use Rattle.line_format.proofs.FormsOfRows.{IsTable}
+use Rattle.line_format.proofs.LinesOfRows.{bare, row_plain, text_is_lines, text-cons}
+use Rattle.line_format.proofs.RowsFollow.{CanFollow, with_row, row_of_follows, step-row, step-ok}
+use Rattle.line_format.proofs.LawsOfTexts.{HasLines}
 
 -- ---- forward
 

@@ -31,11 +31,11 @@ pub trait Grammar {
     /// The fault of a line.
     type Cause;
     /// The value of the lines so far.
-    ghost SoFar: { Type 0 };
+    ghost DraftView: { Type 0 };
 
-    ghost so_far: { Self → SoFar };
+    ghost draft_view: { Self → DraftView };
     /// The table.
-    ghost rules: { Rules SoFar Self.Form Self.Cause };
+    ghost rules: { Rules DraftView Self.Form Self.Cause };
 
     /// Returns all forms.
     fn forms() -> &'static [Self::Form]
@@ -52,15 +52,15 @@ pub trait Grammar {
 
     /// Whether the form is forbidden at this position.
     fn is_out_of_order(&self, form: Self::Form, fields: &[&[u8]]) -> bool
-        ensures { result ≡ rules.is_out_of_order (so_far self.now) form (texts fields.now) };
+        ensures { result ≡ rules.is_out_of_order (draft_view self.now) form (texts fields.now) };
 
     /// Returns the fault of the numbers, if they have one. Each is in the form's own range.
     fn wrong_numbers(&self, form: Self::Form, numbers: &[u64]) -> Option<Self::Cause>
-        ensures { result ≡ rules.wrong_numbers (so_far self.now) form numbers.now };
+        ensures { result ≡ rules.wrong_numbers (draft_view self.now) form numbers.now };
 
     /// Whether a line of the form may have `size` bytes.
     fn fits(&self, form: Self::Form, size: u64) -> bool
-        ensures { result ≡ rules.fits (so_far self.now) form size };
+        ensures { result ≡ rules.fits (draft_view self.now) form size };
 
     /// Adds the value of the line, unless the whole row has a fault.
     fn add(
@@ -71,14 +71,15 @@ pub trait Grammar {
         numbers: &[u64],
         bytes: Vec<u8>,
     ) -> Result<(), LineFault<Self::Cause>>
-        requires order { rules.is_out_of_order (so_far self.old) form (texts fields.now) ≡ false }
+        requires order { rules.is_out_of_order (draft_view self.old) form (texts fields.now) ≡
+            false }
         requires limits { AreInRange (rules.pieces_of form) numbers.now }
-        requires good { rules.wrong_numbers (so_far self.old) form numbers.now ≡ None }
-        ensures { Gives (so_far self.new) result (added rules (so_far self.old) form numbers.now bytes.items) };
+        requires good { rules.wrong_numbers (draft_view self.old) form numbers.now ≡ None }
+        ensures { Gives (draft_view self.new) result (added rules (draft_view self.old) form numbers.now bytes.items) };
 
     /// Whether the last line was the end of the text.
     fn is_ended(&self) -> bool
-        ensures { result ≡ rules.ended (so_far self.now) };
+        ensures { result ≡ rules.ended (draft_view self.now) };
 
     /// No form has more fields than a line may have.
     ghost few: { (form : Self.Form) → length (rules.pieces_of form) ≤ 6 };
@@ -103,7 +104,7 @@ fn bytes_of<G: Grammar>(
     form: G::Form,
     fields: &[&[u8]],
 ) -> Result<Option<Vec<u8>>, AllocError>
-    ensures { IfOk result (λ o. option_map (λ v. v.items) o ≡ bytes_in G.rules (G.so_far draft.now) form (texts fields.now)) }
+    ensures { IfOk result (λ o. option_map (λ v. v.items) o ≡ bytes_in G.rules (G.draft_view draft.now) form (texts fields.now)) }
 {
     let digits = hex_field(G::slots(form), fields);
     if !draft.fits(form, digits.len() as u64 / 2) {
@@ -120,7 +121,7 @@ fn judge<G: Grammar>(
     form: G::Form,
     fields: &[&[u8]],
 ) -> Result<(), LineFault<G::Cause>>
-    ensures { Gives (G.so_far draft.new) result (judge G.rules (G.so_far draft.old) form (texts fields.now)) }
+    ensures { Gives (G.draft_view draft.new) result (judge G.rules (G.draft_view draft.old) form (texts fields.now)) }
 {
     if draft.is_out_of_order(form, fields) {
         return Err(LineFault::Wrong(G::cause(Test::Order)));
@@ -149,7 +150,7 @@ pub fn take_line<G: Grammar>(
     alloc: Global,
     line: &[u8],
 ) -> Result<(), LineFault<G::Cause>>
-    ensures { Gives (G.so_far draft.new) result (step G.rules (G.so_far draft.old) line.now) }
+    ensures { Gives (G.draft_view draft.new) result (step G.rules (G.draft_view draft.old) line.now) }
 {
     if !is_printable(line) {
         return Err(LineFault::Wrong(G::cause(Test::Line)));
@@ -166,9 +167,9 @@ pub fn take_line<G: Grammar>(
 impl<G: Grammar> TakeLines for G {
     type Cause = G::Cause;
 
-    ghost SoFar = { G.SoFar };
+    ghost DraftView = { G.DraftView };
 
-    ghost so_far = { G.so_far };
+    ghost draft_view = { G.draft_view };
 
     ghost machine = { machine_of G.rules };
 

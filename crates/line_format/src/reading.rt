@@ -62,19 +62,19 @@ pub trait TakeLines {
     /// The cause of a line's fault.
     type Cause;
     /// The value of the lines so far.
-    ghost SoFar: { Type 0 };
+    ghost DraftView: { Type 0 };
 
-    ghost so_far: { Self → SoFar };
+    ghost draft_view: { Self → DraftView };
     /// The effect of a line on the value, and the end of the text.
-    ghost machine: { Machine SoFar Self.Cause };
+    ghost machine: { Machine DraftView Self.Cause };
 
     /// Takes the next line, without its newline. After an error the draft must not be used.
     fn take(&mut self, alloc: Global, line: &[u8]) -> Result<(), LineFault<Self::Cause>>
-        ensures { Gives (so_far self.new) result (machine.step (so_far self.old) line.now) };
+        ensures { Gives (draft_view self.new) result (machine.step (draft_view self.old) line.now) };
 
     /// Whether the last line was the end of the text.
     fn has_ended(&self) -> bool
-        ensures { result ≡ machine.ended (so_far self.now) };
+        ensures { result ≡ machine.ended (draft_view self.now) };
 }
 
 /// Takes each line of a text, up to its end. After an error the draft has the lines before the
@@ -87,7 +87,7 @@ pub fn read_text<D: TakeLines>(
     draft: &mut D,
     bytes: &[u8],
 ) -> Result<(), TextFault<D::Cause>>
-    ensures { Reads (D.so_far draft.new) result (read D.machine (D.so_far draft.old) bytes.now) }
+    ensures { Reads (D.draft_view draft.new) result (read D.machine (D.draft_view draft.old) bytes.now) }
 {
     let mut rest = bytes;
     let mut number: u64 = 0;

@@ -7,12 +7,12 @@ use Rattle.call_grammar.specs.Places as places
 use Rattle.call_grammar.specs.Bursts.{StepsThrough, end_after_all, place_after}
 use Rattle.link_endpoint.specs.Engine.{Engine}
 use Rattle.link_endpoint.specs.Refinement.{RefinesAt, Takes}
-use Rattle.link_endpoint.specs.Leaving.{KeepsAway}
+use Rattle.link_endpoint.specs.Refusal.{StaysRefused}
 
 -- One step, with all that the contracts say of a step.
 pub record IsTaken (old : Engine) (value : ℕ) (notes : List Note) (new : Engine) : Type 0 where
   pub takes : Takes old value notes new
-  pub away : KeepsAway old value notes new
+  pub away : StaysRefused old value notes new
 
 -- After a burst of steps an endpoint refines the end after these steps of the grammar, at the place
 -- after them.

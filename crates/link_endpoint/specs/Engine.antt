@@ -132,8 +132,8 @@ abbrev pub bursts_of : Engine → Option Bursts
 bursts_of e = bursts_at e.place e.sender
 
 -- The handshake state: the phase, with the mark if the end refused a value.
-abbrev pub standing_of : Engine → HandshakeState
-standing_of e = record { phase = e.phase; mark = is_some e.refused }
+abbrev pub handshake_of : Engine → HandshakeState
+handshake_of e = record { phase = e.phase; mark = is_some e.refused }
 
 -- The frame offered last, which stays until another frame is offered.
 abbrev pub offered : Engine → List ℕ
@@ -150,9 +150,9 @@ call_of Poll = calls.Poll
 call_of Stop = calls.Stop
 
 -- A call is down from its first step on: a poll outside RUN.
-abbrev pub comes_down : Call → Phase → Bool
-comes_down Poll phase = not (calls.in_run phase)
-comes_down _ phase = false
+abbrev pub begins_down : Call → Phase → Bool
+begins_down Poll phase = not (calls.in_run phase)
+begins_down _ phase = false
 
 -- The call is a Tick.
 abbrev pub is_tick : Call → Bool

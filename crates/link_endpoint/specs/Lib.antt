@@ -1,6 +1,6 @@
 pub mod Engine
 pub mod Refinement
-pub mod Leaving
+pub mod Refusal
 pub mod Bursts
 pub mod Offered
 pub mod Orders

@@ -13,7 +13,7 @@ use Rattle.tx_engine.specs.Refinement as tx
 use Rattle.rx_engine.specs.Refinement as rx
 use Rattle.link_endpoint.specs.declared.place.Place.{Place}
 use Rattle.link_endpoint.specs.declared.place.Place.TheVariants.{Closed, ReadingOtherState, Clearing, WritingState, Refusing, NotInRun, Offering, Polling}
-use Rattle.link_endpoint.specs.Engine.{Engine, is_down, standing_of, offered, delivered, refused_after, IsNoteAt}
+use Rattle.link_endpoint.specs.Engine.{Engine, is_down, handshake_of, offered, delivered, refused_after, IsNoteAt}
 
 -- The ends that it refines
 
@@ -63,7 +63,7 @@ IsAt Polling e config end place = (goes_on place ≡ true) × tx.RefinesAt e.sen
 -- the end's frames in flight is at most the limit.
 pub record RefinesAt (e : Engine) (config : EndConfig) (end : End) (place : places.Place) : Type 0 where
   pub made : config ≡ e.config
-  pub standing : end.handshake ≡ standing_of e
+  pub standing : end.handshake ≡ handshake_of e
   pub few : HasFewInFlight config end
   pub at : IsAt e.place e config end place
 
@@ -88,14 +88,14 @@ abbrev pub marks_between : (offered delivered : List ℕ) → List Note → List
 marks_between offered delivered notes = map (mark_between offered delivered) notes
 
 -- The frame of a step's mark: the frame offered, or in a poll the frame that the step delivers.
-abbrev pub in_hand : Place → (offered delivered : List ℕ) → List ℕ
-in_hand Polling offered delivered = delivered
-in_hand _ offered delivered = offered
+abbrev pub frame_of_mark : Place → (offered delivered : List ℕ) → List ℕ
+frame_of_mark Polling offered delivered = delivered
+frame_of_mark _ offered delivered = offered
 
 -- For every end that it refines, the endpoint makes the step of its place that meets `value`, with
 -- these notes, and then is `new`.
 pub record Takes (old : Engine) (value : ℕ) (notes : List Note) (new : Engine) : Type 0 where
-  pub marks : AtEachEnd old (λ config _ place. marks_of (in_hand old.place (offered old) (delivered new)) notes ≡ places.marks_at config place value)
+  pub marks : AtEachEnd old (λ config _ place. marks_of (frame_of_mark old.place (offered old) (delivered new)) notes ≡ places.marks_at config place value)
   pub marked : AtEachEnd old (λ config _ place. marks_between (offered old) (delivered new) notes ≡ places.marks_at config place value)
   pub frames : All (IsNoteAt old.place) notes
   pub refines : AtEachEnd old (λ config end place. RefinesAt new config (end_after end (places.step_at config place value)) (places.next_place config place value))

@@ -4,15 +4,15 @@ ghost use Rattle.split_ring.specs.declared.sizes.TheConstants.{FRAME_OVERHEAD, S
 ghost use Rattle.call_grammar.specs.Ends.{End, fresh, after_reset};
 ghost use Rattle.call_grammar.specs.Calls.{EndConfig, Offer, in_run};
 ghost use Rattle.call_grammar.specs.Places as places;
-ghost use Rattle.call_grammar.specs.Reach.{IsPermittedAccess};
+ghost use Rattle.call_grammar.specs.Permitted.{IsPermittedAccess};
 ghost use Rattle.call_grammar.specs.Ticks.{other_state};
 ghost use Rattle.call_grammar.specs.Bursts.{StepsThrough, ReadsBurst, WritesBurst};
 ghost use Rattle.call_grammar.specs.Words.{word_bytes};
 ghost use Rattle.call_grammar.specs.StepBounds.{HasFewInFlight};
 ghost use Rattle.tx_engine.specs.Ahead.{words_of, listed, last_words, WritesAll};
-ghost use Rattle.link_endpoint.specs.Engine.{config_of, fresh_engine, engine_after_reset, is_busy, is_down, is_refusing, is_reading_state, is_tick, offered, delivered, call_of, comes_down, refused_after, reads_ahead, frame_ahead, writes_ahead, bursts_of};
+ghost use Rattle.link_endpoint.specs.Engine.{config_of, fresh_engine, engine_after_reset, is_busy, is_down, is_refusing, is_reading_state, is_tick, offered, delivered, call_of, begins_down, refused_after, reads_ahead, frame_ahead, writes_ahead, bursts_of};
 ghost use Rattle.link_endpoint.specs.Refinement.{RefinesAt, AtEachEnd, is_armed, Takes, Opens};
-ghost use Rattle.link_endpoint.specs.Leaving.{Refuses, Leaves, KeepsRefused, Stays, KeepsAway};
+ghost use Rattle.link_endpoint.specs.Refusal.{RecordsRefusal, EndsRefusal, KeepsRefused, KeepsPhase, StaysRefused};
 ghost use Rattle.link_endpoint.specs.Bursts.{IsTaken};
 ghost use Rattle.link_endpoint.specs.Orders.{order_at, order_of};
 ghost use Rattle.link_endpoint.specs.Runs.{EndpointsMakeCalls};
@@ -48,11 +48,11 @@ pub struct Endpoint {
 
 impl Model for Endpoint {
     ghost use Rattle.link_endpoint.specs.Engine.{Engine};
-    ghost use Rattle.link_endpoint.specs.Representation.{seen, IsWellFormed};
+    ghost use Rattle.link_endpoint.specs.Representation.{engine_of, IsWellFormed};
 
     ghost Value = { Engine };
 
-    ghost view = { seen };
+    ghost view = { engine_of };
 
     ghost invariant = { IsWellFormed };
 }
@@ -171,7 +171,7 @@ impl Endpoint {
         ensures refines { (config : EndConfig) (end : End) → RefinesAt self.old config end places.Closed →
             RefinesAt self.new config end (places.first_place config end (call_of call)) }
         ensures open { is_busy self.new ≡ true }
-        ensures down { is_down self.new ≡ comes_down call self.old.phase }
+        ensures down { is_down self.new ≡ begins_down call self.old.phase }
         ensures looks { is_reading_state self.new ≡ is_tick call }
         ensures offered { offered self.new ≡ offered self.old }
         ensures kept { Opens self.old self.new }
@@ -293,10 +293,10 @@ impl Endpoint {
     pub fn took(&mut self, value: u32) -> Notes
         requires { is_busy self.old ≡ true }
         ensures steps { Takes self.old value result.items self.new }
-        ensures refuses { Refuses result.items self.new }
-        ensures leaves { Leaves self.old result.items self.new }
+        ensures refuses { RecordsRefusal result.items self.new }
+        ensures leaves { EndsRefusal self.old result.items self.new }
         ensures keeps { KeepsRefused self.old self.new }
-        ensures stays { Stays self.old value result.items self.new }
+        ensures stays { KeepsPhase self.old value result.items self.new }
     {
         let mut notes = Notes::new();
         self.took_into(value, &mut notes);
@@ -308,10 +308,10 @@ impl Endpoint {
         requires open { is_busy self.old ≡ true }
         requires empty { notes.old.items ≡ [] }
         ensures steps { Takes self.old value notes.new.items self.new }
-        ensures refuses { Refuses notes.new.items self.new }
-        ensures leaves { Leaves self.old notes.new.items self.new }
+        ensures refuses { RecordsRefusal notes.new.items self.new }
+        ensures leaves { EndsRefusal self.old notes.new.items self.new }
         ensures keeps { KeepsRefused self.old self.new }
-        ensures stays { Stays self.old value notes.new.items self.new }
+        ensures stays { KeepsPhase self.old value notes.new.items self.new }
     {
         match self.place {
             Place::ReadingOtherState => self.took_state(value, notes),
@@ -530,7 +530,7 @@ impl Endpoint {
         requires place { self.old.place ≡ Place.ReadingOtherState }
         requires empty { notes.old.items ≡ [] }
         ensures steps { Takes self.old value notes.new.items self.new }
-        ensures leaving { KeepsAway self.old value notes.new.items self.new }
+        ensures leaving { StaysRefused self.old value notes.new.items self.new }
     {
         notes.push(Note::Saw(value));
         self.place = match self.handshake.saw(value) {
@@ -547,7 +547,7 @@ impl Endpoint {
     fn took_clear(&mut self, at: u32, then: u32)
         requires { self.old.place ≡ Place.Clearing at then }
         ensures steps { (value : ℕ) → Takes self.old value [] self.new }
-        ensures leaving { (value : ℕ) → KeepsAway self.old value [] self.new }
+        ensures leaving { (value : ℕ) → StaysRefused self.old value [] self.new }
     {
         let end = self.own + self.words;
         self.place = if at + 1 == end {
@@ -573,7 +573,7 @@ impl Endpoint {
         requires place { self.old.place ≡ Place.WritingState state }
         requires empty { notes.old.items ≡ [] }
         ensures steps { (value : ℕ) → Takes self.old value notes.new.items self.new }
-        ensures leaving { (value : ℕ) → KeepsAway self.old value notes.new.items self.new }
+        ensures leaving { (value : ℕ) → StaysRefused self.old value notes.new.items self.new }
     {
         if state == 2 {
             return self.took_opening(notes);
@@ -588,7 +588,7 @@ impl Endpoint {
         requires place { self.old.place ≡ Place.WritingState 2 }
         requires empty { notes.old.items ≡ [] }
         ensures steps { (value : ℕ) → Takes self.old value notes.new.items self.new }
-        ensures leaving { (value : ℕ) → KeepsAway self.old value notes.new.items self.new }
+        ensures leaving { (value : ℕ) → StaysRefused self.old value notes.new.items self.new }
     {
         self.tx.reset();
         self.rx.reset();
@@ -602,7 +602,7 @@ impl Endpoint {
         requires place { self.old.place ≡ Place.Refusing }
         requires empty { notes.old.items ≡ [] }
         ensures steps { (value : ℕ) → Takes self.old value notes.new.items self.new }
-        ensures leaving { (value : ℕ) → KeepsAway self.old value notes.new.items self.new }
+        ensures leaving { (value : ℕ) → StaysRefused self.old value notes.new.items self.new }
     {
         self.tx.reset();
         self.rx.reset();
@@ -616,7 +616,7 @@ impl Endpoint {
         requires place { self.old.place ≡ Place.NotInRun }
         requires empty { notes.old.items ≡ [] }
         ensures steps { (value : ℕ) → Takes self.old value notes.new.items self.new }
-        ensures leaving { (value : ℕ) → KeepsAway self.old value notes.new.items self.new }
+        ensures leaving { (value : ℕ) → StaysRefused self.old value notes.new.items self.new }
     {
         self.place = Place::Closed;
         notes.push(Note::Down);
@@ -627,7 +627,7 @@ impl Endpoint {
         requires place { self.old.place ≡ Place.Offering }
         requires empty { notes.old.items ≡ [] }
         ensures steps { Takes self.old value notes.new.items self.new }
-        ensures leaving { KeepsAway self.old value notes.new.items self.new }
+        ensures leaving { StaysRefused self.old value notes.new.items self.new }
     {
         self.tx.took_into(value, notes);
         if let Some(refused) = refused_in(notes) {
@@ -643,7 +643,7 @@ impl Endpoint {
         requires place { self.old.place ≡ Place.Polling }
         requires empty { notes.old.items ≡ [] }
         ensures steps { Takes self.old value notes.new.items self.new }
-        ensures leaving { KeepsAway self.old value notes.new.items self.new }
+        ensures leaving { StaysRefused self.old value notes.new.items self.new }
     {
         self.rx.took_into(value, notes);
         if let Some(refused) = refused_in(notes) {

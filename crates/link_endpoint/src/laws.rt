@@ -5,7 +5,7 @@ ghost use Rattle.link_endpoint.specs.Bursts.{BurstsGoOn};
 ghost use Rattle.link_endpoint.specs.Offered.{BurstsKeepOffers};
 
 pub use call_grammar::{
-    calls_are_lists, calls_keep_rows, calls_meet_bounds, calls_stay_in_reach, calls_take_a_step,
+    calls_are_lists, calls_are_permitted, calls_keep_rows, calls_meet_bounds, calls_take_a_step,
     cuts_begin, fields_are_read_once, phase_follows_state, places_follow_trees,
 };
 pub use link_invariant::{

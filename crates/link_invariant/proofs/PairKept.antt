@@ -19,14 +19,14 @@ use Rattle.link_invariant.specs.EndInvariant.{start_for, EndInvariant}
 use Rattle.link_invariant.specs.Pair.{freed_at, Polls, InFlight, IsAttached, Pair}
 use Rattle.link_invariant.specs.Laws.{PairIsKept}
 use Rattle.link_invariant.proofs.Fields.{fields_same, Put, theirs_stay}
-use Rattle.link_invariant.proofs.Forms.{by_test, opened, sent_same}
+use Rattle.link_invariant.proofs.EndObligations.{by_test, opened, sent_same}
 use Rattle.link_invariant.proofs.WriteSteps.{puts_lem}
 use Rattle.link_invariant.proofs.TickSteps.{not_phase}
-use Rattle.link_invariant.proofs.AloneKept.{alone_kept}
-use Rattle.link_invariant.proofs.PairForms.{Facing, facing, known, stepped, IsCalm, calm_not, Works, Before, Leads, link_same, takes_on}
-use Rattle.link_invariant.proofs.Sends.{sends_used_index, sends_id, sends_word, sends_index}
-use Rattle.link_invariant.proofs.Takes.{takes_avail_index, takes_entry, takes_low, takes_high, takes_length, takes_flags, takes_word, takes_id, takes_amount, takes_index}
-use Rattle.link_invariant.proofs.Handshakes.{set_apart, idles, leads_state, leads_clear, leads_set, leads_reset, attends_high}
+use Rattle.link_invariant.proofs.EndInvariantKept.{alone_kept}
+use Rattle.link_invariant.proofs.PairObligations.{Facing, facing, known, stepped, IsCalm, calm_not, Works, Before, Leads, link_same, takes_on}
+use Rattle.link_invariant.proofs.OffersOfPair.{sends_used_index, sends_id, sends_word, sends_index}
+use Rattle.link_invariant.proofs.PollsOfPair.{takes_avail_index, takes_entry, takes_low, takes_high, takes_length, takes_flags, takes_word, takes_id, takes_amount, takes_index}
+use Rattle.link_invariant.proofs.HandshakeOfPair.{set_apart, idles, leads_state, leads_clear, leads_set, leads_reset, attends_high}
 
 -- A step leaves the words of the other
 

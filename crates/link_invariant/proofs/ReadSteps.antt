@@ -18,7 +18,7 @@ use Rattle.call_grammar.specs.Places.{Place, Closed, Refusing, ReadingUsedIndex,
 use Rattle.call_grammar.proofs.OfferLists.{no}
 use Rattle.link_invariant.specs.LinkConfig.{LinkConfig, config_of, fields}
 use Rattle.link_invariant.specs.EndInvariant.{IsNext, Filled, PlaceInvariant, counts, EndInvariant}
-use Rattle.link_invariant.proofs.Forms.{by_test, run_ready, opened, free, moves, refuses}
+use Rattle.link_invariant.proofs.EndObligations.{by_test, run_ready, opened, free, moves, refuses}
 use Rattle.split_ring.proofs.Tests.{entry_of_test, address_of_test, length_of_test}
 
 -- The invariant of an end at the place after its step.

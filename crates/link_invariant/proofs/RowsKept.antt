@@ -25,18 +25,18 @@ use Rattle.call_grammar.specs.Offers.{PendingOffer, refusal, full_marks, returne
 use Rattle.call_grammar.specs.Polls.{published_by, look_marks}
 use Rattle.call_grammar.specs.Places.{Place, Closed, ReadingOtherState, Clearing, WritingState, Refusing, NotInRun, ReadingUsedIndex, ReadingUsedId, WritingFrameWord, WritingDescAddressLow, WritingDescAddressHigh, WritingDescLength, WritingDescFlags, WritingAvailEntry, WritingAvailIndex, ReadingAvailEvent, RingingOffer, ReadingAvailIndex, WritingAvailEvent, ReadingAvailEntry, ReadingDescAddressLow, ReadingDescAddressHigh, ReadingDescLength, ReadingDescFlags, ReadingFrameWord, WritingUsedId, WritingUsedLength, WritingUsedIndex, RingingPoll, ids_place, none_place, items_place, words_place, access_at, next_place, step_at, is_open}
 use Rattle.link_machine.specs.LinkMachine.{Side, Gave, Marked, IsBeyond, MayReclaim, MayLook, MayDeliver}
-use Rattle.call_grammar.proofs.Bounding.{frame_length}
+use Rattle.call_grammar.proofs.CallsMeetBounds.{frame_length}
 use Rattle.link_invariant.specs.LinkConfig.{LinkConfig, IsLinkConfig, section_of, config_of}
 use Rattle.link_invariant.specs.Steps.{ReadsMemory, MemoryAfter}
 use Rattle.link_invariant.proofs.StateRows.{Follows, Same, same_of, side_is, silent, heard, anew, same_heard, same_anew, wrote, hears, clear_call, saw, wrote_state}
 use Rattle.link_invariant.proofs.MarkRows.{IsNextOf, refused_row, fill_call, reclaim_rows, id_rows, items_call, words_call, look_rows, moves_set, moves_clear, begin_follows}
 use Rattle.link_invariant.specs.EndInvariant.{IsNext, EndInvariant}
 use Rattle.link_invariant.specs.Sides.{side_events_by, SawFor, CallIs, SideIs, StepsFollowRows}
-use Rattle.link_invariant.proofs.Forms.{by_test, opened}
-use Rattle.link_invariant.proofs.AloneKept.{alone_kept}
-use Rattle.link_invariant.proofs.PairForms.{Before}
-use Rattle.link_invariant.proofs.Sends.{returned_is}
-use Rattle.link_invariant.proofs.Takes.{published_is, frame_is}
+use Rattle.link_invariant.proofs.EndObligations.{by_test, opened}
+use Rattle.link_invariant.proofs.EndInvariantKept.{alone_kept}
+use Rattle.link_invariant.proofs.PairObligations.{Before}
+use Rattle.link_invariant.proofs.OffersOfPair.{returned_is}
+use Rattle.link_invariant.proofs.PollsOfPair.{published_is, frame_is}
 use Rattle.link_invariant.proofs.PairKept.{leads, before}
 
 -- A read by its test: valid, or refused against a hostile other alone.

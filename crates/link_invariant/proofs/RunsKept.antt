@@ -9,12 +9,12 @@ use Rattle.call_grammar.specs.Places.{Place, Closed, first_place, step_at}
 use Rattle.link_machine.specs.LinkMachine.{Side, initial_side, SideEvent, WasReset, Row, Log, no_sessions, log_after, MachineRuns, DeliversInOrder}
 use Rattle.link_machine.specs.LinkMachine as machine
 use Rattle.call_grammar.proofs.OfferLists.{yes, no}
-use Rattle.link_machine.proofs.MachineLaws.{machine as machine_lem}
+use Rattle.link_machine.proofs.DeliversInOrder.{machine as machine_lem}
 use Rattle.link_invariant.specs.LinkConfig.{LinkConfig, IsLinkConfig, config_of}
 use Rattle.link_invariant.specs.Steps.{OnlyEndChanges}
 use Rattle.link_invariant.specs.Sides.{side_events_by, FollowsRows, SideIs}
 use Rattle.link_invariant.specs.Runs.{starts, begins, steps, resets, others, RunsKeepInvariant, HonestRuns, HonestRunsDeliver}
-use Rattle.link_invariant.proofs.WholeKept.{whole_kept}
+use Rattle.link_invariant.proofs.LinkInvariantKept.{whole_kept}
 use Rattle.link_invariant.proofs.RowsKept.{follow_lem}
 
 -- All runs of two ends satisfy the invariant.
@@ -55,12 +55,12 @@ pub record Stepped (sizes : Sizes) (sides : ℕ → Side) (logs : ℕ → Log) (
   pub logs_stay : (q : ℕ) → q ≢ p → logs' q ≡ logs q
 
 -- A row of p continues the run.
-pub row_step : (sizes : Sizes) (p : ℕ) (p2 : p < 2) (sides : ℕ → Side) (logs : ℕ → Log) (told : SideEvent) (new : Side) → MachineRuns sizes (λ p. true) sides logs → Row sizes true true (sides p) (sides (1 - p)) told new →
-    Stepped sizes sides logs p new (log_after (logs p) (logs (1 - p)) (sides p) told)
-row_step sizes p p2 sides logs told new r row = let l = log_after (logs p) (logs (1 - p)) (sides p) told in let ne : 1 - p ≢ p = λ e. omega arith in record {
+pub row_step : (sizes : Sizes) (p : ℕ) (p2 : p < 2) (sides : ℕ → Side) (logs : ℕ → Log) (side_event : SideEvent) (new : Side) → MachineRuns sizes (λ p. true) sides logs → Row sizes true true (sides p) (sides (1 - p)) side_event new →
+    Stepped sizes sides logs p new (log_after (logs p) (logs (1 - p)) (sides p) side_event)
+row_step sizes p p2 sides logs side_event new r row = let l = log_after (logs p) (logs (1 - p)) (sides p) side_event in let ne : 1 - p ≢ p = λ e. omega arith in record {
   sides' = changed sides p new;
   logs' = changed logs p l;
-  run = machine.goes sides (changed sides p new) logs (changed logs p l) p told r p2 (subst (λ (x : Side). Row sizes true true (sides p) (sides (1 - p)) told x) (sym (changed_here sides p new)) row)
+  run = machine.goes sides (changed sides p new) logs (changed logs p l) p side_event r p2 (subst (λ (x : Side). Row sizes true true (sides p) (sides (1 - p)) side_event x) (sym (changed_here sides p new)) row)
       (changed_beside sides p (1 - p) new ne) (changed_here logs p l) (changed_beside logs p (1 - p) l ne);
   side_is = changed_here sides p new;
   log_is = changed_here logs p l;
@@ -69,23 +69,23 @@ row_step sizes p p2 sides logs told new r row = let l = log_after (logs p) (logs
 }
 
 -- The rows left after one of them.
-pub rows_on : (sizes : Sizes) (p : ℕ) (p2 : p < 2) (tolds : List SideEvent) (sides : ℕ → Side) (logs : ℕ → Log) (mid new : Side) (log : Log) → (a : Stepped sizes sides logs p mid log) → FollowsRows sizes true (sides (1 - p)) mid tolds new → FollowsRows sizes true (a.sides' (1 - p)) (a.sides' p) tolds new
-rows_on sizes p p2 tolds sides logs mid new log a rows = let ne : 1 - p ≢ p = λ e. omega arith in
-    subst (λ (x : Side). FollowsRows sizes true x (a.sides' p) tolds new) (sym (a.sides_stay (1 - p) ne)) (subst (λ (x : Side). FollowsRows sizes true (sides (1 - p)) x tolds new) (sym a.side_is) rows)
+pub rows_on : (sizes : Sizes) (p : ℕ) (p2 : p < 2) (side_events : List SideEvent) (sides : ℕ → Side) (logs : ℕ → Log) (mid new : Side) (log : Log) → (a : Stepped sizes sides logs p mid log) → FollowsRows sizes true (sides (1 - p)) mid side_events new → FollowsRows sizes true (a.sides' (1 - p)) (a.sides' p) side_events new
+rows_on sizes p p2 side_events sides logs mid new log a rows = let ne : 1 - p ≢ p = λ e. omega arith in
+    subst (λ (x : Side). FollowsRows sizes true x (a.sides' p) side_events new) (sym (a.sides_stay (1 - p) ne)) (subst (λ (x : Side). FollowsRows sizes true (sides (1 - p)) x side_events new) (sym a.side_is) rows)
 
-along_runs : (sizes : Sizes) (tolds : List SideEvent) (sides : ℕ → Side) (logs : ℕ → Log) (p : ℕ) (new : Side) → p < 2 → MachineRuns sizes (λ p. true) sides logs → FollowsRows sizes true (sides (1 - p)) (sides p) tolds new →
+along_runs : (sizes : Sizes) (side_events : List SideEvent) (sides : ℕ → Side) (logs : ℕ → Log) (p : ℕ) (new : Side) → p < 2 → MachineRuns sizes (λ p. true) sides logs → FollowsRows sizes true (sides (1 - p)) (sides p) side_events new →
     (log : Log) × Stepped sizes sides logs p new log
 along_runs sizes [] sides logs p new p2 runs along = (logs p, record { sides' = sides; logs' = logs; run = runs; side_is = sym along; log_is = refl; sides_stay = λ q ne. refl; logs_stay = λ q ne. refl })
-along_runs sizes (told ∷ tolds) sides logs p new p2 runs along = let a = row_step sizes p p2 sides logs told along.0 runs along.1 in let b = along_runs sizes tolds a.sides' a.logs' p new p2 a.run (rows_on sizes p p2 tolds sides logs along.0 new _ a along.2) in
+along_runs sizes (side_event ∷ side_events) sides logs p new p2 runs along = let a = row_step sizes p p2 sides logs side_event along.0 runs along.1 in let b = along_runs sizes side_events a.sides' a.logs' p new p2 a.run (rows_on sizes p p2 side_events sides logs along.0 new _ a along.2) in
     (b.0, record { sides' = b.1.sides'; logs' = b.1.logs'; run = b.1.run; side_is = b.1.side_is; log_is = b.1.log_is; sides_stay = λ q ne. b.1.sides_stay q ne ∙ a.sides_stay q ne; logs_stay = λ q ne. b.1.logs_stay q ne ∙ a.logs_stay q ne })
 
 pub side_like : (end end' : End) (place place' : Place) (side side' : Side) → end' ≡ end → place' ≡ place → side' ≡ side → SideIs end place side → SideIs end' place' side'
 side_like end end' place place' side side' e f g h = subst (λ (x : End). SideIs x place' side') (sym e) (subst (λ (x : Place). SideIs end x side') (sym f) (subst (λ (x : Side). SideIs end place x) (sym g) h))
 
 -- The sides after a step of p.
-moved : (link_config : LinkConfig) (ends after_ends : ℕ → End) (places after_places : ℕ → Place) (p : ℕ) (end : End) (place : Place) (tolds : List SideEvent) (new : Side) → p < 2 → (r : AreSides link_config ends places) → FollowsRows link_config.sizes true (r.sides (1 - p)) (r.sides p) tolds new → SideIs end place new →
+moved : (link_config : LinkConfig) (ends after_ends : ℕ → End) (places after_places : ℕ → Place) (p : ℕ) (end : End) (place : Place) (side_events : List SideEvent) (new : Side) → p < 2 → (r : AreSides link_config ends places) → FollowsRows link_config.sizes true (r.sides (1 - p)) (r.sides p) side_events new → SideIs end place new →
     OnlyEndChanges ends after_ends places after_places p end place → AreSides link_config after_ends after_places
-moved link_config ends after_ends places after_places p end place tolds new p2 r along is only = let x = (along_runs link_config.sizes tolds r.sides r.logs p new p2 r.runs along).1 in record {
+moved link_config ends after_ends places after_places p end place side_events new p2 r along is only = let x = (along_runs link_config.sizes side_events r.sides r.logs p new p2 r.runs along).1 in record {
   sides = x.sides';
   logs = x.logs';
   runs = x.run;
@@ -114,5 +114,5 @@ sides_lem link_config _ _ _ is (resets memory after ends after_ends places after
     moved link_config ends after_ends places after_places p (after_reset (ends p)) Closed (WasReset ∷ []) f.0 p2 r (f.0, f.1, refl) f.2 reset.comes
 sides_lem link_config _ _ _ is (others memory after ends places run keep) = sides_lem link_config memory ends places is run
 
-pub runs_lem : HonestRunsDeliver
-runs_lem link_config memory ends places is run = let r = sides_lem link_config memory ends places is run in (r.sides, r.logs, r.runs, λ p p2. (r.are p p2, machine_lem link_config.sizes (λ p. true) r.sides r.logs refl refl r.runs p p2))
+pub runs_deliver : HonestRunsDeliver
+runs_deliver link_config memory ends places is run = let r = sides_lem link_config memory ends places is run in (r.sides, r.logs, r.runs, λ p p2. (r.are p p2, machine_lem link_config.sizes (λ p. true) r.sides r.logs refl refl r.runs p p2))

@@ -17,7 +17,7 @@ use Rattle.link_invariant.specs.Sides.{FollowsRows, SawFor, CallIs, SideIs}
 
 -- The machine's side after a step.
 abbrev pub Follows : LinkConfig → Bool → Side → Side → List SideEvent → End → Place → Type 0
-Follows link_config theirs other side tolds end place = (new : Side) × FollowsRows link_config.sizes theirs other side tolds new × SideIs end place new
+Follows link_config theirs other side side_events end place = (new : Side) × FollowsRows link_config.sizes theirs other side side_events new × SideIs end place new
 
 -- The end and the side agree, for every call.
 pub record Same (end : End) (side : Side) : Type 0 where
@@ -59,8 +59,8 @@ same_looked none looked read same = record { state = same.state; refused = same.
 pub wrote : {end : End} {side : Side} (written : ℕ → ℕ) → Same end side → Same (record end { written = written }) side
 wrote written same = record { state = same.state; refused = same.refused; accepted = same.accepted; delivered = same.delivered; returned = same.returned; freed = same.freed }
 
-pub hears : (link_config : LinkConfig) (theirs : Bool) (other side : Side) (tolds : List SideEvent) {end : End} {place : Place} (value : ℕ) → Follows link_config theirs other (heard side value) tolds end place → Follows link_config theirs other side (Gave value ∷ tolds) end place
-hears link_config theirs other side tolds value f = (f.0, (heard side value, refl, f.1), f.2)
+pub hears : (link_config : LinkConfig) (theirs : Bool) (other side : Side) (side_events : List SideEvent) {end : End} {place : Place} (value : ℕ) → Follows link_config theirs other (heard side value) side_events end place → Follows link_config theirs other side (Gave value ∷ side_events) end place
+hears link_config theirs other side side_events value f = (f.0, (heard side value, refl, f.1), f.2)
 
 -- Ticks
 

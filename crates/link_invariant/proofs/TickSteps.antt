@@ -18,7 +18,7 @@ use Rattle.link_invariant.specs.LinkConfig.{LinkConfig, IsLinkConfig, section_of
 use Rattle.link_invariant.specs.Steps.{Stored}
 use Rattle.link_invariant.specs.EndInvariant.{Opened, IsClear, PlaceInvariant, counts, RefusalIsFinal, EndInvariant}
 use Rattle.link_invariant.proofs.Fields.{fields_same, fields_blank, written_kept}
-use Rattle.link_invariant.proofs.Forms.{free, comes, sent_same}
+use Rattle.link_invariant.proofs.EndObligations.{free, comes, sent_same}
 use Rattle.link_invariant.proofs.ReadSteps.{StepsTo}
 
 pub not_phase : {a b c : Phase} → state_of a ≢ state_of b → c ≡ a → c ≡ b → ⊥

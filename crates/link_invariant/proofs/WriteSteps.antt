@@ -24,7 +24,7 @@ use Rattle.link_invariant.specs.LinkConfig.{LinkConfig, IsLinkConfig, section_of
 use Rattle.link_invariant.specs.Steps.{Stored, MemoryAfter}
 use Rattle.link_invariant.specs.EndInvariant.{frame_at, start_in, Spelled, IsNext, start_for, HasRoom, Filled, PlaceInvariant, counts, EndInvariant}
 use Rattle.link_invariant.proofs.Fields.{numbers, one_test, is_word, field_read, Entries, Put, put_of, written_kept}
-use Rattle.link_invariant.proofs.Forms.{run_ready, opened, free, spelled_kept, next_kept, filled_kept, job_good, start_before, Puts, free_descriptor, free_entry, free_word, writes}
+use Rattle.link_invariant.proofs.EndObligations.{run_ready, opened, free, spelled_kept, next_kept, filled_kept, job_good, start_before, Puts, free_descriptor, free_entry, free_word, writes}
 use Rattle.link_invariant.proofs.ReadSteps.{StepsTo, fill_holds, items_holds}
 
 -- Two words of one frame are different fields.

@@ -29,7 +29,7 @@ side_events_by step = side_events_of step.access step.value ++ map Marked step.m
 -- An honest side satisfies these rows in order, while the other is unchanged.
 abbrev pub FollowsRows : Sizes → Bool → Side → Side → List SideEvent → Side → Type 0
 FollowsRows sizes theirs other side [] new = new ≡ side
-FollowsRows sizes theirs other side (told ∷ tolds) new = (mid : Side) × Row sizes true theirs side other told mid × FollowsRows sizes theirs other mid tolds new
+FollowsRows sizes theirs other side (side_event ∷ side_events) new = (mid : Side) × Row sizes true theirs side other side_event mid × FollowsRows sizes theirs other mid side_events new
 
 -- The side saw a value from which the end moves to this State.
 abbrev pub SawFor : End → Option ℕ → ℕ → Type 0

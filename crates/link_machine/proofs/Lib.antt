@@ -1,1 +1,1 @@
-pub mod MachineLaws
+pub mod DeliversInOrder

@@ -200,9 +200,9 @@ log_after log others side WasReset = record log { ended = ended_with log side }
 -- The states of the two sides and their sessions that steps can reach from the start.
 pub data MachineRuns (sizes : Sizes) (honest : ℕ → Bool) : (ℕ → Side) → (ℕ → Log) → Type 0 where
   starts : (sides : ℕ → Side) (logs : ℕ → Log) → ((p : ℕ) → sides p ≡ initial_side) → ((p : ℕ) → logs p ≡ no_sessions) → MachineRuns sizes honest sides logs
-  goes : (sides after : ℕ → Side) (logs new_logs : ℕ → Log) (p : ℕ) (told : SideEvent) → MachineRuns sizes honest sides logs → p < 2 →
-      Row sizes (honest p) (honest (1 - p)) (sides p) (sides (1 - p)) told (after p) → after (1 - p) ≡ sides (1 - p) →
-      new_logs p ≡ log_after (logs p) (logs (1 - p)) (sides p) told → new_logs (1 - p) ≡ logs (1 - p) → MachineRuns sizes honest after new_logs
+  goes : (sides after : ℕ → Side) (logs new_logs : ℕ → Log) (p : ℕ) (side_event : SideEvent) → MachineRuns sizes honest sides logs → p < 2 →
+      Row sizes (honest p) (honest (1 - p)) (sides p) (sides (1 - p)) side_event (after p) → after (1 - p) ≡ sides (1 - p) →
+      new_logs p ≡ log_after (logs p) (logs (1 - p)) (sides p) side_event → new_logs (1 - p) ≡ logs (1 - p) → MachineRuns sizes honest after new_logs
 
 -- Each of these sessions delivered a beginning of what the other accepted in the session that it
 -- carried.

@@ -1,4 +1,4 @@
-pub mod Differing
-pub mod Playing
-pub mod Expecting
-pub mod Viewing
+pub mod DifferingLines
+pub mod PlayedActs
+pub mod HistoryContinues
+pub mod RunViews

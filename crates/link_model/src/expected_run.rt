@@ -16,7 +16,7 @@ use crate::copying::{ScenarioParts, parts_of};
 use crate::fault::{Law, StepFault, Unlawful};
 use crate::law::broken_law;
 use ivs_base::NoMemory;
-use lawful_history::{Line, records_tell_one_history};
+use lawful_history::{Line, records_hold_one_history};
 use scenario_text::{Act, Scenario};
 use simulator::Simulator;
 use std::alloc::Global;
@@ -211,7 +211,7 @@ impl ExpectedRun {
         ensures scenario { self.new.scenario ≡ self.old.scenario }
         ensures version { self.new.version ≡ self.old.version }
     {
-        records_tell_one_history();
+        records_hold_one_history();
         if !self.is_due(line) {
             let law = broken_law(self.due(), line);
             return Err(StepFault::Unlawful(Unlawful { line: number, law }));
@@ -226,7 +226,7 @@ impl ExpectedRun {
     pub fn close(&self, number: u64) -> Result<(), Unlawful>
         ensures { (lines : List Line) → GoesOn lines self.now → number ≡ length lines + 1 → MatchResult result (λ _. IsLawfulIn (world_in self.now) self.now.version lines) (Differs (world_in self.now) self.now.version lines) }
     {
-        records_tell_one_history();
+        records_hold_one_history();
         match self.due() {
             None => Ok(()),
             Some(_) => Err(Unlawful {

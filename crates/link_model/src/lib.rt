@@ -31,6 +31,6 @@ pub use expected_run::ExpectedRun;
 pub use fault::{Law, StepFault, Unlawful};
 pub use lawful_history::{
     Line, Lines, cut_histories_begin, history_is_lawful, memory_is_kept, one_history,
-    records_tell_one_history, versions_differ_in_marks,
+    records_hold_one_history, versions_differ_in_marks,
 };
 pub use run::Run;

@@ -10,7 +10,7 @@ use crate::copying::copy_of_scenario;
 use crate::expected_run::ExpectedRun;
 use crate::fault::{StepFault, Unlawful};
 use ivs_base::NoMemory;
-use lawful_history::{Line, records_tell_one_history};
+use lawful_history::{Line, records_hold_one_history};
 use scenario_text::Scenario;
 use std::alloc::Global;
 use std::marker::Model;
@@ -69,7 +69,7 @@ impl Run {
         ensures cause { self.old.fault ≡ None → IfErr result (IsCause self.old.world self.old.version (self.old.lines ++ line.now ∷ [])) }
         ensures again { (fault : StepFault) → self.old.fault ≡ Some fault → result ≡ Err fault }
     {
-        records_tell_one_history();
+        records_hold_one_history();
         if let Some(fault) = self.fault {
             return Err(fault);
         }
@@ -101,7 +101,7 @@ impl Run {
         ensures missing { self.now.fault ≡ None → IfErr result (Differs self.now.world self.now.version self.now.lines) }
         ensures again { (fault : Unlawful) → self.now.fault ≡ Some (StepFault.Unlawful fault) → result ≡ Err fault }
     {
-        records_tell_one_history();
+        records_hold_one_history();
         match self.fault {
             None => self.expected_run.close(self.next),
             Some(StepFault::Unlawful(fault)) => Err(fault),

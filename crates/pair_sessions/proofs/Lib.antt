@@ -1,3 +1,3 @@
-pub mod Numbering
-pub mod Paired
-pub mod Calm
+pub mod SessionNumbers
+pub mod SessionsArePaired
+pub mod CalmRuns

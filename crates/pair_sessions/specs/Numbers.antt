@@ -35,7 +35,7 @@ own_side end = record initial_side { state = state_of end.handshake.phase; accep
 
 -- The log after a side event, where the session of the other is the one that was loaded.
 abbrev pub log_after_event : Numbers → End → SideEvent → Log
-log_after_event n end told = log_after n.log (record no_sessions { opened = number_of n.loaded }) (own_side end) told
+log_after_event n end side_event = log_after n.log (record no_sessions { opened = number_of n.loaded }) (own_side end) side_event
 
 -- The numbers of an end after an access of a call, a reset, a store and a load.
 abbrev pub numbers_after : Numbers → End → Access → Numbers
@@ -99,8 +99,8 @@ abbrev pub IsCarrying : End → Place → Type 0
 IsCarrying end place = (state_of end.handshake.phase ≡ 3) ⊎ (place ≡ WritingState 3)
 
 -- The end is in INIT or READY, or about to set INIT.
-abbrev pub IsOnItsWay : End → Place → Type 0
-IsOnItsWay end place = (state_of end.handshake.phase ≡ 1) ⊎ ((state_of end.handshake.phase ≡ 2) ⊎ ((state_of end.handshake.phase ≡ 0) × (place ≡ WritingState 1)))
+abbrev pub IsOpening : End → Place → Type 0
+IsOpening end place = (state_of end.handshake.phase ≡ 1) ⊎ ((state_of end.handshake.phase ≡ 2) ⊎ ((state_of end.handshake.phase ≡ 0) × (place ≡ WritingState 1)))
 
 -- The numbers `n` of one end, at its place, against the numbers `m` of the other:
 -- - the end delivers in order by its own log;
@@ -111,7 +111,7 @@ pub record IsPaired (end other : End) (place others_place : Place) (n m : Number
   pub deliver : DeliversInOrder (own_side end) (own_side other) n.log m.log
   pub one : 2 ≤ state_of end.handshake.phase → 1 ≤ n.log.opened
   pub risen : n.log.carried ≤ m.log.opened
-  pub on_the_way : IsOnItsWay end place → 2 ≤ state_of other.handshake.phase → n.log.carried < m.log.opened
+  pub on_the_way : IsOpening end place → 2 ≤ state_of other.handshake.phase → n.log.carried < m.log.opened
   pub attends : place ≡ WritingState 3 → n.log.carried < m.log.opened
   pub loaded : (number : ℕ) → n.loaded ≡ Some number → (number ≡ m.log.opened) × (place ≡ WritingState 3)
   pub word_is : WordIs end n word

@@ -13,7 +13,7 @@
 #![tactic(auto)]
 
 ghost use Rattle.pair_sessions.specs.Numbers.{SessionsArePaired};
-ghost use Rattle.pair_sessions.specs.Once.{CalmRunsDeliver};
+ghost use Rattle.pair_sessions.specs.CalmRuns.{CalmRunsDeliver};
 
 /// Law: in runs without stops and resets each end opens at most one session, and all frames that
 /// one delivered are a beginning of the frames that the other accepted.

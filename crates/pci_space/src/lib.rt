@@ -1,5 +1,5 @@
 //! The configuration space of the device, as a field table, and the walk that finds the device in
-//! configuration bytes that cannot be trusted. It stands on `section_map` for the sizes of the
+//! configuration bytes that cannot be trusted. It uses `section_map` for the sizes of the
 //! region. Its contracts promise that a read returns the bytes of the fields, and 0 if there is no
 //! field; that a write changes exactly the masked bits; and that a walk ends with the one result of
 //! its bytes.

@@ -21,15 +21,15 @@ use Rattle.link_invariant.specs.LinkConfig.{LinkConfig, IsLinkConfig, section_of
 use Rattle.link_invariant.specs.EndInvariant.{frame_at, start_in, Spelled, Opened, EndInvariant}
 use Rattle.link_invariant.specs.Pair.{freed_at}
 use Rattle.link_invariant.proofs.Fields.{fields_same}
-use Rattle.link_invariant.proofs.Forms.{opened}
+use Rattle.link_invariant.proofs.EndObligations.{opened}
 use Rattle.shared_words.specs.declared.run_setup.RunSetup.{RunSetup}
 use Rattle.shared_words.specs.RunSetups.{link_config_of, honest_of, IsFit}
 use Rattle.shared_words.specs.DerivedStates.{CallAccess, MemoryOp, called, DerivedState, begun_if, settled_place, derived_state}
-use Rattle.shared_words.specs.SharedMemory.{Made}
+use Rattle.shared_words.specs.SharedMemory.{OperationsMade}
 use Rattle.peer_runner.specs.RunningLaws.{end_by, place_by, offered_at}
-use Rattle.shared_words.proofs.Standings.{standing_none}
-use Rattle.shared_words.proofs.Keys.{is_ground}
-use Rattle.peer_runner.proofs.Along.{alone_at, noted_written, place_before, Turn, along}
+use Rattle.shared_words.proofs.FoldOfOperations.{standing_none}
+use Rattle.shared_words.proofs.LinkOfSetup.{is_link_config}
+use Rattle.peer_runner.proofs.EndsAlong.{alone_at, noted_written, place_before, Turn, along}
 
 -- Where an offer comes from
 
@@ -52,9 +52,9 @@ tick_none config Stay = refl
 tick_none config (Set state) = refl
 tick_none config (ClearThenSet state) = clear_none config.own config.words state
 
-pub tell_none : (config : EndConfig) (number : ℕ) → OffersNone (notify_place config number)
+pub report_none : (config : EndConfig) (number : ℕ) → OffersNone (notify_place config number)
 unfolding settled_place
-tell_none config number = test_none (has_events config.sizes) (ReadingAvailEvent number) RingingOffer refl refl
+report_none config number = test_none (has_events config.sizes) (ReadingAvailEvent number) RingingOffer refl refl
 
 items_none : (number count : ℕ) → OffersNone (items_place number count)
 unfolding settled_place
@@ -104,7 +104,7 @@ goes_on config (WritingDescAddressHigh pending) value = λ j e. e
 goes_on config (WritingDescLength pending) value = λ j e. e
 goes_on config (WritingDescFlags pending) value = λ j e. e
 goes_on config (WritingAvailEntry pending) value = λ j e. e
-goes_on config (WritingAvailIndex pending) value = on_none (WritingAvailIndex pending) (notify_place config pending.number) (tell_none config pending.number)
+goes_on config (WritingAvailIndex pending) value = on_none (WritingAvailIndex pending) (notify_place config pending.number) (report_none config pending.number)
 goes_on config (ReadingAvailEvent number) value = on_none (ReadingAvailEvent number) (next_place config (ReadingAvailEvent number) value) (test_none (wants_doorbell (low_half value) number) RingingOffer Closed refl refl)
 goes_on config (ReadingAvailIndex taken last) value = on_none (ReadingAvailIndex taken last) (next_place config (ReadingAvailIndex taken last) value) (test_none (is_avail_index config.sizes (taken % 65536) (high_half value)) (if published_by taken value == 0 then none_place taken last else items_place taken (published_by taken value)) Refusing
     (test_none (published_by taken value == 0) (none_place taken last) (items_place taken (published_by taken value)) (test_none last Closed (WritingAvailEvent taken) refl refl) (items_none taken (published_by taken value))) refl)
@@ -159,7 +159,7 @@ freed_on config (WritingDescAddressHigh pending) value x = inl refl
 freed_on config (WritingDescLength pending) value x = inl refl
 freed_on config (WritingDescFlags pending) value x = inl refl
 freed_on config (WritingAvailEntry pending) value x = inl refl
-freed_on config (WritingAvailIndex pending) value x = inl (freed_none x (settled_place (notify_place config pending.number)) (tell_none config pending.number))
+freed_on config (WritingAvailIndex pending) value x = inl (freed_none x (settled_place (notify_place config pending.number)) (report_none config pending.number))
 freed_on config place value x = inl (freed_none x (settled_place (next_place config place value)) (none_of (offered_at (settled_place (next_place config place value))) (λ pending e. none_some pending (goes_on config place value pending e))))
 
 test_same : (x : ℕ) (b : Bool) (y z : Place) → freed_at x y ≡ x → freed_at x z ≡ x → freed_at x (if b then y else z) ≡ x
@@ -231,8 +231,8 @@ module _ (key : RunSetup) (fit : IsFit key) (p : ℕ) (hp : honest_of key p ≡ 
   before_call memory end s None e o a was = was
   before_call memory end s (Some call) e o a was = λ k low high. (a.sent o).spelled k (let f = first_freed end.freed (config_of (link_config_of key) p) s.end call in omega arith) high
 
-  flight_more : (memory after words : ℕ → ℕ) (acc next : ℕ → List (MemoryOp CallAccess)) (t : CallAccess) → Made key memory words acc → Made key after words next → next p ≡ acc p ++ called t ∷ [] → Turn key p memory after (acc p) t → InFlight (acc p) → InFlight (acc p ++ called t ∷ [])
-  flight_more memory after words acc next t k m here turn was open' = let link_config = link_config_of key in let config = config_of link_config p in let is = is_ground key fit in let place = place_before key p (acc p) t in let end = end_by key acc p in
+  flight_more : (memory after words : ℕ → ℕ) (acc next : ℕ → List (MemoryOp CallAccess)) (t : CallAccess) → OperationsMade key memory words acc → OperationsMade key after words next → next p ≡ acc p ++ called t ∷ [] → Turn key p memory after (acc p) t → InFlight (acc p) → InFlight (acc p ++ called t ∷ [])
+  flight_more memory after words acc next t k m here turn was open' = let link_config = link_config_of key in let config = config_of link_config p in let is = is_link_config key fit in let place = place_before key p (acc p) t in let end = end_by key acc p in
       let s = derived_state key p (acc p ++ called t ∷ []) in
       let now : EndInvariant link_config after p s.end s.place = subst (λ l. EndInvariant link_config after p (derived_state key p l).end (derived_state key p l).place) here (alone_at key fit after words next m p hp) in
       ⊎_elim
@@ -250,7 +250,7 @@ module _ (key : RunSetup) (fit : IsFit key) (p : ℕ) (hp : honest_of key p ≡ 
       (subst (λ w. SpelledFrom link_config w p s.end.accepted n) (sym written) (subst (λ l. SpelledFrom link_config end.written p l n) (sym accepted) back)))
       (freed_on config place t.value s.end.freed)
 
-  pub flight_is : (memory words : ℕ → ℕ) (acc : ℕ → List (MemoryOp CallAccess)) → Made key memory words acc → InFlight (acc p)
+  pub flight_is : (memory words : ℕ → ℕ) (acc : ℕ → List (MemoryOp CallAccess)) → OperationsMade key memory words acc → InFlight (acc p)
   flight_is = along key fit p hp InFlight (λ o. absurd (let none : Opened Reset = subst (λ (s : DerivedState). Opened s.end.handshake.phase) (standing_none key p) o in none)) flight_more
       (λ list d quiet was. subst (InFlightAt (derived_state key p (list ++ d ∷ [])).end) (sym quiet.place) (subst (λ (e : End). InFlightAt e (derived_state key p list).place) (sym quiet.end) was))
       (λ memory after list reset was o. absurd (let none : Opened Reset = subst (λ (e : End). Opened e.handshake.phase) reset.end o in none))

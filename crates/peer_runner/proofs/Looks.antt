@@ -17,7 +17,7 @@ use Rattle.lawful_history.specs.declared.line.Line.{Line}
 use Rattle.lawful_history.specs.declared.line.Line.TheVariants as line
 use Rattle.peer_runner.specs.Turns.{interrupt_line, interrupt_lines, sleeps, is_below}
 use Rattle.peer_runner.specs.Runners.{Runner, MayRingBy, due_of, looks_now, RunnerRefines}
-use Rattle.shared_words.proofs.Keys.{clash}
+use Rattle.shared_words.proofs.LinkOfSetup.{clash}
 
 pub looks_at : (own mine : Route) (due dues : ℕ) (looks before : Option ℕ) (result : Bool) → result ≡ looks_now own due looks → own ≡ mine → due ≡ dues → before ≡ looks → looks_now mine dues before ≡ result
 looks_at own mine due dues looks before result is same now was = sym (is ∙ (λ i. looks_now (same i) (now i) (sym was i)))
@@ -53,24 +53,24 @@ still_shut key me routes r end s shut = by r.ringing refl
     by false e = e
 
 -- A look records the bits that it found, one after another.
-pub heard_none : (me found : ℕ) → interrupt_lines 0 me found ≡ []
+pub found_none : (me found : ℕ) → interrupt_lines 0 me found ≡ []
 unfolding interrupt_lines
-heard_none me found = refl
+found_none me found = refl
 
-pub heard_more : (n me found : ℕ) (first was now : List Line) → was ≡ first ++ interrupt_lines n me found → now ≡ was ++ interrupt_line me n found → now ≡ first ++ interrupt_lines (n + 1) me found
+pub found_more : (n me found : ℕ) (first was now : List Line) → was ≡ first ++ interrupt_lines n me found → now ≡ was ++ interrupt_line me n found → now ≡ first ++ interrupt_lines (n + 1) me found
 unfolding interrupt_lines
-heard_more n me found first was now is more = let next : n + 1 ≡ suc n = omega arith in
+found_more n me found first was now is more = let next : n + 1 ≡ suc n = omega arith in
     more ∙ (ap (λ ls. ls ++ interrupt_line me n found) is ∙ (append_assoc first (interrupt_lines n me found) (interrupt_line me n found) ∙ sym (ap (λ k. first ++ interrupt_lines k me found) next)))
 
 -- If no bit from n on is set, the lines of all bits are the lines of the bits below n.
-heard_below : (n k me found : ℕ) → found < 2 ^ n → interrupt_lines (n + k) me found ≡ interrupt_lines n me found
+found_below : (n k me found : ℕ) → found < 2 ^ n → interrupt_lines (n + k) me found ≡ interrupt_lines n me found
 unfolding interrupt_lines
-heard_below n zero me found small = let same : n + 0 ≡ n = omega arith in ap (λ (m : ℕ). interrupt_lines m me found) same
-heard_below n (suc k) me found small = let next : n + suc k ≡ suc (n + k) = omega arith in
+found_below n zero me found small = let same : n + 0 ≡ n = omega arith in ap (λ (m : ℕ). interrupt_lines m me found) same
+found_below n (suc k) me found small = let next : n + suc k ≡ suc (n + k) = omega arith in
     let clear : interrupt_line me (n + k) found ≡ [] = ap (λ (b : ℕ). if b == 0 then [] else line.Interrupt me (n + k) ∷ []) (bit_at_above found n (n + k) small (omega arith)) in
-    ap (λ (m : ℕ). interrupt_lines m me found) next ∙ ((λ i. heard_below n k me found small i ++ clear i) ∙ append-nil (interrupt_lines n me found))
+    ap (λ (m : ℕ). interrupt_lines m me found) next ∙ ((λ i. found_below n k me found small i ++ clear i) ∙ append-nil (interrupt_lines n me found))
 
-pub heard_rest : (bit me found : ℕ) (first now : List Line) → bit ≤ 64 → found / 2 ^ bit ≡ 0 → now ≡ first ++ interrupt_lines bit me found → now ≡ first ++ interrupt_lines 64 me found
-heard_rest bit me found first now most none is = let all : bit + (64 - bit) ≡ 64 = omega arith in
+pub found_rest : (bit me found : ℕ) (first now : List Line) → bit ≤ 64 → found / 2 ^ bit ≡ 0 → now ≡ first ++ interrupt_lines bit me found → now ≡ first ++ interrupt_lines 64 me found
+found_rest bit me found first now most none is = let all : bit + (64 - bit) ≡ 64 = omega arith in
     let under : found < found / 2 ^ bit * 2 ^ bit + 2 ^ bit = lt-div-mul-add (pow_pos bit) in let small : found < 2 ^ bit = let at = subst (λ (q : ℕ). found < q * 2 ^ bit + 2 ^ bit) none under in omega (arith, at) in
-    is ∙ ap (λ (ls : List Line). first ++ ls) (sym (heard_below bit (64 - bit) me found small) ∙ ap (λ (n : ℕ). interrupt_lines n me found) all)
+    is ∙ ap (λ (ls : List Line). first ++ ls) (sym (found_below bit (64 - bit) me found small) ∙ ap (λ (n : ℕ). interrupt_lines n me found) all)

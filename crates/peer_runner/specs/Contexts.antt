@@ -44,8 +44,8 @@ abbrev pub HasRoutes : PeerContext → Type 0
 HasRoutes context = AreRoutes (setup_of context) context.routes.now
 
 -- The pass is of the words, and the peer is its first one.
-abbrev pub IsSeated : PeerContext → PassView → Type 0
-IsSeated context pass = IsFirstIn context.words.now.shared.table_id (setup_of context) context.me pass
+abbrev pub HasPeerFirst : PeerContext → PassView → Type 0
+HasPeerFirst context pass = IsFirstIn context.words.now.shared.table_id (setup_of context) context.me pass
 
 -- Where the list that the pass has of the peer leaves it.
 abbrev pub state_of : PeerContext → PassView → DerivedState

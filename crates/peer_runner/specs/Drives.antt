@@ -72,7 +72,7 @@ MayDrive key p (Storm seed geometry queue) = (p < key.geometry.peers) × (honest
 -- lines have no refusal.
 pub record IsLeft (key : RunSetup) (p : ℕ) (list : List (Action (MemoryOp CallAccess))) (taken : List Turn) (after : Peer) : Type 0 where
   pub end : (derived_state key p (accesses_in list)).end ≡ after.end
-  pub told : ReaderMatches (derived_state key p (accesses_in list)) (reader_of_lines (event_word (config_in key p)) (lines_of_turns p taken))
+  pub recorded : ReaderMatches (derived_state key p (accesses_in list)) (reader_of_lines (event_word (config_in key p)) (lines_of_turns p taken))
   pub refused : NeverMarked key p (accesses_in list) → list_any refuses (lines_of_turns p taken) ≡ false
 
 -- In a scenario

@@ -6,5 +6,5 @@ pub mod Runners
 pub mod Trajectories
 pub mod Contexts
 pub mod Drives
-pub mod ListSays
+pub mod ListStates
 pub mod RunningLaws

@@ -61,4 +61,4 @@ pub record IsOwnRecord (world : World) (actions : List (Action (MemoryOp Observe
   pub takes : TakesTurns (config_of world part.peer) (storm_step world part.peer) routes
       (comes_to (start_of world.acts part.peer) (spans_of world.acts part.peer)) taken after
   pub made : actions ≡ actions_in routes taken
-  pub told : IsTraceOf part.peer (all_turns (spans_of world.acts part.peer)) taken after part
+  pub recorded : IsTraceOf part.peer (all_turns (spans_of world.acts part.peer)) taken after part

@@ -28,7 +28,7 @@ use Rattle.step_lines.specs.Places.{HasFrames}
 use Rattle.shared_words.specs.declared.run_setup.RunSetup.{RunSetup}
 use Rattle.shared_words.specs.PassView.{PassView}
 use Rattle.shared_words.specs.RunSetups.{config_in}
-use Rattle.shared_words.specs.DerivedStates.{CallAccess, taken, MemoryOp, called, numbered, carried, restarted, lapsed, Wake, at_rest, wake_on, DerivedState, settled_place, derived_state}
+use Rattle.shared_words.specs.DerivedStates.{CallAccess, call_access, MemoryOp, called, numbered, carried, restarted, lapsed, Wake, at_rest, wake_on, DerivedState, settled_place, derived_state}
 use Rattle.shared_words.specs.Actions.{Action, accessed, looked, accesses_in}
 use Rattle.shared_words.specs.Passes.{added}
 use Rattle.peer_runner.specs.DoorbellPaths.{doorbell_path_to, is_guarded, rung_by}
@@ -139,9 +139,9 @@ touches (access.Ring target vector) = false
 touches access.Nothing = false
 
 abbrev pub taken_of : List Route → Option Call → Access → ℕ → List (Action (MemoryOp CallAccess))
-taken_of routes begins (access.Read word) value = accessed (called (taken begins (access.Read word) value)) ∷ []
-taken_of routes begins (access.Write word written) value = accessed (called (taken begins (access.Write word written) value)) ∷ []
-taken_of routes begins (access.State state) value = accessed (called (taken begins (access.State state) value)) ∷ []
+taken_of routes begins (access.Read word) value = accessed (called (call_access begins (access.Read word) value)) ∷ []
+taken_of routes begins (access.Write word written) value = accessed (called (call_access begins (access.Write word written) value)) ∷ []
+taken_of routes begins (access.State state) value = accessed (called (call_access begins (access.State state) value)) ∷ []
 taken_of routes begins (access.Ring target vector) value = rung_by (doorbell_path_to routes target vector) target
 taken_of routes begins access.Nothing value = []
 

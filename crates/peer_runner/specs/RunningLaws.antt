@@ -23,12 +23,12 @@ use Rattle.shared_words.specs.declared.run_setup.RunSetup.{RunSetup}
 use Rattle.shared_words.specs.declared.view.View.{View}
 use Rattle.shared_words.specs.RunSetups.{honest_of}
 use Rattle.shared_words.specs.DerivedStates.{FrameNumber, At, CallAccess, MemoryOp, called, derived_state, IsNext}
-use Rattle.shared_words.specs.SharedMemory.{IsOwned, Made}
-use Rattle.shared_words.specs.Happened.{Happened}
+use Rattle.shared_words.specs.SharedMemory.{IsOwned, OperationsMade}
+use Rattle.shared_words.specs.ActionsMade.{ActionsMade}
 use Rattle.shared_words.specs.Actions.{Action}
 use Rattle.shared_words.specs.Interrupts.{Interrupts, Doorbells}
 use Rattle.shared_words.specs.Rules.{region, session_words, accesses_by, Memory, TableInvariant}
-use Rattle.peer_runner.specs.ListSays.{last_written, last_state, has_written, call_writes}
+use Rattle.peer_runner.specs.ListStates.{last_written, last_state, has_written, call_writes}
 
 -- The end and the place in which its list leaves a peer, and how many frames it has freed: one more
 -- with each id that it read.
@@ -73,12 +73,12 @@ WhereEitherAttends Part key memory acc p = EitherIsAttached (end_by key acc) (pl
 -- sessions.
 abbrev pub WordsAreMade : Type 0
 WordsAreMade = (key : RunSetup) (s : State ℕ View) (kept : TableInvariant key s) →
-    Made key (region key s.words) (session_words key s.words) (accesses_by kept.acc)
+    OperationsMade key (region key s.words) (session_words key s.words) (accesses_by kept.acc)
 
 -- The actions of the lists, in some order, made all words from those at the start, interrupt words
 -- included.
 abbrev pub AllWordsAreMade : Type 0
-AllWordsAreMade = (key : RunSetup) (s : State ℕ View) (kept : TableInvariant key s) → Happened key (λ w. slice_index s.words w) kept.acc
+AllWordsAreMade = (key : RunSetup) (s : State ℕ View) (kept : TableInvariant key s) → ActionsMade key (λ w. slice_index s.words w) kept.acc
 
 -- Each store of a list is to a word that its peer may write.
 abbrev pub StoresAreOwned : Type 0
@@ -94,8 +94,8 @@ InterruptsAreRung = (key : RunSetup) (s : State ℕ View) (kept : TableInvariant
 
 -- A bit that was rung is set until its target finds it. Interrupt Control that was cleared stays
 -- clear.
-abbrev pub DoorbellsStand : Type 0
-DoorbellsStand = (key : RunSetup) (s : State ℕ View) (kept : TableInvariant key s) → Doorbells key (λ w. slice_index s.words w) kept.acc
+abbrev pub DoorbellsStaySet : Type 0
+DoorbellsStaySet = (key : RunSetup) (s : State ℕ View) (kept : TableInvariant key s) → Doorbells key (λ w. slice_index s.words w) kept.acc
 
 -- Of each honest link peer
 
@@ -114,7 +114,7 @@ pub record WordsAreWritten (key : RunSetup) (memory : ℕ → ℕ) (acc : ℕ �
 -- its section it is in INIT, and the words that were cleared, from the first on, are 0; as the tick
 -- is about to set READY, all of them are. In READY the section is 0, and nothing is listed or
 -- counted.
-pub record PhasesShow (key : RunSetup) (memory : ℕ → ℕ) (acc : ℕ → List (MemoryOp CallAccess)) (p : ℕ) : Type 0 where
+pub record WordsFollowPhases (key : RunSetup) (memory : ℕ → ℕ) (acc : ℕ → List (MemoryOp CallAccess)) (p : ℕ) : Type 0 where
   pub reset : (end_by key acc p).handshake.phase ≡ Reset → has_written (acc p) ≡ false
   pub clears : (at more state : ℕ) → place_by key acc p ≡ Clearing at more state → ((end_by key acc p).handshake.phase ≡ Init) ×
       ((cleared : ℕ) × (at ≡ section_start key.geometry p + cleared) × ((j : ℕ) → j < cleared → section_words key memory p j ≡ 0))
@@ -239,14 +239,14 @@ pub record NeverRefuses (key : RunSetup) (memory : ℕ → ℕ) (acc : ℕ → L
   pub mark : (end_by key acc p).handshake.mark ≡ false
 
 -- While one is attached, in RUN or about to set it, the other isn't in INIT, nor about to set INIT.
-abbrev pub OtherOpensNone : RunSetup → (ℕ → ℕ) → (ℕ → List (MemoryOp CallAccess)) → ℕ → Type 0
-OtherOpensNone key memory acc p = IsAttached (end_by key acc p) (place_by key acc p) → OpensNone (end_by key acc (1 - p)) (place_by key acc (1 - p))
+abbrev pub OtherOpensNoSession : RunSetup → (ℕ → ℕ) → (ℕ → List (MemoryOp CallAccess)) → ℕ → Type 0
+OtherOpensNoSession key memory acc p = IsAttached (end_by key acc p) (place_by key acc p) → OpensNone (end_by key acc (1 - p)) (place_by key acc (1 - p))
 
 -- The frames freed are at most those returned, these at most those delivered, and these at most
 -- those accepted. The frames in flight are at most the limit. The frames delivered are the first
 -- ones accepted. Each frame from those freed on is spelled. The used elements from those freed to
 -- those returned name the descriptors in order.
-pub record PairKeeps (key : RunSetup) (memory : ℕ → ℕ) (acc : ℕ → List (MemoryOp CallAccess)) (p : ℕ) : Type 0 where
+pub record PairInvariant (key : RunSetup) (memory : ℕ → ℕ) (acc : ℕ → List (MemoryOp CallAccess)) (p : ℕ) : Type 0 where
   pub returned : freed_by key acc p ≤ (end_by key acc (1 - p)).returned
   pub delivered : (end_by key acc (1 - p)).returned ≤ length (end_by key acc (1 - p)).delivered
   pub accepted : length (end_by key acc (1 - p)).delivered ≤ length (end_by key acc p).accepted

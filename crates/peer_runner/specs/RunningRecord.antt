@@ -59,10 +59,10 @@ initial_reader = record { state = 0; accepted = []; delivered = []; log = no_ses
 abbrev pub side_in : RecordReader → Side
 side_in t = record initial_side { state = t.state; accepted = t.accepted; delivered = t.delivered }
 
--- The log after the State step or the reset `told`. The number that a State step with 3 carries is
--- in the next line.
+-- The log after the State step or the reset `recorded`. The number that a State step with 3 carries
+-- is in the next line.
 abbrev pub log_in : RecordReader → SideEvent → Log
-log_in t told = log_after t.log no_sessions (side_in t) told
+log_in t recorded = log_after t.log no_sessions (side_in t) recorded
 
 -- A call that is over right after a read is an offer of the frame accepted last. It read an event
 -- that wants no doorbell for this frame, and rang none.

@@ -15,7 +15,7 @@ use Rattle.peer_runner.specs.declared.turns.AutoPeer.{AutoPeer}
 use Rattle.peer_runner.specs.declared.doorbell_paths.Done.{Done}
 use Rattle.shared_words.specs.PassView.{PassView}
 use Rattle.shared_words.specs.RunSetups.{config_in}
-use Rattle.shared_words.specs.Passes.{IsOf}
+use Rattle.shared_words.specs.Passes.{IsPassOf}
 use Rattle.shared_words.specs.PeerRoutes.{route_to}
 use Rattle.peer_runner.specs.DoorbellPaths.{is_guarded, doorbell_path_in}
 use Rattle.peer_runner.specs.Turns.{has_turn_left, IsSpanSpent}
@@ -52,7 +52,7 @@ pub data Trajectory (key : RunSetup) (me : ℕ) (routes : List Route) (plan : Pl
 pub record IsOnTrajectory (id : TableId) (key : RunSetup) (me : ℕ) (routes : List Route) (plan : Plan) (spans : List ℕ)
     (r : Runner) (pass : PassView) (auto_peer : AutoPeer) : Type 0 where
   pub comes : Trajectory key me routes plan spans r
-  pub of : IsOf id key pass
+  pub of : IsPassOf id key pass
   pub there : IsThere key me routes r pass auto_peer.driven.end
   pub is : IsAutoPeer auto_peer r
 

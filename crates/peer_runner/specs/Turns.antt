@@ -16,7 +16,7 @@ use Rattle.lawful_history.specs.EventRecords.{access_lines, mark_line}
 use Rattle.lawful_history.specs.Peers.{Auto, Driver, Chooses, Storms, Peer, opened, stepped, was_reset}
 use Rattle.lawful_history.specs.Storm.{storm_after}
 use Rattle.doorbell_irq.specs.declared.route.Route.{Route}
-use Rattle.shared_words.specs.DerivedStates.{ObservedAccess, touch, MemoryOp, called, numbered, carried, restarted}
+use Rattle.shared_words.specs.DerivedStates.{ObservedAccess, observed_access, MemoryOp, called, numbered, carried, restarted}
 use Rattle.shared_words.specs.Actions.{Action, accessed, looked, cleared}
 use Rattle.shared_words.specs.PeerRoutes.{route_to}
 use Rattle.peer_runner.specs.DoorbellPaths.{doorbell_path_to, is_guarded, doorbell_path_in, rung_by}
@@ -211,9 +211,9 @@ TakesTurns config storm routes run (turn ∷ turns) after = (mid : Running) × T
 
 -- A step makes its access to the region, and a doorbell its ring, if any.
 abbrev pub acted_by : List Route → Access → ℕ → List (Action (MemoryOp ObservedAccess))
-acted_by routes (access.Read word) value = accessed (called (touch (access.Read word) value)) ∷ []
-acted_by routes (access.Write word written) value = accessed (called (touch (access.Write word written) value)) ∷ []
-acted_by routes (access.State state) value = accessed (called (touch (access.State state) value)) ∷ []
+acted_by routes (access.Read word) value = accessed (called (observed_access (access.Read word) value)) ∷ []
+acted_by routes (access.Write word written) value = accessed (called (observed_access (access.Write word written) value)) ∷ []
+acted_by routes (access.State state) value = accessed (called (observed_access (access.State state) value)) ∷ []
 acted_by routes (access.Ring target vector) value = rung_by (doorbell_path_to routes target vector) target
 acted_by routes access.Nothing value = []
 

@@ -8,10 +8,10 @@ ghost use Rattle.shared_words.specs.RunSetups.{world_in, honest_of};
 ghost use Rattle.shared_words.specs.Actions.{accessed};
 ghost use Rattle.shared_words.specs.DerivedStates.{restarted};
 ghost use Rattle.peer_runner.specs.Turns.{all_turns, has_turn_left, IsSpanSpent};
-ghost use Rattle.shared_words.specs.Passes.{IsOf, IsFirstIn, added};
+ghost use Rattle.shared_words.specs.Passes.{IsPassOf, IsFirstIn, added};
 ghost use Rattle.shared_words.specs.PeerRoutes.{AreRoutes};
 ghost use Rattle.peer_runner.specs.Runners.{Runner, has_finished};
-ghost use Rattle.peer_runner.specs.Contexts.{setup_of, IsHonest, HasRoutes, IsSeated, IsOn, Records, IsBeforeTurn, TookTurn, WasReset};
+ghost use Rattle.peer_runner.specs.Contexts.{setup_of, IsHonest, HasRoutes, HasPeerFirst, IsOn, Records, IsBeforeTurn, TookTurn, WasReset};
 ghost use Rattle.peer_runner.specs.Contexts.{IsBeforeSpan, TookSpan};
 ghost use Rattle.peer_runner.specs.Drives.{MayBeAuto, MayDrive, storming, automatic, DroveBy, DrovePlan};
 
@@ -77,8 +77,8 @@ fn auto_turn<G: Gate>(
 ) -> Result<bool, NoMemory>
     requires honest { IsHonest context.now }
     requires routes { HasRoutes context.now }
-    requires course { IsBeforeTurn context.now pass.old peer.old }
-    ensures course { (plan : Plan) (spans : List ℕ) (r : Runner) → IsOn context.now plan spans r pass.old peer.old →
+    requires trajectory { IsBeforeTurn context.now pass.old peer.old }
+    ensures trajectory { (plan : Plan) (spans : List ℕ) (r : Runner) → IsOn context.now plan spans r pass.old peer.old →
         has_turn_left r.spans ≡ true → Records context.now r lines.old →
         TookTurn context.now plan spans r pass.new peer.new lines.new result }
 {
@@ -116,8 +116,8 @@ fn auto_span<G: Gate>(
 ) -> Result<(), NoMemory>
     requires honest { IsHonest context.now }
     requires routes { HasRoutes context.now }
-    requires course { IsBeforeSpan context.now span pass.old peer.old turns.old lines.old }
-    ensures course { (plan : Plan) (spans : List ℕ) (r : Runner) (rest : List ℕ) →
+    requires trajectory { IsBeforeSpan context.now span pass.old peer.old turns.old lines.old }
+    ensures trajectory { (plan : Plan) (spans : List ℕ) (r : Runner) (rest : List ℕ) →
         IsOn context.now plan spans r pass.old peer.old → r.spans ≡ span ∷ rest → turns.old ≡ length r.turns →
         Records context.now r lines.old → TookSpan context.now plan spans rest pass.new peer.new turns.new lines.new result }
 {
@@ -143,8 +143,8 @@ fn auto_restart<G: Gate>(
     lines: &mut Lines,
 ) -> Result<bool, NoMemory>
     requires honest { honest_of (setup_of context.now) context.now.me ≡ true }
-    requires of { IsSeated context.now pass.old }
-    ensures course { (plan : Plan) (spans : List ℕ) (r : Runner) → IsOn context.now plan spans r pass.old peer.old →
+    requires of { HasPeerFirst context.now pass.old }
+    ensures trajectory { (plan : Plan) (spans : List ℕ) (r : Runner) → IsOn context.now plan spans r pass.old peer.old →
         (has_finished r ≡ false → IsSpanSpent r.spans) → Records context.now r lines.old →
         WasReset context.now plan spans r pass.new peer.new lines.new result }
 {
@@ -171,7 +171,7 @@ fn drive_auto<G: Gate>(
     mut peer: AutoPeer,
     gate: &G,
 ) -> Result<OwnTrace, NoMemory>
-    requires of { IsOf context.now.words.now.shared.table_id (setup_of context.now) pass.old }
+    requires of { IsPassOf context.now.words.now.shared.table_id (setup_of context.now) pass.old }
     requires alone { (pass.old.from ≡ context.now.me) × (pass.old.lists ≡ [] ∷ []) }
     requires drives { MayBeAuto (setup_of context.now) context.now.me peer.driven.auto peer.driven.end }
     requires fresh { (peer.looks ≡ Some 0) × (peer.ringing ≡ false) × (peer.opened ≡ 0) × (peer.met ≡ None) }
@@ -239,7 +239,7 @@ fn drive_storm<G: Gate>(
     routes: &[Route],
     gate: &G,
 ) -> Result<OwnTrace, NoMemory>
-    requires of { IsOf words.now.shared.table_id words.now.shared.key pass.old }
+    requires of { IsPassOf words.now.shared.table_id words.now.shared.key pass.old }
     requires alone { (pass.old.from ≡ storm.peer) × (pass.old.lists ≡ [] ∷ []) }
     requires hostile { honest_of words.now.shared.key storm.peer ≡ false }
     requires storm { IsStormOf (world_in words.now.shared.key) storm }
@@ -279,7 +279,7 @@ fn drive_plan<G: Gate>(
     plan: PeerPlan,
     gate: &G,
 ) -> Result<OwnTrace, NoMemory>
-    requires of { IsOf words.now.shared.table_id words.now.shared.key pass.old }
+    requires of { IsPassOf words.now.shared.table_id words.now.shared.key pass.old }
     requires alone { (pass.old.from ≡ plan.peer) × (pass.old.lists ≡ [] ∷ []) }
     requires drives { MayDrive words.now.shared.key plan.peer plan.driver }
     requires few { all_turns plan.spans < 2 ^ 32 }
@@ -347,7 +347,7 @@ pub fn drive<G: Gate>(
     plan: PeerPlan,
     gate: &G,
 ) -> Result<OwnTrace, NoMemory>
-    requires of { IsOf words.now.shared.table_id words.now.shared.key pass.old }
+    requires of { IsPassOf words.now.shared.table_id words.now.shared.key pass.old }
     requires alone { (pass.old.from ≡ plan.peer) × (pass.old.lists ≡ [] ∷ []) }
     requires drives { MayDrive words.now.shared.key plan.peer plan.driver }
     requires few { all_turns plan.spans < 2 ^ 32 }

@@ -1,9 +1,9 @@
 //! Laws of the words and of the lists of memory operations, between any two accesses of any threads
 //! (`specs/RunningLaws`). The functions here do nothing: the contract of each one is a law.
-ghost use Rattle.peer_runner.specs.RunningLaws.{WordsAreMade, AllWordsAreMade, StoresAreOwned, InterruptsAreRung, DoorbellsStand};
-ghost use Rattle.peer_runner.specs.RunningLaws.{OfEachHonest, OfTwoHonest, AccessesAreCalls, WordsAreWritten, PhasesShow, FlightIsSpelled};
-ghost use Rattle.peer_runner.specs.RunningLaws.{OpenOfferStores, ReadValuesAreInRange, NeverRefuses, OtherOpensNone, SessionWordsAreNumbers};
-ghost use Rattle.peer_runner.specs.RunningLaws.{HostileSessionsAreNone, SessionsArePaired, WhereEitherAttends, PairKeeps, AskedIsRung};
+ghost use Rattle.peer_runner.specs.RunningLaws.{WordsAreMade, AllWordsAreMade, StoresAreOwned, InterruptsAreRung, DoorbellsStaySet};
+ghost use Rattle.peer_runner.specs.RunningLaws.{OfEachHonest, OfTwoHonest, AccessesAreCalls, WordsAreWritten, WordsFollowPhases, FlightIsSpelled};
+ghost use Rattle.peer_runner.specs.RunningLaws.{OpenOfferStores, ReadValuesAreInRange, NeverRefuses, OtherOpensNoSession, SessionWordsAreNumbers};
+ghost use Rattle.peer_runner.specs.RunningLaws.{HostileSessionsAreNone, SessionsArePaired, WhereEitherAttends, PairInvariant, AskedIsRung};
 ghost use Rattle.peer_runner.specs.RunningLaws.{ReadValuesAreAsSent, HostileWordsAreFree};
 
 /// The words of the region and of the sessions are what the memory operations of all lists made of
@@ -45,8 +45,8 @@ pub fn interrupts_are_rung()
 /// was cleared.
 // claim: For each peer and each bit of its interrupt word: if a peer rang it, it is set or a look
 //    found it. Bit 0 of Interrupt Control that a peer cleared is not set.
-pub fn doorbells_stand()
-    ensures { DoorbellsStand }
+pub fn doorbells_stay_set()
+    ensures { DoorbellsStaySet }
 {}
 
 /// Each access in the list of an honest link peer is the next one of its calls.
@@ -69,8 +69,8 @@ pub fn words_are_written()
 // claim: In RESET an honest link peer has written no word since its last State. A tick that clears
 //    its section has left 0 in the words before the next one. In READY the section is 0, and
 //    nothing is listed or counted.
-pub fn phases_show()
-    ensures { OfEachHonest PhasesShow }
+pub fn words_follow_phases()
+    ensures { OfEachHonest WordsFollowPhases }
 {}
 
 /// The frames of an honest link peer in flight are within the limit, and its section spells each of
@@ -108,8 +108,8 @@ pub fn honest_peers_never_refuse()
 /// While one of two honest link peers attends to the other's session, the other opens none.
 // claim: While one of two honest link peers is in RUN or about to set it, the other is not in INIT
 //    nor about to set it.
-pub fn other_opens_none()
-    ensures { OfTwoHonest OtherOpensNone }
+pub fn other_opens_no_session()
+    ensures { OfTwoHonest OtherOpensNoSession }
 {}
 
 /// The session word of an honest link peer is the number of sessions that it opened, or one more,
@@ -142,8 +142,8 @@ pub fn sessions_are_paired()
 //    freed, returned, delivered and accepted follow one another within the limit. The frames
 //    delivered are the first ones accepted, those not yet freed are spelled, and the used elements
 //    name the descriptors in order.
-pub fn pair_keeps()
-    ensures { OfTwoHonest (WhereEitherAttends PairKeeps) }
+pub fn pair_invariant_holds()
+    ensures { OfTwoHonest (WhereEitherAttends PairInvariant) }
 {}
 
 /// In a link with events: if an honest link peer asks the other honest one for a doorbell at a

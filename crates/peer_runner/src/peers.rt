@@ -8,7 +8,7 @@ ghost use Rattle.record_text.specs.Parts.{peers_of, running_peers};
 ghost use Rattle.shared_words.specs.RunSetups.{IsMadeFor};
 ghost use Rattle.shared_words.specs.Actions.{Action};
 ghost use Rattle.shared_words.specs.DerivedStates.{CallAccess, MemoryOp};
-ghost use Rattle.shared_words.specs.Passes.{IsOf, IsWhole, IsUnused, held};
+ghost use Rattle.shared_words.specs.Passes.{IsPassOf, IsWhole, IsUnused, held};
 ghost use Rattle.peer_runner.specs.Drives.{IsPlanFor, RanOne, RanRange, BothOk};
 ghost use Rattle.peer_runner.specs.RunningRecord.{IsRunOf};
 
@@ -61,7 +61,7 @@ fn run_one<G: Gate>(
 ) -> Result<Vec<OwnTrace>, NoMemory>
     requires running { not_running (world_of scenario.now) ≡ None }
     requires made { IsMadeFor (world_of scenario.now) words.now.shared.key }
-    requires of { IsOf words.now.shared.table_id words.now.shared.key pass.old }
+    requires of { IsPassOf words.now.shared.table_id words.now.shared.key pass.old }
     requires alone { (pass.old.from ≡ me) × (pass.old.lists ≡ [] ∷ []) }
     ensures { (list : List (Action (MemoryOp CallAccess))) × (pass.new ≡ held pass.old.table_id me (list ∷ []))
         × IfOk result (λ traces. RanOne (world_of scenario.now) words.now.shared.key me list traces.items) }
@@ -87,7 +87,7 @@ fn run_range<R: Threads + Sync, G: Gate + Sync>(
 ) -> (Result<Vec<OwnTrace>, NoMemory>, Pass)
     requires running { not_running (world_of scenario.now) ≡ None }
     requires made { IsMadeFor (world_of scenario.now) words.now.shared.key }
-    requires of { IsOf words.now.shared.table_id words.now.shared.key pass }
+    requires of { IsPassOf words.now.shared.table_id words.now.shared.key pass }
     requires whole { (pass.from ≡ range.from) × (pass.lists ≡ replicate range.count []) }
     ensures { RanRange (world_of scenario.now) words.now.shared.key range.from range.count
         pass.table_id result.1 (λ traces. traces.items) result.0 }
@@ -110,7 +110,7 @@ fn run_range<R: Threads + Sync, G: Gate + Sync>(
             requires sync { IsSync R.row × IsSync G.row }
             requires running { not_running (world_of scenario.now) ≡ None }
             requires made { IsMadeFor (world_of scenario.now) words.now.shared.key }
-            requires of { IsOf words.now.shared.table_id words.now.shared.key pass }
+            requires of { IsPassOf words.now.shared.table_id words.now.shared.key pass }
             requires whole { (pass.from ≡ from) × (pass.lists ≡ replicate half []) }
             ensures { RanRange (world_of scenario.entry.now) words.entry.now.shared.key from half
                 pass.table_id result.1 (λ traces. traces.items) result.0 }
@@ -122,7 +122,7 @@ fn run_range<R: Threads + Sync, G: Gate + Sync>(
             requires sync { IsSync R.row × IsSync G.row }
             requires running { not_running (world_of scenario.now) ≡ None }
             requires made { IsMadeFor (world_of scenario.now) words.now.shared.key }
-            requires of { IsOf words.now.shared.table_id words.now.shared.key upper }
+            requires of { IsPassOf words.now.shared.table_id words.now.shared.key upper }
             requires whole { (upper.from ≡ middle) × (upper.lists ≡ replicate rest []) }
             ensures { RanRange (world_of scenario.entry.now) words.entry.now.shared.key middle rest
                 upper.table_id result.1 (λ traces. traces.items) result.0 }

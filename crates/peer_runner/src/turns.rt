@@ -4,14 +4,14 @@ ghost use Rattle.call_grammar.specs.Automatic.{is_empty};
 ghost use Rattle.call_grammar.specs.Places.{WritingState};
 ghost use Rattle.shared_words.specs.Actions.{accessed, looked};
 ghost use Rattle.shared_words.specs.Rules.{front};
-ghost use Rattle.shared_words.specs.Passes.{IsOf, added};
+ghost use Rattle.shared_words.specs.Passes.{IsPassOf, added};
 ghost use Rattle.peer_runner.specs.DoorbellPaths.{is_guarded, doorbell_path_in};
 ghost use Rattle.peer_runner.specs.Turns.{interrupt_lines, is_below, looks_after, opens};
 ghost use Rattle.peer_runner.specs.Runners.{Runner};
 ghost use Rattle.link_endpoint.specs.Plan.{is_end_choice, call_chosen_by};
 ghost use Rattle.peer_runner.specs.Runners.{touches, MayMake, IsDone, awaits_ring, MayRingBy, due_at, looks_now};
 ghost use Rattle.peer_runner.specs.Runners.{due_word, state_for, memory_op_met, lines_on, IsThere, IsAutoPeer};
-ghost use Rattle.peer_runner.specs.Contexts.{setup_of, end_config, IsHonest, HasRoutes, IsSeated, state_of, IsNextOf, after_access, AtEachPlace, AtItsPlace};
+ghost use Rattle.peer_runner.specs.Contexts.{setup_of, end_config, IsHonest, HasRoutes, HasPeerFirst, state_of, IsNextOf, after_access, AtEachPlace, AtItsPlace};
 ghost use Rattle.peer_runner.specs.Contexts.{IsStepDue, after_step, is_guarded_at};
 
 use crate::bells::ring_turn;
@@ -95,7 +95,7 @@ pub fn look_turn(
     looks: &mut Option<u32>,
     lines: &mut Lines,
 ) -> Result<(), NoMemory>
-    requires of { IsSeated context.now pass.old }
+    requires of { HasPeerFirst context.now pass.old }
     requires routes { HasRoutes context.now }
     requires few { is_below looks.old 64 ≡ true }
     ensures { (found : ℕ) × (pass.new ≡ added pass.old (looked found)) × (looks.new ≡ looks_after looks.old found)
@@ -118,7 +118,7 @@ fn take<B: Begins>(
     _choice: Option<Choice>,
 ) -> Done
     requires next { touches access ≡ true → IsNextOf context.now pass.old B.call access }
-    requires of { IsSeated context.now pass.old }
+    requires of { HasPeerFirst context.now pass.old }
     requires routes { HasRoutes context.now }
     requires may { MayMake (setup_of context.now) context.now.me access }
     requires rings { ringing ≡ true → MayRingBy context.now.routes.now access (front pass.old.lists) }
@@ -156,7 +156,7 @@ fn take_for(
 ) -> Done
     requires next { touches access ≡ true →
         IsNextOf context.now pass.old (call_chosen_by choice auto.now.frames) access }
-    requires of { IsSeated context.now pass.old }
+    requires of { HasPeerFirst context.now pass.old }
     requires routes { HasRoutes context.now }
     requires may { MayMake (setup_of context.now) context.now.me access }
     requires rings { ringing ≡ true → MayRingBy context.now.routes.now access (front pass.old.lists) }
@@ -209,7 +209,7 @@ pub fn exchange_session_number(
     requires honest { IsHonest context.now }
     requires place { (state_of context.now pass.old).place ≡ WritingState (state_for word) }
     requires opened { (opened ≡ (state_of context.now pass.old).numbers.log.opened) × (opened + 1 < 2 ^ 32) }
-    requires of { IsSeated context.now pass.old }
+    requires of { HasPeerFirst context.now pass.old }
     ensures pass { pass.new ≡ added pass.old (accessed (memory_op_met word result)) }
     ensures number { word ≡ SessionWord.Own → result ≡ opened + 1 }
 {
@@ -247,7 +247,7 @@ pub fn take_turn(
     choice: Option<Choice>,
     lines: &mut Lines,
 ) -> Result<(), NoMemory>
-    requires of { IsOf context.now.words.now.shared.table_id (setup_of context.now) pass.old }
+    requires of { IsPassOf context.now.words.now.shared.table_id (setup_of context.now) pass.old }
     requires honest { IsHonest context.now }
     requires routes { HasRoutes context.now }
     requires few { peer.old.opened + 1 < 2 ^ 32 }

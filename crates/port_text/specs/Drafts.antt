@@ -3,12 +3,12 @@ use Rattle.std.specs.Prelude.{◌≡◌, true}
 use Rattle.scenario_text.specs.Sizes.{is_geometry}
 use Rattle.port_text.specs.declared.drafts.Draft.{Draft}
 use Rattle.port_text.specs.Scenario.{IsWorld}
-use Rattle.port_text.specs.Judge.{SoFar, world_so_far}
+use Rattle.port_text.specs.Judge.{DraftView, world_of_draft}
 
-abbrev pub so_far : Draft → SoFar
-so_far d = record { position = d.position; peers = d.peers; out = d.out; most = d.most; honest = d.honest; acts = d.acts }
+abbrev pub draft_view : Draft → DraftView
+draft_view d = record { position = d.position; peers = d.peers; out = d.out; most = d.most; honest = d.honest; acts = d.acts }
 
 -- The value of the lines is a schedule of ports.
-pub record IsWhole (d : SoFar) : Type 0 where
+pub record IsWhole (d : DraftView) : Type 0 where
   pub geometry : is_geometry d.peers 4096 0 d.out ≡ true
-  pub world : IsWorld (world_so_far d)
+  pub world : IsWorld (world_of_draft d)

@@ -27,7 +27,7 @@ use Rattle.port_text.specs.Scenario.{World, is_in_range, is_its_peer, is_message
 
 -- The value of the lines so far, with sizes in bytes. The default of a line that wasn't read is 0
 -- or empty.
-pub record SoFar : Type 0 where
+pub record DraftView : Type 0 where
   pub position : Position
   pub peers : ℕ
   pub out : ℕ
@@ -36,8 +36,8 @@ pub record SoFar : Type 0 where
   pub acts : List Act
 
 -- The world of the lines so far.
-abbrev pub world_so_far : SoFar → World
-world_so_far d = record { geometry = ports_shape d.peers d.out; most = d.most; honest = d.honest; acts = d.acts }
+abbrev pub world_of_draft : DraftView → World
+world_of_draft d = record { geometry = ports_shape d.peers d.out; most = d.most; honest = d.honest; acts = d.acts }
 
 -- BadOrder
 
@@ -63,30 +63,30 @@ position_of Begin = AtBegin
 position_of _ = AtActs
 
 -- The order rule about peer p: the head's peers come in order.
-abbrev pub is_out_of_turn : SoFar → Form → ℕ → Bool
+abbrev pub is_out_of_turn : DraftView → Form → ℕ → Bool
 is_out_of_turn d Honest p = not (p == length d.honest)
 is_out_of_turn d Hostile p = not (p == length d.honest)
 is_out_of_turn d _ p = false
 
 -- The line is out of order at this position; the rule about a peer applies only if the peer's field
 -- is a number.
-abbrev pub is_out_of_order : SoFar → Form → List (List ℕ) → Bool
+abbrev pub is_out_of_order : DraftView → Form → List (List ℕ) → Bool
 is_out_of_order d form fields =
     not (ordinal_of (position_of form) == ordinal_of d.position)
     || option_map_or (is_out_of_turn d form) (option_and_then number_of (slice_get fields 1)) false
 
 -- BadNumber, and then BadPeer
 
-abbrev pub wrong_numbers : SoFar → Form → List ℕ → Option Cause
+abbrev pub wrong_numbers : DraftView → Form → List ℕ → Option Cause
 wrong_numbers d form ns =
-    if not (is_in_range (world_so_far d) form ns) then Some BadNumber
-    else if not (is_its_peer (world_so_far d) form ns) then Some BadPeer
+    if not (is_in_range (world_of_draft d) form ns) then Some BadNumber
+    else if not (is_its_peer (world_of_draft d) form ns) then Some BadPeer
     else None
 
 -- BadGeometry
 
 -- The region is judged on the `out` line, and the ports on the `message` line.
-abbrev pub fits_sizes : SoFar → Form → List ℕ → Bool
+abbrev pub fits_sizes : DraftView → Form → List ℕ → Bool
 fits_sizes d Out ns = is_geometry d.peers 4096 0 (slice_index ns 0)
 fits_sizes d Longest ns = has_port (slice_index ns 0) d.out
 fits_sizes d _ ns = true
@@ -105,12 +105,12 @@ abbrev pub is_sample : Form → Bool
 is_sample Sample = true
 is_sample _ = false
 
-abbrev pub with_peer : Bool → SoFar → SoFar
+abbrev pub with_peer : Bool → DraftView → DraftView
 with_peer b d =
     let honest = d.honest ++ b ∷ [] in
     record d { position = if length honest == d.peers then AtBegin else AtPeer; honest = honest }
 
-abbrev pub with_act : Act → SoFar → SoFar
+abbrev pub with_act : Act → DraftView → DraftView
 with_act act d = record d { acts = d.acts ++ act ∷ [] }
 
 -- The act of a row, if the form is that of an act.
@@ -121,7 +121,7 @@ act_of Turn ns bytes = Some (acts.Turn (slice_index ns 0) (slice_index ns 1))
 act_of Poke ns bytes = Some (acts.Poke (slice_index ns 0) (slice_index ns 1) (slice_index ns 2))
 act_of _ ns bytes = None
 
-abbrev pub add_head : Form → List ℕ → SoFar → SoFar
+abbrev pub add_head : Form → List ℕ → DraftView → DraftView
 add_head Version ns d = record d { position = AtPeers }
 add_head Peers ns d = record d { position = AtOut; peers = slice_index ns 0 }
 add_head Out ns d = record d { position = AtLongest; out = slice_index ns 0 }
@@ -132,17 +132,17 @@ add_head Begin ns d = record d { position = AtActs }
 add_head End ns d = record d { position = Ended }
 add_head _ ns d = d
 
-abbrev pub turns_with : SoFar → Option Act → ℕ
+abbrev pub turns_with : DraftView → Option Act → ℕ
 turns_with d (Some act) = turns_of d.acts + cost act
 turns_with d None = 0
 
-abbrev pub add : Form → List ℕ → Option Act → SoFar → SoFar
+abbrev pub add : Form → List ℕ → Option Act → DraftView → DraftView
 add form ns (Some act) d = with_act act d
 add form ns None d = add_head form ns d
 
 -- BadGeometry, and then TooManyTurns
 
-abbrev pub wrong_row : SoFar → Form → List ℕ → List ℕ → Option Cause
+abbrev pub wrong_row : DraftView → Form → List ℕ → List ℕ → Option Cause
 wrong_row d form ns bytes =
     if not (fits_sizes d form ns) then Some BadGeometry
     else if nat_lt MOST_TURNS (turns_with d (act_of form ns bytes)) then Some TooManyTurns
@@ -158,26 +158,26 @@ cause Bytes = BadMessage
 
 -- The text
 
-abbrev pub at_start : SoFar
+abbrev pub at_start : DraftView
 at_start = record { position = AtVersion; peers = 0; out = 0; most = 0; honest = []; acts = [] }
 
-abbrev pub has_ended : SoFar → Bool
+abbrev pub has_ended : DraftView → Bool
 has_ended d = ordinal_of d.position == 7
 
-abbrev pub rules : Rules SoFar Form Cause
+abbrev pub rules : Rules DraftView Form Cause
 rules = record {
   pieces_of = pieces_of;
   forms = all_forms;
   cause = cause;
   is_out_of_order = is_out_of_order;
   wrong_numbers = wrong_numbers;
-  fits = λ d form size. is_message_length (world_so_far d) form size;
+  fits = λ d form size. is_message_length (world_of_draft d) form size;
   wrong_row = wrong_row;
   add = λ form ns bytes d. add form ns (act_of form ns bytes) d;
   ended = has_ended;
 }
 
-abbrev pub machine : Machine SoFar Cause
+abbrev pub machine : Machine DraftView Cause
 machine = machine_of rules
 
 -- Answers
@@ -192,8 +192,8 @@ fault_at BadGeometry n = faults.BadGeometry n
 fault_at TooManyTurns n = faults.TooManyTurns n
 
 -- Bytes after the end are a faulty line.
-abbrev pub sense : Sense SoFar Cause World PortsFault
-sense = record { start = at_start; value = λ d. Ok (world_so_far d); at = fault_at; after = λ n. faults.BadLine n; no_end = faults.NoEnd }
+abbrev pub sense : Sense DraftView Cause World PortsFault
+sense = record { start = at_start; value = λ d. Ok (world_of_draft d); at = fault_at; after = λ n. faults.BadLine n; no_end = faults.NoEnd }
 
 -- The schedule that a text spells, or its first fault.
 abbrev pub answer : List ℕ → Result World PortsFault

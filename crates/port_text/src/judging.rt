@@ -6,8 +6,8 @@ ghost use Rattle.scenario_text.specs.Sizes.{is_geometry};
 ghost use Rattle.port_text.specs.Sizes.{ports_shape, has_port};
 ghost use Rattle.port_text.specs.Table.{pieces_of};
 ghost use Rattle.port_text.specs.Scenario.{is_in_range, is_its_peer, is_message_length, is_honest, is_peer, is_hostile};
-ghost use Rattle.port_text.specs.Judge.{world_so_far, is_out_of_turn, is_out_of_order, fits_sizes, act_of, is_act, is_sample};
-ghost use Rattle.port_text.specs.Drafts.{so_far};
+ghost use Rattle.port_text.specs.Judge.{world_of_draft, is_out_of_turn, is_out_of_order, fits_sizes, act_of, is_act, is_sample};
+ghost use Rattle.port_text.specs.Drafts.{draft_view};
 
 use crate::acts::{Act, Message};
 use crate::drafts::Draft;
@@ -22,7 +22,7 @@ pub const TABLE: u32 = PAGE;
 
 /// Whether the order rules about peer `p` forbid the line here.
 fn is_out_of_turn(draft: &Draft, form: Form, p: u64) -> bool
-    ensures { result ≡ is_out_of_turn (so_far draft.now) form p }
+    ensures { result ≡ is_out_of_turn (draft_view draft.now) form p }
 {
     match form {
         Form::Honest | Form::Hostile => p != draft.honest.items().len() as u64,
@@ -32,7 +32,7 @@ fn is_out_of_turn(draft: &Draft, form: Form, p: u64) -> bool
 
 /// Whether the line is forbidden at this position.
 pub fn is_out_of_order(draft: &Draft, form: Form, fields: &[&[u8]]) -> bool
-    ensures { result ≡ is_out_of_order (so_far draft.now) form (texts fields.now) }
+    ensures { result ≡ is_out_of_order (draft_view draft.now) form (texts fields.now) }
 {
     if Position::of(form) != draft.position {
         return true;
@@ -53,7 +53,7 @@ fn words(draft: &Draft) -> u64
 /// Whether the numbers are in the ranges that depend on the head.
 pub fn is_in_range(draft: &Draft, form: Form, numbers: &[u64]) -> bool
     ensures small { IsTrue result → IsTrue (is_sample form) → slice_index numbers.now 1 < 8 }
-    ensures value { result ≡ is_in_range (world_so_far (so_far draft.now)) form numbers.now }
+    ensures value { result ≡ is_in_range (world_of_draft (draft_view draft.now)) form numbers.now }
 {
     match form {
         Form::Sample => number_at(numbers, 1) < u64::from(draft.peers),
@@ -63,19 +63,19 @@ pub fn is_in_range(draft: &Draft, form: Form, numbers: &[u64]) -> bool
 }
 
 fn is_peer(draft: &Draft, p: u64) -> bool
-    ensures { result ≡ is_peer (world_so_far (so_far draft.now)) p }
+    ensures { result ≡ is_peer (world_of_draft (draft_view draft.now)) p }
 {
     p < u64::from(draft.peers)
 }
 
 fn is_honest(draft: &Draft, p: u64) -> bool
-    ensures { result ≡ is_honest (world_so_far (so_far draft.now)) p }
+    ensures { result ≡ is_honest (world_of_draft (draft_view draft.now)) p }
 {
     is_peer(draft, p) && flag_at(draft.honest.items(), p)
 }
 
 fn is_hostile(draft: &Draft, p: u64) -> bool
-    ensures { result ≡ is_hostile (world_so_far (so_far draft.now)) p }
+    ensures { result ≡ is_hostile (world_of_draft (draft_view draft.now)) p }
 {
     is_peer(draft, p) && !flag_at(draft.honest.items(), p)
 }
@@ -83,7 +83,7 @@ fn is_hostile(draft: &Draft, p: u64) -> bool
 /// Whether the region has the peer, and the peer is of the kind that the form requires.
 pub fn is_its_peer(draft: &Draft, form: Form, numbers: &[u64]) -> bool
     ensures small { IsTrue result → IsTrue (is_act form) → slice_index numbers.now 0 < 8 }
-    ensures value { result ≡ is_its_peer (world_so_far (so_far draft.now)) form numbers.now }
+    ensures value { result ≡ is_its_peer (world_of_draft (draft_view draft.now)) form numbers.now }
 {
     let p = number_at(numbers, 0);
     match form {
@@ -96,7 +96,7 @@ pub fn is_its_peer(draft: &Draft, form: Form, numbers: &[u64]) -> bool
 
 /// Whether the message of a publish has 1 byte to the most bytes.
 pub fn is_message_length(draft: &Draft, form: Form, size: u64) -> bool
-    ensures { result ≡ is_message_length (world_so_far (so_far draft.now)) form size }
+    ensures { result ≡ is_message_length (world_of_draft (draft_view draft.now)) form size }
 {
     match form {
         Form::Publish => 1 <= size && size <= u64::from(draft.most),
@@ -121,7 +121,7 @@ fn has_port(most: u32, out: u64) -> bool
 /// Whether the sizes fit after a line `out` or `message`.
 pub fn fits_sizes(draft: &Draft, form: Form, numbers: &[u64]) -> bool
     requires { AreInRange (pieces_of form) numbers.now }
-    ensures { result ≡ fits_sizes (so_far draft.now) form numbers.now }
+    ensures { result ≡ fits_sizes (draft_view draft.now) form numbers.now }
 {
     match form {
         Form::Out => is_geometry(draft.peers, number_at(numbers, 0)),

@@ -4,9 +4,9 @@ ghost use Rattle.scenario_text.specs.Sizes.{is_geometry};
 ghost use Rattle.port_text.specs.Sizes.{ports_shape};
 ghost use Rattle.port_text.specs.Scenario.{World, IsWorld};
 ghost use Rattle.port_text.specs.Spelling.{world_of, IsSpelling};
-ghost use Rattle.port_text.specs.Judge.{world_so_far, at_start, answer};
+ghost use Rattle.port_text.specs.Judge.{world_of_draft, at_start, answer};
 ghost use Rattle.port_text.specs.Answers.{Answers};
-ghost use Rattle.port_text.specs.Drafts.{so_far, IsWhole};
+ghost use Rattle.port_text.specs.Drafts.{draft_view, IsWhole};
 
 use crate::acts::Acts;
 use crate::drafts::Draft;
@@ -33,7 +33,7 @@ fn geometry(peers: u32, out: u64) -> Geometry
 impl Draft {
     /// Returns the draft of a text before its first line.
     pub fn new(alloc: Global) -> Draft
-        ensures { so_far result ≡ at_start }
+        ensures { draft_view result ≡ at_start }
     {
         Draft {
             position: Position::AtVersion,
@@ -48,8 +48,8 @@ impl Draft {
 
     /// Returns the value of the lines up to the end.
     pub fn finish(self) -> Scenario
-        requires { IsWhole (so_far self) }
-        ensures { world_of result ≡ world_so_far (so_far self) }
+        requires { IsWhole (draft_view self) }
+        ensures { world_of result ≡ world_of_draft (draft_view self) }
     {
         let geometry = geometry(self.peers, self.out);
         let Draft {

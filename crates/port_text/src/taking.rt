@@ -5,8 +5,8 @@ ghost use Rattle.line_format.specs.Forms.{AreInRange};
 ghost use Rattle.port_text.specs.declared.limits.TheConstants.{MOST_TURNS};
 ghost use Rattle.port_text.specs.Table.{pieces_of};
 ghost use Rattle.port_text.specs.Acts.{cost};
-ghost use Rattle.port_text.specs.Judge.{SoFar, add_head, with_act, with_peer, fits_sizes, rules};
-ghost use Rattle.port_text.specs.Drafts.{so_far};
+ghost use Rattle.port_text.specs.Judge.{DraftView, add_head, with_act, with_peer, fits_sizes, rules};
+ghost use Rattle.port_text.specs.Drafts.{draft_view};
 
 use crate::acts::{Act, Message};
 use crate::drafts::Draft;
@@ -23,7 +23,7 @@ use std::alloc::Global;
 
 impl Draft {
     fn push_peer(&mut self, is_honest: bool) -> Result<(), NoMemory>
-        ensures { OnOk result (so_far self.new ≡ with_peer is_honest (so_far self.old)) }
+        ensures { OnOk result (draft_view self.new ≡ with_peer is_honest (draft_view self.old)) }
     {
         self.honest.push(is_honest)?;
         self.position = if self.honest.items().len() as u64 == u64::from(self.peers) {
@@ -36,7 +36,7 @@ impl Draft {
 
     fn push_act(&mut self, act: Act) -> Result<(), NoMemory>
         requires turns { self.old.turns + cost act ≤ MOST_TURNS }
-        ensures { OnOk result (so_far self.new ≡ with_act act (so_far self.old)) }
+        ensures { OnOk result (draft_view self.new ≡ with_act act (draft_view self.old)) }
     {
         let cost = act.cost();
         self.acts.push(act)?;
@@ -46,8 +46,9 @@ impl Draft {
 
     fn add_head(&mut self, form: Form, numbers: &[u64]) -> Result<(), NoMemory>
         requires limits { AreInRange (pieces_of form) numbers.now }
-        requires sizes { fits_sizes (so_far self.old) form numbers.now ≡ true }
-        ensures { OnOk result (so_far self.new ≡ add_head form numbers.now (so_far self.old)) }
+        requires sizes { fits_sizes (draft_view self.old) form numbers.now ≡ true }
+        ensures { OnOk result (draft_view self.new ≡
+            add_head form numbers.now (draft_view self.old)) }
     {
         let number = number_at(numbers, 0);
         match form {
@@ -79,9 +80,9 @@ impl Grammar for Draft {
 
     type Cause = Cause;
 
-    ghost SoFar = { SoFar };
+    ghost DraftView = { DraftView };
 
-    ghost so_far = { so_far };
+    ghost draft_view = { draft_view };
 
     ghost rules = { rules };
 
@@ -126,7 +127,7 @@ impl Grammar for Draft {
         self.position == Position::Ended
     }
 
-    #[tactic(auto, using(crate::proofs::Follows::small_peer, crate::proofs::Follows::small_from))]
+    #[tactic(auto, using(crate::proofs::RowTests::small_peer, crate::proofs::RowTests::small_from))]
     fn add(
         &mut self,
         _alloc: Global,

@@ -1,5 +1,5 @@
-mod RowLaws
-mod ArrowLaws
-mod UnfoldLaws
-mod OwnLaws
-mod FrontLaws
+mod GrowingRows
+mod ArrowsByLine
+mod RowsUnfold
+mod PairArrows
+mod StablePictures

@@ -6,7 +6,7 @@ use history_laws::histories_run_the_machine;
 
 /// Law: the rows, unfolded, are the lines, each once and in order. In a row each line continues the
 /// one before it.
-#[tactic(auto, using(crate::proofs::UnfoldLaws::unfold_rows))]
+#[tactic(auto, using(crate::proofs::RowsUnfold::unfold_rows))]
 pub fn rows_are_the_lines()
     ensures { RowsAreTheLines }
 {}

@@ -15,10 +15,10 @@ use Rattle.lawful_history.specs.declared.line.Line.{Line}
 use Rattle.lawful_history.specs.declared.line.Line.TheVariants as line
 use Rattle.lawful_history.specs.Schedule.{Event, CallQueued, AutoStarted, StormStarted, TurnTaken, RegionAccessed, DeviceReset, DeviceAccessed, InterruptDropped, InterruptRepeated, DeviceAccess, ReadsConfig, WritesConfig, ReadsRegister, WritesRegister, ReadsMsix, WritesMsix}
 use Rattle.lawful_history.specs.EventRecords.{access_lines}
-use Rattle.lawful_history.specs.Device.{devices_of, device_events, lost_count, arrival, arrived, arrivals_by, device_event_of, brought_by, step_interrupts, device_access_line, device_lines}
+use Rattle.lawful_history.specs.Device.{devices_of, device_events, lost_count, delivery_line, delivery_lines, interrupts_of_event, device_event_of, interrupts_of_access, step_interrupts, device_access_line, device_lines}
 use Rattle.record_text.specs.Spelling.{Fits}
 use Rattle.record_sizes.proofs.LineBytes.{line_cost, lines_cost, price, priced}
-use Rattle.record_sizes.proofs.Paying.{interrupts_price}
+use Rattle.record_sizes.proofs.StepsPay.{interrupts_price}
 
 -- The deliveries of an effect: at most one for each peer
 
@@ -58,21 +58,21 @@ arrival_bytes : (b : Bool) (peer vector : ℕ) → Fits (if b then line.Lost pee
 arrival_bytes true peer vector fits small = lost_bytes peer vector fits small
 arrival_bytes false peer vector fits small = interrupt_bytes peer vector fits small
 
-arrived_bytes : (older : List Line) (losses : ℕ → ℕ) (deliveries : List Delivery) → AreBelow 10 deliveries → AllByRecursion Fits (arrived older losses deliveries) → lines_cost (arrived older losses deliveries) ≤ 18 * length deliveries
+arrived_bytes : (older : List Line) (losses : ℕ → ℕ) (deliveries : List Delivery) → AreBelow 10 deliveries → AllByRecursion Fits (delivery_lines older losses deliveries) → lines_cost (delivery_lines older losses deliveries) ≤ 18 * length deliveries
 arrived_bytes older losses [] below fits = omega arith
 arrived_bytes older losses (delivery ∷ deliveries) below fits =
     let first = arrival_bytes (nat_lt (lost_count older delivery.peer) (losses delivery.peer)) delivery.peer delivery.vector fits.0 below.0 in
-    let later = arrived_bytes (arrival older losses delivery ∷ older) losses deliveries below.1 fits.1 in omega (arith, first, later)
+    let later = arrived_bytes (delivery_line older losses delivery ∷ older) losses deliveries below.1 fits.1 in omega (arith, first, later)
 
 module _ (world : World) (few : world.geometry.peers ≤ 8) where
-  event_bytes : (older : List Line) (losses : ℕ → ℕ) (cause : Line) (told : Option device.Event) → AllByRecursion Fits (arrivals_by world older losses cause told) → lines_cost (arrivals_by world older losses cause told) ≤ 144
+  event_bytes : (older : List Line) (losses : ℕ → ℕ) (cause : Line) (recorded : Option device.Event) → AllByRecursion Fits (interrupts_of_event world older losses cause recorded) → lines_cost (interrupts_of_event world older losses cause recorded) ≤ 144
   event_bytes older losses cause None fits = omega arith
   event_bytes older losses cause (Some event) fits =
       let all = few_deliveries _ 10 world.geometry.peers (omega (arith, few)) in
       let bytes = arrived_bytes (cause ∷ older) losses (effect_of (devices_of world) (device_events older) event).deliveries.items all.0 fits in omega (arith, bytes, all.1, few)
 
-  access_bytes : (older : List Line) (losses : ℕ → ℕ) (peer : ℕ) (a : Access) (value : ℕ) → AllByRecursion Fits (brought_by world older losses (access_lines peer a value)) →
-      lines_cost (brought_by world older losses (access_lines peer a value)) ≤ interrupts_price a
+  access_bytes : (older : List Line) (losses : ℕ → ℕ) (peer : ℕ) (a : Access) (value : ℕ) → AllByRecursion Fits (interrupts_of_access world older losses (access_lines peer a value)) →
+      lines_cost (interrupts_of_access world older losses (access_lines peer a value)) ≤ interrupts_price a
   access_bytes older losses peer (access.Read word) value fits = omega arith
   access_bytes older losses peer (access.Write word written) value fits = omega arith
   access_bytes older losses peer (access.State state) value fits = event_bytes older losses (line.State peer state) (device_event_of (line.State peer state)) fits

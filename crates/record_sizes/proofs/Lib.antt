@@ -1,7 +1,7 @@
 pub mod LineBytes
-pub mod Paying
+pub mod StepsPay
 pub mod Interrupts
-pub mod Entering
-pub mod Marking
+pub mod EventsPay
+pub mod MarksPay
 pub mod Sharing
-pub mod Whole
+pub mod RecordIsShort

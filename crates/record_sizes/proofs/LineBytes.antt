@@ -8,9 +8,9 @@ use Rattle.hex.specs.Hex.{lower_digits}
 use Rattle.hex.proofs.HexLemmas.{length-encode_with}
 use Rattle.line_format.specs.Forms.{Piece, Word, Number, Hex, spell, line_of, Fit, FitBytes, is_form, is_visible}
 use Rattle.line_format.specs.Rows.{Row, fields_of_row, text_of}
-use Rattle.line_format.proofs.LengthLaws.{widths}
-use Rattle.line_format.proofs.SpellLaws.{both_true}
-use Rattle.line_format.proofs.RowLaws.{bare, text-cons}
+use Rattle.line_format.proofs.TextLengths.{widths}
+use Rattle.line_format.proofs.SpellingsAreRead.{both_true}
+use Rattle.line_format.proofs.LinesOfRows.{bare, text-cons}
 use Rattle.split_ring.specs.declared.ranges.FieldName.{FieldName}
 use Rattle.split_ring.specs.declared.ranges.FieldName.TheVariants.{AvailIndex}
 use Rattle.lawful_history.specs.declared.line.Line.{Line}
@@ -19,7 +19,7 @@ use Rattle.record_text.specs.declared.forms.LineForm.{LineForm}
 use Rattle.record_text.specs.Table.{pieces_of}
 use Rattle.record_text.specs.LineRows.{row_of_line, refuse_form}
 use Rattle.record_text.specs.Spelling.{Fits}
-use Rattle.record_text.proofs.TableLaws.{is_table}
+use Rattle.record_text.proofs.FormsAreTable.{is_table}
 
 -- The bytes of fields, each with the space or the newline after it
 
@@ -60,11 +60,11 @@ spelled (Number low high ∷ pieces) (n ∷ ns) bytes form fit fits =
 -- The bytes of a history line
 
 abbrev pub line_bytes : Line → ℕ
-line_bytes told = widths (fields_of_row pieces_of (row_of_line told))
+line_bytes recorded = widths (fields_of_row pieces_of (row_of_line recorded))
 
 abbrev pub lines_bytes : List Line → ℕ
 lines_bytes [] = 0
-lines_bytes (told ∷ lines) = line_bytes told + lines_bytes lines
+lines_bytes (recorded ∷ lines) = line_bytes recorded + lines_bytes lines
 
 -- The cost of a line: its bytes and, for a write of State 3, the room of the mark of a session that
 -- can follow it
@@ -74,11 +74,11 @@ mark_room (line.State peer value) = if value == 3 then 31 + length (decimal peer
 mark_room _ = 0
 
 abbrev pub line_cost : Line → ℕ
-line_cost told = line_bytes told + mark_room told
+line_cost recorded = line_bytes recorded + mark_room recorded
 
 abbrev pub lines_cost : List Line → ℕ
 lines_cost [] = 0
-lines_cost (told ∷ lines) = line_cost told + lines_cost lines
+lines_cost (recorded ∷ lines) = line_cost recorded + lines_cost lines
 
 -- The mark has its room.
 pub mark_bytes : (peer opened other : ℕ) → Fits (line.Session peer opened other) → line_bytes (line.Session peer opened other) ≤ 31 + length (decimal peer)
@@ -106,8 +106,8 @@ row_bytes r fit = whole (fields_of_row pieces_of r) (omega (arith, counted (piec
 -- The bytes of the lines of a history, and of the rows after them.
 pub text_bytes : (lines : List Line) (rows : List (Row LineForm)) → AllByRecursion Fits lines → length (text_of pieces_of (map row_of_line lines ++ rows)) ≡ lines_bytes lines + length (text_of pieces_of rows)
 text_bytes [] rows fits = omega arith
-text_bytes (told ∷ lines) rows fits =
-    let r = row_of_line told in let others = map row_of_line lines ++ rows in let fit = fits.0 in
+text_bytes (recorded ∷ lines) rows fits =
+    let r = row_of_line recorded in let others = map row_of_line lines ++ rows in let fit = fits.0 in
     let is = ap (λ (t : List ℕ). length t) (text-cons pieces_of r others) in
     omega (arith, is, length-append (bare pieces_of r) (10 ∷ text_of pieces_of others), row_bytes r fit.values, text_bytes lines rows fits.1)
 
@@ -147,10 +147,10 @@ refusals AvailIndex = omega arith
 refusals _ = omega arith
 
 abbrev roomy : Line → ℕ
-roomy told = room (pieces_of (row_of_line told).form) + 2 * length (row_of_line told).frame
+roomy recorded = room (pieces_of (row_of_line recorded).form) + 2 * length (row_of_line recorded).frame
 
-formed : (told : Line) → Fits told → line_bytes told ≤ roomy told
-formed told fits = let r = row_of_line told in spelled (pieces_of r.form) r.numbers r.frame (is_table.good r.form) fits.values fits.bytes
+formed : (recorded : Line) → Fits recorded → line_bytes recorded ≤ roomy recorded
+formed recorded fits = let r = row_of_line recorded in spelled (pieces_of r.form) r.numbers r.frame (is_table.good r.form) fits.values fits.bytes
 
 -- The digit of State 3, or ten digits and no mark.
 state_price : (peer value : ℕ) (b : Bool) → value == 3 ≡ b → value < 2 ^ 32 →
@@ -160,10 +160,10 @@ state_price peer value true is small =
     omega (arith, length-decimal-le 1 value (omega arith) (omega (arith, three)) (omega (arith, small)))
 state_price peer value false is small = omega (arith, length-decimal-le 10 value (omega arith) (omega (arith, small)) (omega (arith, small)))
 
-pub priced : (told : Line) → Fits told → line_cost told ≤ price told
+pub priced : (recorded : Line) → Fits recorded → line_cost recorded ≤ price recorded
 priced (line.State peer value) fits =
     let values = fits.values in let most = values.2.1 in
     let state = state_price peer value (value == 3) refl (omega (arith, most)) in omega arith
 priced (line.Refuse peer refused) fits = let e = refusals refused.field in let f = formed (line.Refuse peer refused) fits in omega arith
 priced (line.Read peer word value) fits = let f = formed (line.Read peer word value) fits in omega arith
-priced told fits = let f = formed told fits in omega arith
+priced recorded fits = let f = formed recorded fits in omega arith

@@ -6,7 +6,7 @@ use mathlib.Core.Logic.{dite}
 use native.Mathlib.Decide.{ℕ_discrete}
 use Rattle.call_grammar.proofs.OfferLists.{yes, no}
 use Rattle.lawful_history.specs.EventRecords.{EventRecord, owner, own}
-use Rattle.record_sizes.proofs.Entering.{entries_cost}
+use Rattle.record_sizes.proofs.EventsPay.{entries_cost}
 
 -- A sum over event records, and the sums over those of each peer below n.
 abbrev total : (EventRecord → ℕ) → List EventRecord → ℕ

@@ -17,7 +17,7 @@ history_after (Count kept) before = if kept == length before then Ok (Counted be
 
 -- After each history the line has this content, or the line is wrong, unless memory ran out.
 abbrev pub HasContent : Result LineContent (LineFault RecordCause) → (List lines.Line → Result History RecordCause) → Type 0
-HasContent (Ok told) said = (before : List lines.Line) → said before ≡ history_after told before
+HasContent (Ok content) said = (before : List lines.Line) → said before ≡ history_after content before
 HasContent (Err fault) said = (before : List lines.Line) → Fails fault (said before)
 
 -- The frame of a line, if it has one, has at least one byte.

@@ -3,7 +3,7 @@ ghost use Rattle.std.specs.Prelude.{◌≡◌, [], true, false};
 ghost use Rattle.lawful_history.specs.Frames.{HaveFrames};
 ghost use Rattle.lawful_history.specs.Versions.{is_version};
 ghost use Rattle.scenario_text.specs.Judge.{at_start, has_ended};
-ghost use Rattle.scenario_text.specs.Drafts.{so_far};
+ghost use Rattle.scenario_text.specs.Drafts.{draft_view};
 ghost use Rattle.record_text.specs.declared.drafts.RecordPosition.TheVariants as positions;
 ghost use Rattle.record_text.specs.Positions.{is_before_history};
 
@@ -31,7 +31,7 @@ pub struct RecordDraft {
     pub lines: Lines,
     pub ghost versioned: { is_version version ≡ true },
     pub ghost frames: { HaveFrames lines },
-    pub ghost start: { position ≡ positions.AtFirst → so_far head ≡ at_start },
+    pub ghost start: { position ≡ positions.AtFirst → draft_view head ≡ at_start },
     pub ghost fresh: { is_before_history position ≡ true → lines ≡ [] },
-    pub ghost over: { is_before_history position ≡ false → has_ended (so_far head) ≡ true },
+    pub ghost over: { is_before_history position ≡ false → has_ended (draft_view head) ≡ true },
 }

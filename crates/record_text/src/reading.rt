@@ -1,12 +1,12 @@
 //! Reading a record's text.
 ghost use Rattle.std.specs.Prelude.{◌≡◌, IfOk, Ok};
 ghost use Rattle.scenario_text.specs.Scenario.{IsWorld};
-ghost use Rattle.scenario_text.specs.Judge.{world_so_far};
-ghost use Rattle.scenario_text.specs.Drafts.{so_far};
+ghost use Rattle.scenario_text.specs.Judge.{world_of_draft};
+ghost use Rattle.scenario_text.specs.Drafts.{draft_view};
 ghost use Rattle.record_text.specs.declared.drafts.RecordPosition.TheVariants.{Ended};
 ghost use Rattle.record_text.specs.Spelling.{Record, IsSpelling, record_of};
 ghost use Rattle.record_text.specs.Judge.{AtFirst, answer};
-ghost use Rattle.record_text.specs.Drafts.{part_so_far};
+ghost use Rattle.record_text.specs.Drafts.{part_view};
 ghost use Rattle.record_text.specs.Answers.{Answers};
 
 use crate::drafts::{RecordDraft, RecordPosition};
@@ -20,7 +20,7 @@ use std::alloc::Global;
 impl RecordDraft {
     /// The draft of a text before its first line.
     pub fn new(alloc: Global) -> RecordDraft
-        ensures { part_so_far result ≡ AtFirst }
+        ensures { part_view result ≡ AtFirst }
     {
         RecordDraft {
             position: RecordPosition::AtFirst,
@@ -33,8 +33,8 @@ impl RecordDraft {
     /// The record that the lines up to the count say.
     pub fn finish(self) -> Trace
         requires ended { self.position ≡ Ended }
-        requires world { IsWorld (world_so_far (so_far self.head)) }
-        ensures { record_of result ≡ record { version = self.version; world = world_so_far (so_far self.head); lines = self.lines } }
+        requires world { IsWorld (world_of_draft (draft_view self.head)) }
+        ensures { record_of result ≡ record { version = self.version; world = world_of_draft (draft_view self.head); lines = self.lines } }
     {
         let RecordDraft {
             version,

@@ -9,9 +9,9 @@ use Rattle.call_grammar.specs.Steps.{Saw, Look, Done, Down, Over, step_of}
 use Rattle.call_grammar.specs.Trees.{CallTree, GoesAlong}
 use Rattle.call_grammar.specs.Calls.{Tick, Stop, Offer, Poll, tree_of, IsCall}
 use Rattle.call_grammar.proofs.Cuts.{cuts}
-use Rattle.call_grammar.proofs.Lists.{lists}
+use Rattle.call_grammar.proofs.CallsAreLists.{lists}
 use Rattle.reference_calls.specs.WorkedCalls.{peer_0, peer_1, small_peer_0, end_at, end_full, frame, r, w, s, to_init, to_ready, to_run, offer_begun, offer_ended, item_read, item_returned, full_offer, offer_46, index_refused, entry_refused, address_refused, length_refused, flags_refused, id_refused, used_refused, event_peer_0, event_peer_1, avail_event_read, next_published, later_event_read, end_taken, armed_poll, end_armed, found_between, second_refused, byte_peer_0, after_publish, long_frame, end_wrapped, wrapped, RowsAreCalls}
-use Rattle.call_grammar.proofs.Playing.{playing}
+use Rattle.call_grammar.proofs.ReplaysAreCalls.{playing}
 
 shortest_handshake_init_is : IsCall peer_0 (end_at Reset []) Tick to_init
 unfolding queue_size slots_of limit_of start_of has_room

@@ -10,7 +10,7 @@ use Rattle.split_ring.specs.Frames.{footprint_of, ring_start, start_of, has_room
 use Rattle.call_grammar.specs.Steps.{Mark, Saw, Reclaim, Full, Accept, Look, Deliver, Return, Done, Down, Refuse, Over, Step}
 use Rattle.call_grammar.specs.Calls.{Tick, Stop, Offer, Poll, IsCall}
 use Rattle.reference_calls.specs.WorkedCalls.{peer_0, peer_1, small_peer_0, end_at, end_full, frame, r, s, refuse, offer_begun, offer_ended, item_read, item_returned, full_offer, offer_46, address_refused, length_refused, clear_short, byte_changed, never_accepted, other_entry, published_early, length_read_twice, word_changed, wrong_used_length, index_passed, id_passed, event_peer_0, event_peer_1, avail_event_read, end_taken, armed_poll, end_armed, event_unheeded, rings_at_every_frame, event_after_the_look, armed_anew, byte_peer_0, long_frame, next_published, ChangedRowsAreNone}
-use Rattle.call_grammar.proofs.Playing.{playing}
+use Rattle.call_grammar.proofs.ReplaysAreCalls.{playing}
 
 -- Numbers that distinguish accesses and marks.
 abbrev access_code : Access → ℕ

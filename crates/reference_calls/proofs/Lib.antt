@@ -1,6 +1,6 @@
-pub mod Along
-pub mod Same
+pub mod PlaceToPlace
+pub mod ViewsDetermine
 pub mod Blocks
-pub mod Following
+pub mod OneMoreMark
 pub mod Accepted
 pub mod Changed

@@ -7,7 +7,7 @@ use Rattle.reference_calls.specs.declared.ends.EndConfig.{EndConfig}
 use Rattle.reference_calls.specs.declared.ends.End.{End}
 use Rattle.reference_calls.specs.declared.ends.Call.{Call}
 use Rattle.reference_calls.specs.declared.ends.Call.TheVariants.{Offer}
-use Rattle.reference_calls.specs.Seen.{config_seen, stored}
+use Rattle.reference_calls.specs.Views.{config_view, stored}
 use Rattle.split_ring.specs.Layout.{word_offset, AvailEntry}
 use Rattle.call_grammar.specs.Offers.{avail_entry_of}
 use Rattle.call_grammar.specs.Polls.{is_last}
@@ -23,36 +23,36 @@ length_at begun k = get_or begun.lengths.items k 0
 abbrev pub pending_of : Begun → PendingOffer
 pending_of begun = record { frame = begun.frame.items; number = begun.number; lengths = length_at begun; neighbour_word = begun.neighbour_word }
 
-abbrev pub place_seen : Begun → Place → laws.Place
-place_seen begun Closed = laws.Closed
-place_seen begun ReadingOtherState = laws.ReadingOtherState begun.handshake
-place_seen begun (Clearing at more state) = laws.Clearing at more state
-place_seen begun (WritingState state) = laws.WritingState state
-place_seen begun Refusing = laws.Refusing
-place_seen begun NotInRun = laws.NotInRun
-place_seen begun ReadingUsedIndex = laws.ReadingUsedIndex (pending_of begun) begun.freed
-place_seen begun (ReadingUsedId freed more) = laws.ReadingUsedId (pending_of begun) freed more
-place_seen begun (WritingFrameWord at more) = laws.WritingFrameWord (pending_of begun) at more
-place_seen begun WritingDescAddressLow = laws.WritingDescAddressLow (pending_of begun)
-place_seen begun WritingDescAddressHigh = laws.WritingDescAddressHigh (pending_of begun)
-place_seen begun WritingDescLength = laws.WritingDescLength (pending_of begun)
-place_seen begun WritingDescFlags = laws.WritingDescFlags (pending_of begun)
-place_seen begun WritingAvailEntry = laws.WritingAvailEntry (pending_of begun)
-place_seen begun WritingAvailIndex = laws.WritingAvailIndex (pending_of begun)
-place_seen begun ReadingAvailEvent = laws.ReadingAvailEvent begun.number
-place_seen begun RingingOffer = laws.RingingOffer
-place_seen begun (ReadingAvailIndex last) = laws.ReadingAvailIndex begun.taken last
-place_seen begun WritingAvailEvent = laws.WritingAvailEvent begun.taken
-place_seen begun (ReadingAvailEntry number more) = laws.ReadingAvailEntry number more
-place_seen begun (ReadingDescAddressLow number more entry) = laws.ReadingDescAddressLow number more entry
-place_seen begun (ReadingDescAddressHigh number more entry low) = laws.ReadingDescAddressHigh number more entry low
-place_seen begun (ReadingDescLength number more entry address) = laws.ReadingDescLength number more entry address
-place_seen begun (ReadingDescFlags number more entry address bytes) = laws.ReadingDescFlags number more entry address bytes
-place_seen begun (ReadingFrameWord number more entry address bytes read words) = laws.ReadingFrameWord number more entry address bytes read.items words
-place_seen begun (WritingUsedId number more entry) = laws.WritingUsedId number more entry
-place_seen begun (WritingUsedLength number more) = laws.WritingUsedLength number more
-place_seen begun (WritingUsedIndex number more) = laws.WritingUsedIndex number more
-place_seen begun RingingPoll = laws.RingingPoll
+abbrev pub place_view : Begun → Place → laws.Place
+place_view begun Closed = laws.Closed
+place_view begun ReadingOtherState = laws.ReadingOtherState begun.handshake
+place_view begun (Clearing at more state) = laws.Clearing at more state
+place_view begun (WritingState state) = laws.WritingState state
+place_view begun Refusing = laws.Refusing
+place_view begun NotInRun = laws.NotInRun
+place_view begun ReadingUsedIndex = laws.ReadingUsedIndex (pending_of begun) begun.freed
+place_view begun (ReadingUsedId freed more) = laws.ReadingUsedId (pending_of begun) freed more
+place_view begun (WritingFrameWord at more) = laws.WritingFrameWord (pending_of begun) at more
+place_view begun WritingDescAddressLow = laws.WritingDescAddressLow (pending_of begun)
+place_view begun WritingDescAddressHigh = laws.WritingDescAddressHigh (pending_of begun)
+place_view begun WritingDescLength = laws.WritingDescLength (pending_of begun)
+place_view begun WritingDescFlags = laws.WritingDescFlags (pending_of begun)
+place_view begun WritingAvailEntry = laws.WritingAvailEntry (pending_of begun)
+place_view begun WritingAvailIndex = laws.WritingAvailIndex (pending_of begun)
+place_view begun ReadingAvailEvent = laws.ReadingAvailEvent begun.number
+place_view begun RingingOffer = laws.RingingOffer
+place_view begun (ReadingAvailIndex last) = laws.ReadingAvailIndex begun.taken last
+place_view begun WritingAvailEvent = laws.WritingAvailEvent begun.taken
+place_view begun (ReadingAvailEntry number more) = laws.ReadingAvailEntry number more
+place_view begun (ReadingDescAddressLow number more entry) = laws.ReadingDescAddressLow number more entry
+place_view begun (ReadingDescAddressHigh number more entry low) = laws.ReadingDescAddressHigh number more entry low
+place_view begun (ReadingDescLength number more entry address) = laws.ReadingDescLength number more entry address
+place_view begun (ReadingDescFlags number more entry address bytes) = laws.ReadingDescFlags number more entry address bytes
+place_view begun (ReadingFrameWord number more entry address bytes read words) = laws.ReadingFrameWord number more entry address bytes read.items words
+place_view begun (WritingUsedId number more entry) = laws.WritingUsedId number more entry
+place_view begun (WritingUsedLength number more) = laws.WritingUsedLength number more
+place_view begun (WritingUsedIndex number more) = laws.WritingUsedIndex number more
+place_view begun RingingPoll = laws.RingingPoll
 
 -- The view of an open call of this crate: its data from its start, and its place. Its place in the
 -- call grammar follows.
@@ -60,7 +60,7 @@ abbrev pub Open : Type 0
 Open = Begun × Place
 
 abbrev pub place_of : Open → laws.Place
-place_of call = place_seen call.0 call.1
+place_of call = place_view call.0 call.1
 
 -- The numbers at a place are so small that no sum overflows 64 bits.
 abbrev pub IsSmall : Place → Type 0
@@ -89,7 +89,7 @@ pub record IsBegun (config : EndConfig) (end : End) (call : Call) (begun : Begun
   pub frame : begun.frame.items ≡ frame_of call
   pub number : begun.number ≡ end.accepted
   pub lengths : begun.lengths.items ≡ end.lengths.items ++ length (frame_of call) ∷ []
-  pub neighbour_word : begun.neighbour_word ≡ stored end.stores.items (config.own + word_offset config.queue (AvailEntry (avail_entry_of (config_seen config) end.accepted)))
+  pub neighbour_word : begun.neighbour_word ≡ stored end.stores.items (config.own + word_offset config.queue (AvailEntry (avail_entry_of (config_view config) end.accepted)))
   pub freed : begun.freed ≡ end.freed
   pub taken : begun.taken ≡ end.delivered
-  pub last : begun.last ≡ is_last (config_seen config) end.found_none
+  pub last : begun.last ≡ is_last (config_view config) end.found_none

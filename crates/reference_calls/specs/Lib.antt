@@ -1,4 +1,4 @@
-pub mod Seen
+pub mod Views
 pub mod Begun
 pub mod Blocks
 pub mod Along

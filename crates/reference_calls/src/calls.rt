@@ -4,28 +4,28 @@ ghost use Rattle.call_grammar.specs.Ends as ends;
 ghost use Rattle.call_grammar.specs.Steps.{value_given};
 ghost use Rattle.call_grammar.specs.Calls.{IsCall};
 ghost use Rattle.call_grammar.specs.Places.{access_at, marks_at, is_open, step_at};
-ghost use Rattle.reference_calls.specs.Seen.{config_seen, call_seen, access_seen, step_seen, steps_seen, IsSeenAs};
-ghost use Rattle.reference_calls.specs.Begun.{place_seen, IsSmall};
+ghost use Rattle.reference_calls.specs.Views.{config_view, call_view, access_view, step_view, steps_view, HasView};
+ghost use Rattle.reference_calls.specs.Begun.{place_view, IsSmall};
 ghost use Rattle.reference_calls.specs.Along.{IsAfter, IsNext};
 
 use crate::marks::marks_at;
 use crate::places::{Begun, Place, access_at, begin, first_place, next_place};
 use crate::steps::same_marks;
 use crate::{Access, Call, End, EndConfig, Step};
-use call_grammar::played_are_calls;
+use call_grammar::replays_are_calls;
 use ivs_base::NoMemory;
 use std::alloc::Global;
 
 /// Whether a call is open at the place.
 fn is_open(place: &Place) -> bool
-    ensures { (begun : Begun) → result ≡ is_open (place_seen begun place.now) }
+    ensures { (begun : Begun) → result ≡ is_open (place_view begun place.now) }
 {
     !matches!(place, Place::Closed)
 }
 
 /// Returns the value of an access that met `value`: `value` if the access is a read, else 0.
 pub fn given(access: Access, value: u32) -> u32
-    ensures { result ≡ value_given (access_seen access) value }
+    ensures { result ≡ value_given (access_view access) value }
 {
     match access {
         Access::Read(_) => value,
@@ -42,8 +42,8 @@ fn is_step_at(
     step: &Step,
 ) -> Result<bool, NoMemory>
     requires { IsSmall place.now }
-    ensures { IfOk result (λ yes. IsTrue yes ↔ ((is_open (place_seen begun.now place.now) ≡ true)
-        × (step_seen step.now ≡ step_at (config_seen config.now) (place_seen begun.now place.now) step.now.value))) }
+    ensures { IfOk result (λ yes. IsTrue yes ↔ ((is_open (place_view begun.now place.now) ≡ true)
+        × (step_view step.now ≡ step_at (config_view config.now) (place_view begun.now place.now) step.now.value))) }
 {
     if !is_open(place) {
         return Ok(false);
@@ -65,7 +65,7 @@ fn place_after(
     steps: &[Step],
 ) -> Result<Option<Place>, NoMemory>
     requires { IsSmall first }
-    ensures { IfOk result (IsAfter (config_seen config.now) begun.now (place_seen begun.now first) (steps_seen steps.now)) }
+    ensures { IfOk result (IsAfter (config_view config.now) begun.now (place_view begun.now first) (steps_view steps.now)) }
 {
     let mut place = first;
     for step in steps {
@@ -88,10 +88,10 @@ pub fn is_call(
     call: &Call,
     steps: &[Step],
 ) -> Result<bool, NoMemory>
-    ensures { IfOk result (λ yes. (seen : ends.End) → IsSeenAs end.now seen →
-        (IsTrue yes ↔ IsCall (config_seen config.now) seen (call_seen call.now) (steps_seen steps.now))) }
+    ensures { IfOk result (λ yes. (seen : ends.End) → HasView end.now seen →
+        (IsTrue yes ↔ IsCall (config_view config.now) seen (call_view call.now) (steps_view steps.now))) }
 {
-    played_are_calls();
+    replays_are_calls();
     let begun = begin(alloc, config, end, call)?;
     let first = first_place(&begun, call);
     let place = match place_after(alloc, config, &begun, first, steps)? {
@@ -114,8 +114,8 @@ pub fn next_step(
     steps: &[Step],
     value: u32,
 ) -> Result<Option<Step>, NoMemory>
-    ensures { IfOk result (λ next. (seen : ends.End) → IsSeenAs end.now seen →
-        IsNext (config_seen config.now) seen (call_seen call.now) (steps_seen steps.now) value next) }
+    ensures { IfOk result (λ next. (seen : ends.End) → HasView end.now seen →
+        IsNext (config_view config.now) seen (call_view call.now) (steps_view steps.now) value next) }
 {
     let begun = begin(alloc, config, end, call)?;
     let first = first_place(&begun, call);

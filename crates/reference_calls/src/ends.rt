@@ -1,6 +1,6 @@
 //! The configuration of an end, its state, and the calls.
 ghost use Rattle.std.specs.Prelude.{◌≡◌};
-ghost use Rattle.reference_calls.specs.Seen.{stored};
+ghost use Rattle.reference_calls.specs.Views.{stored};
 
 use ivs_base::Frame;
 use link_handshake::Handshake;

@@ -3,7 +3,7 @@ ghost use Rattle.std.specs.Prelude.{◌≡◌, ◌∷◌, [], OnOk};
 ghost use Rattle.split_ring.specs.declared.steps.Access.TheVariants.{Write};
 ghost use Rattle.call_grammar.specs.Ends as ends;
 ghost use Rattle.call_grammar.specs.Ends.{fresh, after_reset, with_state, with_access, with_mark, with_marks, end_after};
-ghost use Rattle.reference_calls.specs.Seen.{access_seen, mark_seen, marks_seen, step_seen, IsSeenAs};
+ghost use Rattle.reference_calls.specs.Views.{access_view, mark_view, marks_view, step_view, HasView};
 ghost use Rattle.reference_calls.specs.Following.{IsStorable, HasRoom, HasCounted};
 
 use crate::{Access, End, Mark, Step, Store};
@@ -14,7 +14,7 @@ use std::alloc::Global;
 impl End {
     /// Returns the initial end.
     pub fn fresh(alloc: Global) -> End
-        ensures seen { IsSeenAs result fresh }
+        ensures seen { HasView result fresh }
         ensures accepted { result.accepted ≡ 0 }
         ensures freed { result.freed ≡ 0 }
         ensures delivered { result.delivered ≡ 0 }
@@ -32,7 +32,7 @@ impl End {
 
     /// Resets the end after a reset of its device.
     pub fn reset(&mut self)
-        ensures seen { (seen : ends.End) → IsSeenAs self.old seen → IsSeenAs self.new (after_reset seen) }
+        ensures seen { (seen : ends.End) → HasView self.old seen → HasView self.new (after_reset seen) }
         ensures counts { HasCounted self.old [] self.new }
     {
         self.handshake.reset();
@@ -40,7 +40,7 @@ impl End {
 
     /// Writes State.
     fn set_state(&mut self, state: u32)
-        ensures seen { (seen : ends.End) → IsSeenAs self.old seen → IsSeenAs self.new (with_state seen state) }
+        ensures seen { (seen : ends.End) → HasView self.old seen → HasView self.new (with_state seen state) }
         ensures counts { HasCounted self.old [] self.new }
     {
         self.handshake.enter(phase_of(state));
@@ -55,7 +55,7 @@ impl End {
 
     /// Writes a word.
     fn store(&mut self, word: u32, value: u32) -> Result<(), NoMemory>
-        ensures seen { OnOk result ((seen : ends.End) → IsSeenAs self.old seen → IsSeenAs self.new (with_access seen (Write word value))) }
+        ensures seen { OnOk result ((seen : ends.End) → HasView self.old seen → HasView self.new (with_access seen (Write word value))) }
         ensures counts { OnOk result (HasCounted self.old [] self.new) }
     {
         self.stores.insert(0, Store { word, value })?;
@@ -64,8 +64,8 @@ impl End {
 
     /// Makes the changes of an access.
     fn change(&mut self, access: Access) -> Result<(), NoMemory>
-        requires { IsStorable (access_seen access) }
-        ensures seen { OnOk result ((seen : ends.End) → IsSeenAs self.old seen → IsSeenAs self.new (with_access seen (access_seen access))) }
+        requires { IsStorable (access_view access) }
+        ensures seen { OnOk result ((seen : ends.End) → HasView self.old seen → HasView self.new (with_access seen (access_view access))) }
         ensures counts { OnOk result (HasCounted self.old [] self.new) }
     {
         match access {
@@ -80,9 +80,9 @@ impl End {
 
     /// Counts a mark.
     fn note(&mut self, mark: &Mark) -> Result<(), NoMemory>
-        requires { HasRoom self.old (mark_seen mark.now ∷ []) }
-        ensures seen { OnOk result ((seen : ends.End) → IsSeenAs self.old seen → IsSeenAs self.new (with_mark seen (mark_seen mark.now))) }
-        ensures counts { OnOk result (HasCounted self.old (mark_seen mark.now ∷ []) self.new) }
+        requires { HasRoom self.old (mark_view mark.now ∷ []) }
+        ensures seen { OnOk result ((seen : ends.End) → HasView self.old seen → HasView self.new (with_mark seen (mark_view mark.now))) }
+        ensures counts { OnOk result (HasCounted self.old (mark_view mark.now ∷ []) self.new) }
     {
         match mark {
             Mark::Reclaim(count) => self.freed += *count as u32,
@@ -104,9 +104,9 @@ impl End {
 
     /// Counts these marks.
     fn note_all(&mut self, marks: &[Mark]) -> Result<(), NoMemory>
-        requires { HasRoom self.old (marks_seen marks.now) }
-        ensures seen { OnOk result ((seen : ends.End) → IsSeenAs self.old seen → IsSeenAs self.new (with_marks seen (marks_seen marks.now))) }
-        ensures counts { OnOk result (HasCounted self.old (marks_seen marks.now) self.new) }
+        requires { HasRoom self.old (marks_view marks.now) }
+        ensures seen { OnOk result ((seen : ends.End) → HasView self.old seen → HasView self.new (with_marks seen (marks_view marks.now))) }
+        ensures counts { OnOk result (HasCounted self.old (marks_view marks.now) self.new) }
     {
         for mark in marks {
             self.note(mark)?;
@@ -119,10 +119,10 @@ impl End {
     //    End::fresh.delivered, End::reset.seen, End::reset.counts: An end after a step is that of
     //    the call grammar, and its counts rise by at most the step's marks.
     pub fn follow(&mut self, step: &Step) -> Result<(), NoMemory>
-        requires storable { IsStorable (step_seen step.now).access }
-        requires room { HasRoom self.old (step_seen step.now).marks }
-        ensures seen { OnOk result ((seen : ends.End) → IsSeenAs self.old seen → IsSeenAs self.new (end_after seen (step_seen step.now))) }
-        ensures counts { OnOk result (HasCounted self.old (step_seen step.now).marks self.new) }
+        requires storable { IsStorable (step_view step.now).access }
+        requires room { HasRoom self.old (step_view step.now).marks }
+        ensures seen { OnOk result ((seen : ends.End) → HasView self.old seen → HasView self.new (end_after seen (step_view step.now))) }
+        ensures counts { OnOk result (HasCounted self.old (step_view step.now).marks self.new) }
     {
         self.change(step.access)?;
         self.note_all(step.marks.as_slice())?;

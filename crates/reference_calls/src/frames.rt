@@ -5,7 +5,7 @@ ghost use Rattle.ivs_base.specs.Numbers.{up64};
 ghost use Rattle.split_ring.specs.Layout.{is_byte_ring};
 ghost use Rattle.split_ring.specs.Frames.{is_apart_from};
 ghost use Rattle.call_grammar.specs.Offers.{start_at, frame_fits};
-ghost use Rattle.reference_calls.specs.Seen.{config_seen};
+ghost use Rattle.reference_calls.specs.Views.{config_view};
 ghost use Rattle.reference_calls.specs.Begun.{length_at, pending_of};
 ghost use Rattle.reference_calls.specs.Blocks.{RefinesBlocks, are_apart_blocks};
 
@@ -102,7 +102,7 @@ fn is_apart(config: &EndConfig, begun: &Begun, freed: u64) -> bool
 /// Whether the offered frame fits after `freed` frames were freed.
 pub fn frame_fits(config: &EndConfig, begun: &Begun, freed: u64) -> bool
     requires { freed < 2 ^ 34 }
-    ensures { result ≡ frame_fits (config_seen config.now) (pending_of begun.now) freed }
+    ensures { result ≡ frame_fits (config_view config.now) (pending_of begun.now) freed }
 {
     if u64::from(begun.number) >= freed + u64::from(config.queue.limit()) {
         return false;
@@ -112,7 +112,7 @@ pub fn frame_fits(config: &EndConfig, begun: &Begun, freed: u64) -> bool
 
 /// Returns the byte of the section at which the offered frame starts.
 pub fn start_at(config: &EndConfig, begun: &Begun) -> u64
-    ensures { result ≡ start_at (config_seen config.now) (pending_of begun.now) }
+    ensures { result ≡ start_at (config_view config.now) (pending_of begun.now) }
 {
     let number = u64::from(begun.number);
     if config.queue.is_byte_ring() {

@@ -6,8 +6,8 @@ ghost use Rattle.call_grammar.specs.Ticks.{tick_marks};
 ghost use Rattle.call_grammar.specs.Offers.{full_marks, reclaim_marks, refusal};
 ghost use Rattle.call_grammar.specs.Polls.{look_marks};
 ghost use Rattle.call_grammar.specs.Places.{marks_at};
-ghost use Rattle.reference_calls.specs.Seen.{config_seen, marks_seen};
-ghost use Rattle.reference_calls.specs.Begun.{pending_of, place_seen, IsSmall};
+ghost use Rattle.reference_calls.specs.Views.{config_view, marks_view};
+ghost use Rattle.reference_calls.specs.Begun.{pending_of, place_view, IsSmall};
 
 use crate::frames::frame_fits;
 use crate::places::{Begun, Place};
@@ -41,14 +41,14 @@ fn both(alloc: Global, first: Mark, second: Mark) -> Result<Vec<Mark>, NoMemory>
 
 /// Returns the mark of a refused value.
 fn refuse(alloc: Global, field: FieldName, value: u64) -> Result<Vec<Mark>, NoMemory>
-    ensures { IfOk result (λ marks. marks_seen marks.items ≡ refusal field value) }
+    ensures { IfOk result (λ marks. marks_view marks.items ≡ refusal field value) }
 {
     only(alloc, Mark::Refuse(Refused { field, value }))
 }
 
 /// Returns the marks of a Tick's read.
 fn tick_marks(alloc: Global, value: u32, found: Move) -> Result<Vec<Mark>, NoMemory>
-    ensures { IfOk result (λ marks. marks_seen marks.items ≡ tick_marks value found) }
+    ensures { IfOk result (λ marks. marks_view marks.items ≡ tick_marks value found) }
 {
     match found {
         Move::Stay => both(alloc, Mark::Saw(value), Mark::Over),
@@ -63,7 +63,7 @@ fn used_index_marks(
     begun: &Begun,
     value: u32,
 ) -> Result<Vec<Mark>, NoMemory>
-    ensures { IfOk result (λ marks. marks_seen marks.items ≡ marks_at (config_seen config.now) (place_seen begun.now Place.ReadingUsedIndex) value) }
+    ensures { IfOk result (λ marks. marks_view marks.items ≡ marks_at (config_view config.now) (place_view begun.now Place.ReadingUsedIndex) value) }
 {
     let freed = u64::from(begun.freed);
     let found = published_by(freed, value);
@@ -86,7 +86,7 @@ fn avail_index_marks(
     last: bool,
     value: u32,
 ) -> Result<Vec<Mark>, NoMemory>
-    ensures { IfOk result (λ marks. marks_seen marks.items ≡ marks_at (config_seen config.now) (place_seen begun.now (Place.ReadingAvailIndex last)) value) }
+    ensures { IfOk result (λ marks. marks_view marks.items ≡ marks_at (config_view config.now) (place_view begun.now (Place.ReadingAvailIndex last)) value) }
 {
     let taken = u64::from(begun.taken);
     let found = published_by(taken, value);
@@ -109,7 +109,7 @@ fn word_marks(
     value: u32,
     words: u64,
 ) -> Result<Vec<Mark>, NoMemory>
-    ensures { IfOk result (λ marks. marks_seen marks.items ≡ (if words == 0 then Deliver (frame_in bytes (read.now ++ value ∷ [])) ∷ [] else [])) }
+    ensures { IfOk result (λ marks. marks_view marks.items ≡ (if words == 0 then Deliver (frame_in bytes (read.now ++ value ∷ [])) ∷ [] else [])) }
 {
     if words > 0 {
         return Ok(Vec::new(alloc));
@@ -131,7 +131,7 @@ pub fn marks_at(
     value: u32,
 ) -> Result<Vec<Mark>, NoMemory>
     requires { IsSmall place.now }
-    ensures { IfOk result (λ marks. marks_seen marks.items ≡ marks_at (config_seen config.now) (place_seen begun.now place.now) value) }
+    ensures { IfOk result (λ marks. marks_view marks.items ≡ marks_at (config_view config.now) (place_view begun.now place.now) value) }
 {
     match place {
         Place::ReadingOtherState => tick_marks(alloc, value, begun.handshake.saw(value)),

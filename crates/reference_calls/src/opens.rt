@@ -3,7 +3,7 @@
 ghost use Rattle.std.specs.Prelude.{◌≡◌, IfOk};
 ghost use Rattle.call_grammar.specs.Ends as ends;
 ghost use Rattle.call_grammar.specs.Places.{Closed, first_place, access_at, step_at, next_place, is_open};
-ghost use Rattle.reference_calls.specs.Seen.{config_seen, call_seen, access_seen, step_seen, IsSeenAs};
+ghost use Rattle.reference_calls.specs.Views.{config_view, call_view, access_view, step_view, HasView};
 ghost use Rattle.reference_calls.specs.Begun.{place_of};
 
 use crate::calls::given;
@@ -63,7 +63,7 @@ impl OpenCall {
         end: &End,
         asked: &Call,
     ) -> Result<OpenCall, NoMemory>
-        ensures { IfOk result (λ call. (seen : ends.End) → IsSeenAs end.now seen → place_of call ≡ first_place (config_seen config.now) seen (call_seen asked.now)) }
+        ensures { IfOk result (λ call. (seen : ends.End) → HasView end.now seen → place_of call ≡ first_place (config_view config.now) seen (call_view asked.now)) }
     {
         let begun = begin(alloc, config, end, asked)?;
         let place = first_place(&begun, asked);
@@ -79,7 +79,7 @@ impl OpenCall {
 
     /// Returns the access of the next step.
     pub fn access(&self, config: &EndConfig) -> Access
-        ensures { access_seen result ≡ access_at (config_seen config.now) (place_of self.now) }
+        ensures { access_view result ≡ access_at (config_view config.now) (place_of self.now) }
     {
         access_at(config, &self.begun, &self.place)
     }
@@ -87,7 +87,7 @@ impl OpenCall {
     /// Returns the next step, in which a read meets `value`. Returns `Err(NoMemory)` if an
     /// allocation fails.
     pub fn step(&self, alloc: Global, config: &EndConfig, value: u32) -> Result<Step, NoMemory>
-        ensures { IfOk result (λ step. step_seen step ≡ step_at (config_seen config.now) (place_of self.now) value) }
+        ensures { IfOk result (λ step. step_view step ≡ step_at (config_view config.now) (place_of self.now) value) }
     {
         let access = access_at(config, &self.begun, &self.place);
         let marks = marks_at(alloc, config, &self.begun, &self.place, value)?;
@@ -100,7 +100,7 @@ impl OpenCall {
 
     /// Returns the call after that step. Returns `Err(NoMemory)` if an allocation fails.
     pub fn after(self, alloc: Global, config: &EndConfig, value: u32) -> Result<OpenCall, NoMemory>
-        ensures { IfOk result (λ next. place_of next ≡ next_place (config_seen config.now) (place_of self) value) }
+        ensures { IfOk result (λ next. place_of next ≡ next_place (config_view config.now) (place_of self) value) }
     {
         let OpenCall { begun, place } = self;
         let place = next_place(alloc, config, &begun, place, value)?;

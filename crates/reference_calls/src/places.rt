@@ -7,8 +7,8 @@ ghost use Rattle.call_grammar.specs.Offers.{full_marks, reclaim_marks, refusal};
 ghost use Rattle.call_grammar.specs.Polls.{look_marks};
 ghost use Rattle.call_grammar.specs.Places.{access_at, marks_at, next_place, first_place, is_open, tick_place, clear_place, fill_place, ids_place, notify_place, items_place, words_place};
 ghost use Rattle.call_grammar.specs.Ends as ends;
-ghost use Rattle.reference_calls.specs.Seen.{config_seen, call_seen, access_seen, marks_seen, IsSeenAs};
-ghost use Rattle.reference_calls.specs.Begun.{pending_of, place_seen, IsSmall, IsBegun};
+ghost use Rattle.reference_calls.specs.Views.{config_view, call_view, access_view, marks_view, HasView};
+ghost use Rattle.reference_calls.specs.Begun.{pending_of, place_view, IsSmall, IsBegun};
 
 use crate::frames::{frame_fits, start_at};
 use crate::ranges::*;
@@ -136,7 +136,7 @@ pub enum Place {
 /// Returns the access of the step at a place.
 pub fn access_at(config: &EndConfig, begun: &Begun, place: &Place) -> Access
     requires { IsSmall place.now }
-    ensures { access_seen result ≡ access_at (config_seen config.now) (place_seen begun.now place.now) }
+    ensures { access_view result ≡ access_at (config_view config.now) (place_view begun.now place.now) }
 {
     let own = u64::from(config.own);
     let theirs = u64::from(config.theirs);
@@ -228,7 +228,7 @@ pub fn access_at(config: &EndConfig, begun: &Begun, place: &Place) -> Access
 /// Returns the place before the next write of 0, or after the last one.
 fn clear_place(at: u64, count: u64, state: u32) -> Place
     requires { at + count < 2 ^ 33 }
-    ensures place { (begun : Begun) → place_seen begun result ≡ clear_place at count state }
+    ensures place { (begun : Begun) → place_view begun result ≡ clear_place at count state }
     ensures small { IsSmall result }
 {
     if count == 0 {
@@ -244,7 +244,7 @@ fn clear_place(at: u64, count: u64, state: u32) -> Place
 
 /// Returns the place after a Tick's read.
 fn tick_place(config: &EndConfig, found: Move) -> Place
-    ensures place { (begun : Begun) → place_seen begun result ≡ tick_place (config_seen config.now) found }
+    ensures place { (begun : Begun) → place_view begun result ≡ tick_place (config_view config.now) found }
     ensures small { IsSmall result }
 {
     match found {
@@ -261,7 +261,7 @@ fn tick_place(config: &EndConfig, found: Move) -> Place
 /// Returns the place before the next word of the frame, or after the last one.
 fn fill_place(at: u64, count: u64) -> Place
     requires { at + count < 2 ^ 62 }
-    ensures place { (begun : Begun) → place_seen begun result ≡ fill_place (pending_of begun) at count }
+    ensures place { (begun : Begun) → place_view begun result ≡ fill_place (pending_of begun) at count }
     ensures small { IsSmall result }
 {
     if count == 0 {
@@ -277,7 +277,7 @@ fn fill_place(at: u64, count: u64) -> Place
 /// Returns the place before the next id, or after the last one.
 fn ids_place(config: &EndConfig, begun: &Begun, freed: u64, count: u64) -> Place
     requires { freed + count < 2 ^ 33 }
-    ensures place { place_seen begun.now result ≡ ids_place (config_seen config.now) (pending_of begun.now) freed count }
+    ensures place { place_view begun.now result ≡ ids_place (config_view config.now) (pending_of begun.now) freed count }
     ensures small { IsSmall result }
 {
     if count > 0 {
@@ -294,7 +294,7 @@ fn ids_place(config: &EndConfig, begun: &Begun, freed: u64, count: u64) -> Place
 
 /// Returns the place after the write of the available index.
 fn notify_place(config: &EndConfig) -> Place
-    ensures place { (begun : Begun) → place_seen begun result ≡ notify_place (config_seen config.now) begun.number }
+    ensures place { (begun : Begun) → place_view begun result ≡ notify_place (config_view config.now) begun.number }
     ensures small { IsSmall result }
 {
     if config.queue.has_events() {
@@ -307,7 +307,7 @@ fn notify_place(config: &EndConfig) -> Place
 /// Returns the place before the next item, or after the last one.
 fn items_place(number: u64, count: u64) -> Place
     requires { number + count < 2 ^ 33 }
-    ensures place { (begun : Begun) → place_seen begun result ≡ items_place number count }
+    ensures place { (begun : Begun) → place_view begun result ≡ items_place number count }
     ensures small { IsSmall result }
 {
     if count == 0 {
@@ -331,7 +331,7 @@ fn words_place(
     words: u64,
 ) -> Place
     requires { number + more + 1 < 2 ^ 33 }
-    ensures place { (begun : Begun) → place_seen begun result ≡ words_place number more entry address bytes read.items words }
+    ensures place { (begun : Begun) → place_view begun result ≡ words_place number more entry address bytes read.items words }
     ensures small { IsSmall result }
 {
     if words == 0 {
@@ -362,7 +362,7 @@ pub fn next_place(
     value: u32,
 ) -> Result<Place, NoMemory>
     requires { IsSmall place }
-    ensures place { IfOk result (λ next. place_seen begun.now next ≡ next_place (config_seen config.now) (place_seen begun.now place) value) }
+    ensures place { IfOk result (λ next. place_view begun.now next ≡ next_place (config_view config.now) (place_view begun.now place) value) }
     ensures small { IfOk result (λ next. IsSmall next) }
 {
     let next = match place {
@@ -500,7 +500,7 @@ pub fn next_place(
 
 /// Returns the place after an offer's read of the used index.
 fn after_used_index(config: &EndConfig, begun: &Begun, value: u32) -> Place
-    ensures place { place_seen begun.now result ≡ next_place (config_seen config.now) (place_seen begun.now Place.ReadingUsedIndex) value }
+    ensures place { place_view begun.now result ≡ next_place (config_view config.now) (place_view begun.now Place.ReadingUsedIndex) value }
     ensures small { IsSmall result }
 {
     let freed = u64::from(begun.freed);
@@ -514,7 +514,7 @@ fn after_used_index(config: &EndConfig, begun: &Begun, value: u32) -> Place
 
 /// Returns the place after a poll's read of the available index.
 fn after_avail_index(config: &EndConfig, begun: &Begun, last: bool, value: u32) -> Place
-    ensures place { place_seen begun.now result ≡ next_place (config_seen config.now) (place_seen begun.now (Place.ReadingAvailIndex last)) value }
+    ensures place { place_view begun.now result ≡ next_place (config_view config.now) (place_view begun.now (Place.ReadingAvailIndex last)) value }
     ensures small { IsSmall result }
 {
     let taken = u64::from(begun.taken);
@@ -555,8 +555,8 @@ pub fn begin(alloc: Global, config: &EndConfig, end: &End, call: &Call) -> Resul
 
 /// Returns the place at which a call begins.
 pub fn first_place(begun: &Begun, call: &Call) -> Place
-    ensures place { (config : EndConfig) (end : End) (seen : ends.End) → IsBegun config end call.now begun.now → IsSeenAs end seen →
-        place_seen begun.now result ≡ first_place (config_seen config) seen (call_seen call.now) }
+    ensures place { (config : EndConfig) (end : End) (seen : ends.End) → IsBegun config end call.now begun.now → HasView end seen →
+        place_view begun.now result ≡ first_place (config_view config) seen (call_view call.now) }
     ensures small { IsSmall result }
 {
     let runs = matches!(begun.handshake.phase(), Phase::Run);

@@ -6,7 +6,7 @@ ghost use Rattle.split_ring.specs.Spelling.{high_half, low_half, entry_half};
 ghost use Rattle.call_grammar.specs.Words.{index_word, with_entry, address_of, words_for, frame_word, frame_in};
 ghost use Rattle.call_grammar.specs.Offers.{descriptor_of, avail_entry_of, wants_doorbell};
 ghost use Rattle.call_grammar.specs.Polls.{published_by};
-ghost use Rattle.reference_calls.specs.Seen.{config_seen};
+ghost use Rattle.reference_calls.specs.Views.{config_view};
 
 use crate::EndConfig;
 use ivs_base::{Frame, NoMemory, up64, word_of};
@@ -15,14 +15,14 @@ use std::alloc::Global;
 
 /// Returns the descriptor of the frame with this number.
 pub fn descriptor_of(config: &EndConfig, number: u64) -> u32
-    ensures { result ≡ descriptor_of (config_seen config.now) number }
+    ensures { result ≡ descriptor_of (config_view config.now) number }
 {
     (number % u64::from(config.queue.limit())) as u32
 }
 
 /// Returns the position in the available ring of the entry with this number.
 pub fn entry_of(config: &EndConfig, number: u64) -> u32
-    ensures { result ≡ avail_entry_of (config_seen config.now) number }
+    ensures { result ≡ avail_entry_of (config_view config.now) number }
 {
     (number % u64::from(config.queue.size())) as u32
 }

@@ -13,31 +13,31 @@ use Rattle.lawful_history.specs.History.{acted_step}
 use Rattle.reference_history.specs.Reading.{Meets}
 use Rattle.lawful_history.specs.Schedule as schedule
 use Rattle.lawful_history.specs.Schedule.{event_peer}
-use Rattle.reference_calls.specs.Seen.{call_seen, access_seen}
+use Rattle.reference_calls.specs.Views.{call_view, access_view}
 use Rattle.reference_history.specs.DeviceEvents.{FitsDoorbell}
 use Rattle.reference_history.specs.declared.events.Event.{Event}
 use Rattle.reference_history.specs.declared.events.Event.TheVariants.{Asked, Automated, Stormed, Turned, Acted, WasReset, Reached, Loses, Repeated}
 use Rattle.reference_history.specs.declared.events.DeviceAccess.{DeviceAccess}
 use Rattle.reference_history.specs.declared.events.DeviceAccess.TheVariants.{ReadsConfig, WritesConfig, ReadsRegister, WritesRegister, ReadsMsix, WritesMsix}
 
-abbrev pub device_access_seen : DeviceAccess → schedule.DeviceAccess
-device_access_seen (ReadsConfig offset width) = schedule.ReadsConfig offset width
-device_access_seen (WritesConfig offset width value) = schedule.WritesConfig offset width value
-device_access_seen (ReadsRegister offset) = schedule.ReadsRegister offset
-device_access_seen (WritesRegister offset value) = schedule.WritesRegister offset value
-device_access_seen (ReadsMsix offset) = schedule.ReadsMsix offset
-device_access_seen (WritesMsix offset value) = schedule.WritesMsix offset value
+abbrev pub device_access_view : DeviceAccess → schedule.DeviceAccess
+device_access_view (ReadsConfig offset width) = schedule.ReadsConfig offset width
+device_access_view (WritesConfig offset width value) = schedule.WritesConfig offset width value
+device_access_view (ReadsRegister offset) = schedule.ReadsRegister offset
+device_access_view (WritesRegister offset value) = schedule.WritesRegister offset value
+device_access_view (ReadsMsix offset) = schedule.ReadsMsix offset
+device_access_view (WritesMsix offset value) = schedule.WritesMsix offset value
 
-abbrev pub event_seen : Event → schedule.Event
-event_seen (Asked peer call) = schedule.CallQueued peer (call_seen call)
-event_seen (Automated peer expected) = schedule.AutoStarted peer expected
-event_seen (Stormed peer seed) = schedule.StormStarted peer seed
-event_seen (Turned peer) = schedule.TurnTaken peer
-event_seen (Acted peer a) = schedule.RegionAccessed peer (access_seen a)
-event_seen (WasReset peer) = schedule.DeviceReset peer
-event_seen (Reached peer a) = schedule.DeviceAccessed peer (device_access_seen a)
-event_seen (Loses peer) = schedule.InterruptDropped peer
-event_seen (Repeated peer vector) = schedule.InterruptRepeated peer vector
+abbrev pub event_view : Event → schedule.Event
+event_view (Asked peer call) = schedule.CallQueued peer (call_view call)
+event_view (Automated peer expected) = schedule.AutoStarted peer expected
+event_view (Stormed peer seed) = schedule.StormStarted peer seed
+event_view (Turned peer) = schedule.TurnTaken peer
+event_view (Acted peer a) = schedule.RegionAccessed peer (access_view a)
+event_view (WasReset peer) = schedule.DeviceReset peer
+event_view (Reached peer a) = schedule.DeviceAccessed peer (device_access_view a)
+event_view (Loses peer) = schedule.InterruptDropped peer
+event_view (Repeated peer vector) = schedule.InterruptRepeated peer vector
 
 -- The number of a written word has 32 bits.
 abbrev pub HasWord : Access → Type 0

@@ -2,5 +2,5 @@ pub mod Reading
 pub mod DeviceEvents
 pub mod Peers
 pub mod Events
-pub mod Moments
+pub mod ReferenceStates
 pub mod Marks

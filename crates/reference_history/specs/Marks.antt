@@ -10,9 +10,9 @@ abbrev pub newest_mark : List Line → List Line
 newest_mark [] = []
 newest_mark (line ∷ older) = if is_session line then line ∷ [] else []
 
-abbrev pub mark_seen : Option (Bor Line) → List Line
-mark_seen None = []
-mark_seen (Some mark) = mark.now ∷ []
+abbrev pub mark_of_newest : Option (Bor Line) → List Line
+mark_of_newest None = []
+mark_of_newest (Some mark) = mark.now ∷ []
 
 -- The mark that is due after these lines, if it is due to a peer.
 abbrev pub mark_of : World → List Line → Option ℕ → List Line

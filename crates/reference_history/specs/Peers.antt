@@ -4,7 +4,7 @@ use Rattle.call_grammar.specs.Automatic as laws
 use Rattle.call_grammar.specs.Calls.{EndConfig}
 use Rattle.call_grammar.specs.Places.{Place, ReadingUsedIndex, remaining}
 use Rattle.reference_calls.specs.declared.ends.End.{End}
-use Rattle.reference_calls.specs.Seen.{call_seen, IsSeenAs}
+use Rattle.reference_calls.specs.Views.{call_view, HasView}
 use Rattle.reference_calls.specs.Begun.{place_of}
 use Rattle.lawful_history.specs.Peers as history
 use Rattle.reference_history.specs.declared.peers.Round.{Round}
@@ -16,24 +16,24 @@ use Rattle.reference_history.specs.declared.peers.Driver.{Driver}
 use Rattle.reference_history.specs.declared.peers.Driver.TheVariants.{Waits, Chooses, Storms}
 use Rattle.reference_history.specs.declared.peers.Peer.{Peer}
 
-abbrev pub round_seen : Round → laws.Round
-round_seen Anew = laws.Anew
-round_seen AfterOffer = laws.AfterOffer
-round_seen AfterPoll = laws.AfterPoll
+abbrev pub round_view : Round → laws.Round
+round_view Anew = laws.Anew
+round_view AfterOffer = laws.AfterOffer
+round_view AfterPoll = laws.AfterPoll
 
-abbrev pub choice_seen : Choice → laws.Choice
-choice_seen Tick = laws.ChoosesTick
-choice_seen (Offer frame) = laws.ChoosesOffer frame
-choice_seen Poll = laws.ChoosesPoll
-choice_seen Finished = laws.IsFinished
+abbrev pub choice_view : Choice → laws.Choice
+choice_view Tick = laws.ChoosesTick
+choice_view (Offer frame) = laws.ChoosesOffer frame
+choice_view Poll = laws.ChoosesPoll
+choice_view Finished = laws.IsFinished
 
-abbrev pub auto_seen : Auto → history.Auto
-auto_seen auto = record { frames = auto.frames.items; expected = auto.expected; delivered = auto.delivered; round = round_seen auto.round }
+abbrev pub auto_view : Auto → history.Auto
+auto_view auto = record { frames = auto.frames.items; expected = auto.expected; delivered = auto.delivered; round = round_view auto.round }
 
-abbrev pub driver_seen : Driver → history.Driver
-driver_seen Waits = history.Waits
-driver_seen (Chooses auto) = history.Chooses (auto_seen auto)
-driver_seen (Storms x) = history.Storms x
+abbrev pub driver_view : Driver → history.Driver
+driver_view Waits = history.Waits
+driver_view (Chooses auto) = history.Chooses (auto_view auto)
+driver_view (Storms x) = history.Storms x
 
 -- Each count of the end is at most `most`.
 pub record AreFew (most : ℕ) (end : End) : Type 0 where
@@ -55,10 +55,10 @@ HasFew most (Storms x) = Unit {0}
 
 -- The peer represents this peer of the history, and its counts are at most `most`.
 pub record IsPeer (config : EndConfig) (most : ℕ) (seen : Peer) (peer : history.Peer) : Type 0 where
-  pub end : IsSeenAs seen.end peer.end
+  pub end : HasView seen.end peer.end
   pub left : remaining config (place_of seen.call) ≡ peer.left
-  pub waiting : map call_seen seen.waiting.items ≡ peer.waiting
-  pub driver : driver_seen seen.driver ≡ peer.driver
+  pub waiting : map call_view seen.waiting.items ≡ peer.waiting
+  pub driver : driver_view seen.driver ≡ peer.driver
   pub few : AreFew most seen.end
   pub fresh : IsFresh most seen.end (place_of seen.call)
   pub delivered : HasFew most seen.driver

@@ -4,7 +4,7 @@ ghost use Rattle.doorbell_irq.specs.Events as device;
 ghost use Rattle.doorbell_irq.specs.Events.{WasReset};
 ghost use Rattle.doorbell_irq.specs.Refinement.{Refines, peer_count};
 ghost use Rattle.doorbell_irq.specs.DeviceRules.{effect_of};
-ghost use Rattle.reference_calls.specs.Seen.{access_seen};
+ghost use Rattle.reference_calls.specs.Views.{access_view};
 ghost use Rattle.lawful_history.specs.Sides.{world_of};
 ghost use Rattle.lawful_history.specs.Device.{devices_of, device_event_of, with_device_event, device_events};
 ghost use Rattle.reference_history.specs.DeviceEvents.{FitsDevices, AllFitDevices, FitsDoorbell, device_event_of_access, brought};
@@ -16,7 +16,7 @@ use reference_calls::Access;
 use scenario_text::Scenario;
 
 /// Applies the device event of a line to the devices.
-fn tell(devices: &mut Device, line: &Line)
+fn apply_line(devices: &mut Device, line: &Line)
     requires { FitsDevices (peer_count devices.old) line.now }
     ensures refines { (world : device.Devices) (events : List device.Event) → Refines world events devices.old →
         Refines world (with_device_event (device_event_of line.now) events) devices.new }
@@ -69,7 +69,7 @@ pub fn devices_after(scenario: &Scenario, lines: &[Line]) -> Device
 {
     let mut devices = Device::new(&scenario.geometry, scenario.wiring);
     for line in lines {
-        tell(&mut devices, line);
+        apply_line(&mut devices, line);
     }
     devices
 }
@@ -82,9 +82,9 @@ pub fn interrupted_by(
     lines: &[Line],
 ) -> ArrayVec<Delivery, 8>
     requires peer { me < scenario.now.geometry.peers }
-    requires fits { FitsDoorbell (access_seen access) }
-    requires told { AllFitDevices scenario.now.geometry.peers (reverse lines.now) }
-    ensures { result.items ≡ brought (devices_of (world_of scenario.now)) (device_events (reverse lines.now)) (device_event_of_access me (access_seen access)) }
+    requires fits { FitsDoorbell (access_view access) }
+    requires recorded { AllFitDevices scenario.now.geometry.peers (reverse lines.now) }
+    ensures { result.items ≡ brought (devices_of (world_of scenario.now)) (device_events (reverse lines.now)) (device_event_of_access me (access_view access)) }
 {
     match access {
         Access::State(state) => {
@@ -105,7 +105,7 @@ pub fn interrupted_by(
 /// Returns the interrupts that a device reset of a peer causes after these lines.
 pub fn interrupted_by_reset(scenario: &Scenario, me: u32, lines: &[Line]) -> ArrayVec<Delivery, 8>
     requires peer { me < scenario.now.geometry.peers }
-    requires told { AllFitDevices scenario.now.geometry.peers (reverse lines.now) }
+    requires recorded { AllFitDevices scenario.now.geometry.peers (reverse lines.now) }
     ensures { result.items ≡ brought (devices_of (world_of scenario.now)) (device_events (reverse lines.now)) (Some (WasReset me)) }
 {
     let mut devices = devices_after(scenario, lines);

@@ -2,7 +2,7 @@
 ghost use Rattle.std.specs.Prelude.{◌≡◌, IfOk, replicate};
 ghost use Rattle.scenario_text.specs.Acts.{cost};
 ghost use Rattle.lawful_history.specs.Schedule.{events_of, event_peer, register_event};
-ghost use Rattle.reference_history.specs.Events.{event_seen};
+ghost use Rattle.reference_history.specs.Events.{event_view};
 
 use doorbell_irq::{REGISTER_DOORBELL, REGISTER_STATE, doorbell_target, doorbell_vector};
 use ivs_base::{Frame, NoMemory};
@@ -54,7 +54,7 @@ pub enum Event {
 impl Event {
     /// Returns the peer of the event.
     pub fn peer(&self) -> u32
-        ensures { result ≡ event_peer (event_seen self.now) }
+        ensures { result ≡ event_peer (event_view self.now) }
     {
         match self {
             Event::Asked { peer, .. }
@@ -73,7 +73,7 @@ impl Event {
 /// Returns the event of a write to a register. A write of State or of the Doorbell is the access
 /// that writes it.
 fn register_event(peer: u32, offset: u32, value: u32) -> Event
-    ensures { event_seen result ≡ register_event peer offset value }
+    ensures { event_view result ≡ register_event peer offset value }
 {
     if offset == REGISTER_STATE {
         Event::Acted {
@@ -98,7 +98,7 @@ fn register_event(peer: u32, offset: u32, value: u32) -> Event
 
 /// Returns the event of an act, which occurs as many times as the act counts.
 pub fn event_of(alloc: Global, act: &Act) -> Result<Event, NoMemory>
-    ensures { IfOk result (λ event. events_of act.now ≡ replicate (cost act.now) (event_seen event)) }
+    ensures { IfOk result (λ event. events_of act.now ≡ replicate (cost act.now) (event_view event)) }
 {
     Ok(match act {
         Act::Tick { peer } => asked(*peer, Call::Tick),

@@ -1,6 +1,6 @@
 //! The lines of interrupts.
 ghost use Rattle.std.specs.Prelude.{◌≡◌, ℕ, ◌≤◌, ◌∷◌, ◌++◌, Some, IfSome, List, length, reverse};
-ghost use Rattle.lawful_history.specs.Device.{lost_by, lost_count, arrival, arrived};
+ghost use Rattle.lawful_history.specs.Device.{lost_by, lost_count, delivery_line, delivery_lines};
 ghost use Rattle.reference_history.specs.Reading.{Reads, HasLosses};
 
 use crate::lines::read_line;
@@ -39,7 +39,7 @@ fn read_arrival(
 ) -> Option<usize>
     requires { read ≤ length lines.now }
     ensures reads { (past : List Line) (lost : ℕ → ℕ) → Reads lines.now past (Some read) → HasLosses losses.now lost →
-        Reads lines.now (arrival past lost delivery.now ∷ past) result }
+        Reads lines.now (delivery_line past lost delivery.now ∷ past) result }
     ensures within { IfSome result (λ at. at ≤ length lines.now) }
 {
     let Delivery { peer, vector } = *delivery;
@@ -53,7 +53,7 @@ fn read_arrival(
 }
 
 /// Reads the lines of interrupts in order.
-pub fn read_arrivals(
+pub fn read_interrupts(
     losses: &[u64; 8],
     lines: &[Line],
     read: usize,
@@ -61,7 +61,7 @@ pub fn read_arrivals(
 ) -> Option<usize>
     requires { read ≤ length lines.now }
     ensures { (past : List Line) (lost : ℕ → ℕ) → Reads lines.now past (Some read) → HasLosses losses.now lost →
-        Reads lines.now (reverse (arrived past lost deliveries.now) ++ past) result }
+        Reads lines.now (reverse (delivery_lines past lost deliveries.now) ++ past) result }
 {
     let mut at = read;
     for delivery in deliveries {

@@ -31,7 +31,7 @@ ghost use Rattle.lawful_history.specs.Sides.{world_of};
 ghost use Rattle.lawful_history.specs.Lawful.{IsLawful, IsLawfulIn};
 ghost use Rattle.lawful_history.specs.Sessions.{recorded_in};
 ghost use Rattle.reference_history.specs.Events.{IsAct};
-ghost use Rattle.reference_history.specs.Moments.{IsMoment, GoesOn};
+ghost use Rattle.reference_history.specs.ReferenceStates.{RefinesState, GoesOn};
 
 mod devices;
 mod events;
@@ -39,8 +39,8 @@ mod interrupts;
 mod lines;
 mod marks;
 mod memory;
-mod moments;
 mod peers;
+mod reference_state;
 mod sides;
 mod steps;
 mod storms;
@@ -48,9 +48,9 @@ mod turns;
 
 use events::event_of;
 use ivs_base::NoMemory;
-use lawful_history::{Line, Lines, history_is_lawful, one_history, records_tell_one_history};
+use lawful_history::{Line, Lines, history_is_lawful, one_history, records_hold_one_history};
 use marks::without_marks;
-use moments::Moment;
+use reference_state::ReferenceState;
 use scenario_text::{Act, Scenario};
 use std::alloc::Global;
 
@@ -59,13 +59,13 @@ fn read_act(
     alloc: Global,
     scenario: &Scenario,
     lines: &[Line],
-    moment: &mut Moment,
+    moment: &mut ReferenceState,
     act: &Act,
 ) -> Result<bool, NoMemory>
     requires act { IsAct (world_of scenario.now) act.now }
-    requires here { (count : ℕ) × (at : history.HistoryState) × IsMoment (world_of scenario.now) lines.now count at moment.old × (count + cost act.now ≤ MOST_ACTS) }
+    requires here { (count : ℕ) × (at : history.HistoryState) × RefinesState (world_of scenario.now) lines.now count at moment.old × (count + cost act.now ≤ MOST_ACTS) }
     ensures { let world = world_of scenario.now in
-        IfOk result (λ yes. (count : ℕ) (at : history.HistoryState) → IsMoment world lines.now count at moment.old →
+        IfOk result (λ yes. (count : ℕ) (at : history.HistoryState) → RefinesState world lines.now count at moment.old →
         GoesOn world lines.now (count + cost act.now) (run world (events_of act.now) at) moment.new yes) }
 {
     for _k in 0..act.cost() {
@@ -84,7 +84,7 @@ fn is_history(alloc: Global, scenario: Scenario, lines: &[Line]) -> Result<bool,
 {
     one_history();
     history_is_lawful();
-    let mut moment = Moment::beginning(alloc, &scenario)?;
+    let mut moment = ReferenceState::beginning(alloc, &scenario)?;
     for act in scenario.acts.items() {
         let goes_on = read_act(alloc, &scenario, lines, &mut moment, act)?;
         if !goes_on {
@@ -97,8 +97,8 @@ fn is_history(alloc: Global, scenario: Scenario, lines: &[Line]) -> Result<bool,
 /// Whether these lines are a record's lines, in this version, of a lawful history of the scenario.
 /// In version 2 the marks of sessions must be where they are due; the other lines are the lines of
 /// a history. Returns `Err(NoMemory)` if an allocation fails.
-// claim lawful, told: `is_lawful` answers yes exactly if the lines are what a record of the version
-//    holds of a lawful history of the scenario, and that is the computed one.
+// claim lawful, recorded: `is_lawful` answers yes exactly if the lines are what a record of the
+//    version holds of a lawful history of the scenario, and that is the computed one.
 pub fn is_lawful(
     alloc: Global,
     scenario: Scenario,
@@ -107,9 +107,9 @@ pub fn is_lawful(
 ) -> Result<bool, NoMemory>
     ensures lawful { IfOk result (λ yes. IsTrue yes ↔ IsLawfulIn (world_of scenario) version lines) }
     // There is one such history, the computed one.
-    ensures told { let world = world_of scenario in IfOk result (λ yes. IsTrue yes ↔ lines ≡ recorded_in world version (history.history world)) }
+    ensures recorded { let world = world_of scenario in IfOk result (λ yes. IsTrue yes ↔ lines ≡ recorded_in world version (history.history world)) }
 {
-    records_tell_one_history();
+    records_hold_one_history();
     let Some(history) = without_marks(&scenario, version, lines.into_items()) else {
         return Ok(false);
     };

@@ -4,7 +4,7 @@ ghost use Rattle.scenario_text.specs.Scenario.{is_link};
 ghost use Rattle.lawful_history.specs.Sides.{partner, world_of};
 ghost use Rattle.lawful_history.specs.Sessions.{writes_state, opened_in, is_interrupt, enters_run, session_mark, marks_before, is_session, without_sessions};
 ghost use Rattle.lawful_history.specs.Lawful.{IsLawful, IsLawfulIn};
-ghost use Rattle.reference_history.specs.Marks.{newest_mark, mark_seen, mark_of, Stands, AllStand};
+ghost use Rattle.reference_history.specs.Marks.{newest_mark, mark_of_newest, mark_of, Stands, AllStand};
 
 use lawful_history::{Line, versions_differ_in_marks};
 use scenario_text::Scenario;
@@ -130,7 +130,7 @@ fn is_mark(scenario: &Scenario, lines: &[Line], peer: u32, mark: &Line) -> bool
 
 /// Returns the mark of a session with which these lines end.
 fn last_mark(lines: &[Line]) -> Option<&Line>
-    ensures { newest_mark (reverse lines.now) ≡ mark_seen result }
+    ensures { newest_mark (reverse lines.now) ≡ mark_of_newest result }
 {
     let last = lines.last()?;
     if is_session(last) { Some(last) } else { None }

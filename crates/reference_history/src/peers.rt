@@ -4,12 +4,12 @@ ghost use Rattle.call_grammar.specs.Automatic.{choice_of};
 ghost use Rattle.call_grammar.specs.Calls as laws;
 ghost use Rattle.call_grammar.specs.Calls.{tree_of};
 ghost use Rattle.call_grammar.specs.Places.{Closed, is_open, step_at, next_place, remaining};
-ghost use Rattle.reference_calls.specs.Seen.{config_seen, call_seen, mark_seen, marks_seen, step_seen};
+ghost use Rattle.reference_calls.specs.Views.{config_view, call_view, mark_view, marks_view, step_view};
 ghost use Rattle.reference_calls.specs.Begun.{place_of};
 ghost use Rattle.reference_calls.specs.Following.{IsStorable};
 ghost use Rattle.lawful_history.specs.Peers as history;
 ghost use Rattle.lawful_history.specs.Peers.{with_call, automated, stormed, was_reset, at_start, opened, chosen, counted, counted_all, driver_after, stepped};
-ghost use Rattle.reference_history.specs.Peers.{IsPeer, HasFew, round_seen, auto_seen, choice_seen, driver_seen};
+ghost use Rattle.reference_history.specs.Peers.{IsPeer, HasFew, round_view, auto_view, choice_view, driver_view};
 
 use call_grammar::places_follow_trees;
 use ivs_base::{Frame, NoMemory};
@@ -83,7 +83,7 @@ impl Auto {
     /// Counts a mark.
     fn count(&mut self, mark: &Mark)
         requires { self.old.delivered < 2 ^ 64 - 1 }
-        ensures counted { auto_seen self.new ≡ counted (auto_seen self.old) (mark_seen mark.now) }
+        ensures counted { auto_view self.new ≡ counted (auto_view self.old) (mark_view mark.now) }
         ensures few { self.new.delivered ≤ self.old.delivered + 1 }
     {
         match mark {
@@ -108,7 +108,7 @@ impl Auto {
     /// Counts these marks.
     fn count_all(&mut self, marks: &[Mark])
         requires { self.old.delivered + length marks.now < 2 ^ 64 - 1 }
-        ensures counted { auto_seen self.new ≡ counted_all (auto_seen self.old) (marks_seen marks.now) }
+        ensures counted { auto_view self.new ≡ counted_all (auto_view self.old) (marks_view marks.now) }
         ensures few { self.new.delivered ≤ self.old.delivered + length marks.now }
     {
         for mark in marks {
@@ -118,8 +118,8 @@ impl Auto {
 
     /// Returns the choice in this phase.
     fn choose(&self, alloc: Global, phase: Phase) -> Result<Choice, NoMemory>
-        ensures { IfOk result (λ choice. choice_seen choice ≡
-            choice_of phase (round_seen self.now.round) self.now.frames.items self.now.delivered self.now.expected) }
+        ensures { IfOk result (λ choice. choice_view choice ≡
+            choice_of phase (round_view self.now.round) self.now.frames.items self.now.delivered self.now.expected) }
     {
         if self.frames.is_empty() && self.delivered >= self.expected {
             return Ok(Choice::Finished);
@@ -155,7 +155,7 @@ impl Peer {
     /// to its frames.
     pub fn ask(&mut self, call: Call) -> Result<(), NoMemory>
         ensures { OnOk result ((config : laws.EndConfig) (most : ℕ) (peer : history.Peer) → IsPeer config most self.old peer →
-            IsPeer config most self.new (with_call peer (call_seen call))) }
+            IsPeer config most self.new (with_call peer (call_view call))) }
     {
         match (&mut self.driver, call) {
             (Driver::Chooses(auto), Call::Offer(frame)) => auto.frames.push(frame)?,
@@ -197,8 +197,8 @@ impl Peer {
 
     /// Opens a call.
     fn begin(&mut self, alloc: Global, config: &EndConfig, call: &Call) -> Result<(), NoMemory>
-        ensures { OnOk result ((most : ℕ) (peer : history.Peer) → IsPeer (config_seen config.now) most self.old peer →
-            IsPeer (config_seen config.now) most self.new (record peer { left = tree_of (config_seen config.now) peer.end (call_seen call.now) })) }
+        ensures { OnOk result ((most : ℕ) (peer : history.Peer) → IsPeer (config_view config.now) most self.old peer →
+            IsPeer (config_view config.now) most self.new (record peer { left = tree_of (config_view config.now) peer.end (call_view call.now) })) }
     {
         places_follow_trees();
         self.call = OpenCall::open(alloc, config, &self.end, call)?;
@@ -208,7 +208,7 @@ impl Peer {
     /// Sets the position in the round of an automatic end.
     fn set_round(&mut self, round: Round)
         ensures { (config : laws.EndConfig) (most : ℕ) (peer : history.Peer) (auto : history.Auto) → peer.driver ≡ history.Chooses auto →
-            IsPeer config most self.old peer → IsPeer config most self.new (record peer { driver = history.Chooses (record auto { round = round_seen round }) }) }
+            IsPeer config most self.old peer → IsPeer config most self.new (record peer { driver = history.Chooses (record auto { round = round_view round }) }) }
     {
         if let Driver::Chooses(auto) = &mut self.driver {
             auto.round = round;
@@ -223,11 +223,11 @@ impl Peer {
         call: &Call,
         round: Round,
     ) -> Result<(), NoMemory>
-        ensures { let config = config_seen config.now in
+        ensures { let config = config_view config.now in
             OnOk result ((most : ℕ) (peer : history.Peer) (auto : history.Auto) → peer.driver ≡ history.Chooses auto →
             IsPeer config most self.old peer → IsPeer config most self.new (record peer {
-              left = tree_of config peer.end (call_seen call.now);
-              driver = history.Chooses (record auto { round = round_seen round });
+              left = tree_of config peer.end (call_view call.now);
+              driver = history.Chooses (record auto { round = round_view round });
             })) }
     {
         self.set_round(round);
@@ -237,7 +237,7 @@ impl Peer {
 
     /// Opens the call that an automatic end chooses, if it chooses one.
     fn choose(&mut self, alloc: Global, config: &EndConfig) -> Result<(), NoMemory>
-        ensures { let config = config_seen config.now in
+        ensures { let config = config_view config.now in
             OnOk result ((most : ℕ) (peer : history.Peer) → IsPeer config most self.old peer →
             IsPeer config most self.new (chosen config peer peer.driver)) }
     {
@@ -260,7 +260,7 @@ impl Peer {
     /// Opens the next call if none is open: the oldest waiting call, else the call that an
     /// automatic end chooses.
     pub fn open_next(&mut self, alloc: Global, config: &EndConfig) -> Result<(), NoMemory>
-        ensures { let config = config_seen config.now in
+        ensures { let config = config_view config.now in
             OnOk result ((most : ℕ) (peer : history.Peer) → IsPeer config most self.old peer → IsPeer config most self.new (opened config peer)) }
     {
         if self.call.is_open() {
@@ -278,7 +278,7 @@ impl Peer {
     /// Counts the marks of a step for an automatic end.
     fn count(&mut self, marks: &[Mark])
         requires { (most : ℕ) × HasFew most self.old.driver × (most + length marks.now < 2 ^ 64 - 1) }
-        ensures counted { driver_seen self.new.driver ≡ driver_after (driver_seen self.old.driver) (marks_seen marks.now) }
+        ensures counted { driver_view self.new.driver ≡ driver_after (driver_view self.old.driver) (marks_view marks.now) }
         ensures few { (most : ℕ) → HasFew most self.old.driver → HasFew (most + length marks.now) self.new.driver }
         ensures kept { (self.new.end ≡ self.old.end) × (self.new.call ≡ self.old.call) × (self.new.waiting ≡ self.old.waiting) }
     {
@@ -295,12 +295,12 @@ impl Peer {
         step: &Step,
         met: u32,
     ) -> Result<(), NoMemory>
-        requires next { step_seen step.now ≡ step_at (config_seen config.now) (place_of self.old.call) met }
-        requires storable { IsStorable (step_seen step.now).access }
-        requires few { (most : ℕ) × (peer : history.Peer) × IsPeer (config_seen config.now) most self.old peer × (most + 2 < 2 ^ 32) }
-        ensures { let config = config_seen config.now in
+        requires next { step_view step.now ≡ step_at (config_view config.now) (place_of self.old.call) met }
+        requires storable { IsStorable (step_view step.now).access }
+        requires few { (most : ℕ) × (peer : history.Peer) × IsPeer (config_view config.now) most self.old peer × (most + 2 < 2 ^ 32) }
+        ensures { let config = config_view config.now in
             OnOk result ((most : ℕ) (peer : history.Peer) → IsPeer config most self.old peer →
-            IsPeer config (most + 2) self.new (stepped peer (step_seen step.now) (remaining config (next_place config (place_of self.old.call) met)))) }
+            IsPeer config (most + 2) self.new (stepped peer (step_view step.now) (remaining config (next_place config (place_of self.old.call) met)))) }
     {
         self.end.follow(step)?;
         self.count(step.marks.as_slice());

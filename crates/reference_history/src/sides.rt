@@ -1,6 +1,6 @@
 //! A peer and the other link peer.
 ghost use Rattle.std.specs.Prelude.{◌≡◌, ◌<◌, ◌^◌};
-ghost use Rattle.reference_calls.specs.Seen.{config_seen};
+ghost use Rattle.reference_calls.specs.Views.{config_view};
 ghost use Rattle.lawful_history.specs.Sides.{traffic_vector, world_of, config_of, partner};
 
 use pci_space::Wiring;
@@ -21,7 +21,7 @@ fn traffic_vector(wiring: Wiring) -> u32
 /// Returns the configuration of the peer.
 pub fn config_of(scenario: &Scenario, me: u32) -> EndConfig
     requires { me < scenario.now.geometry.peers }
-    ensures config { config_seen result ≡ config_of (world_of scenario.now) me }
+    ensures config { config_view result ≡ config_of (world_of scenario.now) me }
     ensures small { (result.other < 2 ^ 16) × (result.vector < 2 ^ 16) }
 {
     let other = if me == 0 { 1 } else { 0 };

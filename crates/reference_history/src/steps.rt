@@ -1,6 +1,6 @@
 //! The lines of a step: its access, the interrupts that it causes, and its marks.
 ghost use Rattle.std.specs.Prelude.{◌≡◌, ◌↔◌, ℕ, ◌<◌, ◌∷◌, [], ◌++◌, ◌≤◌, IsTrue, Some, IfSome, OnSome, List, length, map, reverse};
-ghost use Rattle.reference_calls.specs.Seen.{access_seen, mark_seen, marks_seen, step_seen};
+ghost use Rattle.reference_calls.specs.Views.{access_view, mark_view, marks_view, step_view};
 ghost use Rattle.reference_calls.specs.Following.{IsStorable};
 ghost use Rattle.lawful_history.specs.EventRecords.{access_lines, mark_line, step_lines};
 ghost use Rattle.lawful_history.specs.Device.{step_interrupts};
@@ -9,16 +9,16 @@ ghost use Rattle.reference_history.specs.Reading.{Reads, HasLosses, Meets};
 ghost use Rattle.reference_history.specs.DeviceEvents.{AllFitDevices, FitsDoorbell};
 
 use crate::devices::interrupted_by;
-use crate::interrupts::read_arrivals;
+use crate::interrupts::read_interrupts;
 use crate::memory::last_write;
 use lawful_history::Line;
 use reference_calls::{Access, Mark, Step};
 use scenario_text::Scenario;
 
 /// Whether this is the line of the access that met this value.
-fn is_told(me: u32, access: Access, met: u32, line: &Line) -> bool
-    ensures told { IsTrue result ↔ access_lines me (access_seen access) met ≡ line.now ∷ [] }
-    ensures storable { IsTrue result → IsStorable (access_seen access) }
+fn is_line_of_step(me: u32, access: Access, met: u32, line: &Line) -> bool
+    ensures line { IsTrue result ↔ access_lines me (access_view access) met ≡ line.now ∷ [] }
+    ensures storable { IsTrue result → IsStorable (access_view access) }
 {
     match access {
         Access::Read(at) => match line {
@@ -52,14 +52,14 @@ fn is_told(me: u32, access: Access, met: u32, line: &Line) -> bool
 /// Reads the line of an access that met this value.
 fn read_access(me: u32, access: Access, met: u32, lines: &[Line], read: usize) -> Option<usize>
     ensures reads { (past : List Line) → Reads lines.now past (Some read) →
-        Reads lines.now (reverse (access_lines me (access_seen access) met) ++ past) result }
+        Reads lines.now (reverse (access_lines me (access_view access) met) ++ past) result }
     ensures within { IfSome result (λ at. read ≤ length lines.now → at ≤ length lines.now) }
-    ensures storable { OnSome result (IsStorable (access_seen access)) }
+    ensures storable { OnSome result (IsStorable (access_view access)) }
 {
     if access == Access::Nothing {
         return Some(read);
     }
-    if read < lines.len() && is_told(me, access, met, &lines[read]) {
+    if read < lines.len() && is_line_of_step(me, access, met, &lines[read]) {
         Some(read + 1)
     } else {
         None
@@ -68,7 +68,7 @@ fn read_access(me: u32, access: Access, met: u32, lines: &[Line], read: usize) -
 
 /// Whether this is the line of the mark.
 fn is_marked(me: u32, mark: &Mark, line: &Line) -> bool
-    ensures { IsTrue result ↔ mark_line me (mark_seen mark.now) ≡ line.now }
+    ensures { IsTrue result ↔ mark_line me (mark_view mark.now) ≡ line.now }
 {
     match line {
         Line::Saw { peer, value } => *peer == me && mark.is(&Mark::Saw(*value)),
@@ -94,7 +94,7 @@ fn is_marked(me: u32, mark: &Mark, line: &Line) -> bool
 
 /// Reads the line of a mark.
 fn read_mark(me: u32, mark: &Mark, lines: &[Line], read: usize) -> Option<usize>
-    ensures { (past : List Line) → Reads lines.now past (Some read) → Reads lines.now (mark_line me (mark_seen mark.now) ∷ past) result }
+    ensures { (past : List Line) → Reads lines.now past (Some read) → Reads lines.now (mark_line me (mark_view mark.now) ∷ past) result }
 {
     if read < lines.len() && is_marked(me, mark, &lines[read]) {
         Some(read + 1)
@@ -105,7 +105,7 @@ fn read_mark(me: u32, mark: &Mark, lines: &[Line], read: usize) -> Option<usize>
 
 /// Reads the lines of marks.
 fn read_marks(me: u32, marks: &[Mark], lines: &[Line], read: usize) -> Option<usize>
-    ensures { (past : List Line) → Reads lines.now past (Some read) → Reads lines.now (reverse (map (mark_line me) (marks_seen marks.now)) ++ past) result }
+    ensures { (past : List Line) → Reads lines.now past (Some read) → Reads lines.now (reverse (map (mark_line me) (marks_view marks.now)) ++ past) result }
 {
     let mut at = read;
     for mark in marks {
@@ -120,7 +120,7 @@ fn read_marks(me: u32, marks: &[Mark], lines: &[Line], read: usize) -> Option<us
 /// Returns the value that an access meets after these lines: the word's value if it is a read, else
 /// 0.
 pub fn met_by(access: Access, lines: &[Line]) -> u32
-    ensures { Meets (reverse lines.now) (access_seen access) result }
+    ensures { Meets (reverse lines.now) (access_view access) result }
 {
     match access {
         Access::Read(word) => last_write(lines, word),
@@ -138,18 +138,18 @@ pub fn read_step(
     read: usize,
 ) -> Option<usize>
     requires peer { me < scenario.now.geometry.peers }
-    requires fits { FitsDoorbell (access_seen step.now.access) }
-    requires told { (past : List Line) × Reads lines.now past (Some read) × AllFitDevices scenario.now.geometry.peers past }
+    requires fits { FitsDoorbell (access_view step.now.access) }
+    requires recorded { (past : List Line) × Reads lines.now past (Some read) × AllFitDevices scenario.now.geometry.peers past }
     ensures reads { (past : List Line) (lost : ℕ → ℕ) → Reads lines.now past (Some read) → HasLosses losses.now lost →
-        Reads lines.now (reverse (step_lines me (step_seen step.now)
-        (step_interrupts (world_of scenario.now) past lost me (Some (step_seen step.now)))) ++ past) result }
-    ensures storable { OnSome result (IsStorable (access_seen step.now.access)) }
+        Reads lines.now (reverse (step_lines me (step_view step.now)
+        (step_interrupts (world_of scenario.now) past lost me (Some (step_view step.now)))) ++ past) result }
+    ensures storable { OnSome result (IsStorable (access_view step.now.access)) }
 {
     let Some(at) = read_access(me, step.access, step.value, lines, read) else {
         return None;
     };
     let deliveries = interrupted_by(scenario, me, step.access, &lines[..read]);
-    let Some(at) = read_arrivals(losses, lines, at, deliveries.as_slice()) else {
+    let Some(at) = read_interrupts(losses, lines, at, deliveries.as_slice()) else {
         return None;
     };
     read_marks(me, step.marks.as_slice(), lines, at)

@@ -1,6 +1,6 @@
 //! The steps of a storm.
 ghost use Rattle.std.specs.Prelude.{◌≡◌, ◌<◌};
-ghost use Rattle.reference_calls.specs.Seen.{access_seen, step_seen};
+ghost use Rattle.reference_calls.specs.Views.{access_view, step_view};
 ghost use Rattle.lawful_history.specs.Sides.{world_of};
 ghost use Rattle.lawful_history.specs.Storm.{next_number, draw, drawn_access, storm_step, storm_after};
 ghost use Rattle.reference_history.specs.DeviceEvents.{FitsDoorbell};
@@ -27,8 +27,8 @@ fn draw(x: u64) -> u32
 /// Returns the access of three draws.
 fn drawn_access(scenario: &Scenario, me: u32, kind: u32, place: u32, value: u32) -> Access
     requires { me < scenario.now.geometry.peers }
-    ensures access { access_seen result ≡ drawn_access (world_of scenario.now) me kind place value }
-    ensures fits { FitsDoorbell (access_seen result) }
+    ensures access { access_view result ≡ drawn_access (world_of scenario.now) me kind place value }
+    ensures fits { FitsDoorbell (access_view result) }
 {
     let geometry = &scenario.geometry;
     let start = u64::from(geometry.section_start(me));
@@ -50,8 +50,8 @@ fn drawn_access(scenario: &Scenario, me: u32, kind: u32, place: u32, value: u32)
 /// Returns the step of a storm whose generator has the state x.
 pub fn storm_step(alloc: Global, scenario: &Scenario, me: u32, x: u64) -> Step
     requires { me < scenario.now.geometry.peers }
-    ensures step { step_seen result ≡ storm_step (world_of scenario.now) me x }
-    ensures fits { FitsDoorbell (access_seen result.access) }
+    ensures step { step_view result ≡ storm_step (world_of scenario.now) me x }
+    ensures fits { FitsDoorbell (access_view result.access) }
 {
     let first = next_number(x);
     let second = next_number(first);

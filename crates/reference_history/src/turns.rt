@@ -4,22 +4,22 @@ ghost use Rattle.lawful_history.specs.declared.line.Line.TheVariants.{Reset};
 ghost use Rattle.call_grammar.specs.Calls as laws;
 ghost use Rattle.call_grammar.specs.Places.{is_open};
 ghost use Rattle.reference_calls.specs.Begun.{place_of};
-ghost use Rattle.reference_calls.specs.Seen.{config_seen, access_seen};
+ghost use Rattle.reference_calls.specs.Views.{config_view, access_view};
 ghost use Rattle.lawful_history.specs.Schedule.{event_peer};
 ghost use Rattle.lawful_history.specs.Sides.{world_of, config_of};
 ghost use Rattle.lawful_history.specs.EventRecords.{turn_lines, region_access_lines};
 ghost use Rattle.lawful_history.specs.Peers as history;
-ghost use Rattle.lawful_history.specs.Device.{arrivals, step_interrupts, device_access_line};
+ghost use Rattle.lawful_history.specs.Device.{interrupts_of_line, step_interrupts, device_access_line};
 ghost use Rattle.lawful_history.specs.History.{driven_step, driven, step_by, moved, turn_step, turned, acted_step};
 ghost use Rattle.reference_history.specs.Reading.{Reads, HasLosses};
 ghost use Rattle.reference_history.specs.DeviceEvents.{AllFitDevices, FitsDoorbell};
 ghost use Rattle.reference_history.specs.Peers.{IsPeer};
-ghost use Rattle.reference_history.specs.Events.{event_seen, device_access_seen, HasWord, IsPlaced, IsDenied, CanHappen};
-ghost use Rattle.reference_history.specs.Moments.{GoesTo, GoesBy};
+ghost use Rattle.reference_history.specs.Events.{event_view, device_access_view, HasWord, IsPlaced, IsDenied, CanHappen};
+ghost use Rattle.reference_history.specs.ReferenceStates.{GoesTo, GoesBy};
 
 use crate::devices::{devices_after, interrupted_by_reset};
 use crate::events::{DeviceAccess, Event};
-use crate::interrupts::read_arrivals;
+use crate::interrupts::read_interrupts;
 use crate::lines::read_line;
 use crate::peers::{Driver, Peer};
 use crate::sides::config_of;
@@ -46,14 +46,14 @@ fn read_call(
     requires there { me < scenario.now.geometry.peers }
     requires fits { (config.now.other < 2 ^ 16) × (config.now.vector < 2 ^ 16) }
     requires open { is_open (place_of peer.old.call) ≡ true }
-    requires few { (most : ℕ) × (it : history.Peer) × IsPeer (config_seen config.now) most peer.old it × (most + 2 < 2 ^ 32) }
-    requires told { (past : List Line) × Reads lines.now past (Some read) × AllFitDevices scenario.now.geometry.peers past }
+    requires few { (most : ℕ) × (it : history.Peer) × IsPeer (config_view config.now) most peer.old it × (most + 2 < 2 ^ 32) }
+    requires recorded { (past : List Line) × Reads lines.now past (Some read) × AllFitDevices scenario.now.geometry.peers past }
     ensures { let world = world_of scenario.now in
         IfOk result (λ at. (past : List Line) (lost : ℕ → ℕ) (most : ℕ) (it : history.Peer) → Reads lines.now past (Some read) →
         AllFitDevices world.geometry.peers past → HasLosses losses.now lost →
-        IsPeer (config_seen config.now) most peer.old it → let step = step_by world me it.driver it.left past in
+        IsPeer (config_view config.now) most peer.old it → let step = step_by world me it.driver it.left past in
         GoesTo world lines.now (reverse (turn_lines me step (step_interrupts world past lost me step)) ++ past)
-        (config_seen config.now) (most + 2) (moved it past) peer.new at) }
+        (config_view config.now) (most + 2) (moved it past) peer.new at) }
 {
     places_follow_trees();
     let met = met_by(peer.call.access(config), &lines[..read]);
@@ -76,7 +76,7 @@ fn read_driver(
     read: usize,
 ) -> Option<usize>
     requires there { me < scenario.now.geometry.peers }
-    requires told { (past : List Line) × Reads lines.now past (Some read) × AllFitDevices scenario.now.geometry.peers past }
+    requires recorded { (past : List Line) × Reads lines.now past (Some read) × AllFitDevices scenario.now.geometry.peers past }
     ensures { let world = world_of scenario.now in
         (past : List Line) (lost : ℕ → ℕ) (config : laws.EndConfig) (most : ℕ) (it : history.Peer) → Reads lines.now past (Some read) →
         AllFitDevices world.geometry.peers past → HasLosses losses.now lost → IsPeer config most peer.old it → let step = driven_step world me it.driver in
@@ -105,7 +105,7 @@ fn read_turn(
 ) -> Result<Option<usize>, NoMemory>
     requires there { me < scenario.now.geometry.peers }
     requires few { (most : ℕ) × (it : history.Peer) × IsPeer (config_of (world_of scenario.now) me) most peer.old it × (most + 2 < 2 ^ 32) }
-    requires told { (past : List Line) × Reads lines.now past (Some read) × AllFitDevices scenario.now.geometry.peers past }
+    requires recorded { (past : List Line) × Reads lines.now past (Some read) × AllFitDevices scenario.now.geometry.peers past }
     ensures { let world = world_of scenario.now in
         IfOk result (λ at. (past : List Line) (lost : ℕ → ℕ) (most : ℕ) (it : history.Peer) → Reads lines.now past (Some read) →
         AllFitDevices world.geometry.peers past → HasLosses losses.now lost → IsPeer (config_of world me) most peer.old it → let step = turn_step world me it past in
@@ -125,8 +125,8 @@ fn read_turn(
 /// write.
 fn denied_word(scenario: &Scenario, me: u32, access: Access) -> Option<u32>
     requires there { me < scenario.now.geometry.peers }
-    requires fits { HasWord (access_seen access) }
-    ensures { IsDenied (world_of scenario.now) me (access_seen access) result }
+    requires fits { HasWord (access_view access) }
+    ensures { IsDenied (world_of scenario.now) me (access_view access) result }
 {
     match access {
         Access::Write(word, _) => {
@@ -152,9 +152,9 @@ fn read_access_of(
     read: usize,
 ) -> Option<usize>
     requires there { me < scenario.now.geometry.peers }
-    requires fits { FitsDoorbell (access_seen access) × HasWord (access_seen access) }
-    requires told { (past : List Line) × Reads lines.now past (Some read) × AllFitDevices scenario.now.geometry.peers past }
-    ensures { let world = world_of scenario.now in let a = access_seen access in
+    requires fits { FitsDoorbell (access_view access) × HasWord (access_view access) }
+    requires recorded { (past : List Line) × Reads lines.now past (Some read) × AllFitDevices scenario.now.geometry.peers past }
+    ensures { let world = world_of scenario.now in let a = access_view access in
         (past : List Line) (lost : ℕ → ℕ) → Reads lines.now past (Some read) → HasLosses losses.now lost →
         let step = acted_step world me a past in
         Reads lines.now (reverse (region_access_lines me a step (step_interrupts world past lost me step)) ++ past) result }
@@ -179,24 +179,24 @@ fn read_reset(
     read: usize,
 ) -> Option<usize>
     requires there { me < scenario.now.geometry.peers }
-    requires told { (past : List Line) × Reads lines.now past (Some read) × AllFitDevices scenario.now.geometry.peers past }
+    requires recorded { (past : List Line) × Reads lines.now past (Some read) × AllFitDevices scenario.now.geometry.peers past }
     ensures { let world = world_of scenario.now in
         (past : List Line) (lost : ℕ → ℕ) → Reads lines.now past (Some read) → HasLosses losses.now lost →
-        Reads lines.now (reverse (Reset me ∷ arrivals world past lost (Reset me)) ++ past) result }
+        Reads lines.now (reverse (Reset me ∷ interrupts_of_line world past lost (Reset me)) ++ past) result }
 {
     let Some(at) = read_line(lines, read, &Line::Reset { peer: me }) else {
         return None;
     };
     let deliveries = interrupted_by_reset(scenario, me, &lines[..read]);
-    read_arrivals(losses, lines, at, deliveries.as_slice())
+    read_interrupts(losses, lines, at, deliveries.as_slice())
 }
 
 /// Returns the line of a device access after these lines.
 fn reached_line(scenario: &Scenario, me: u32, access: DeviceAccess, lines: &[Line]) -> Line
     requires there { me < scenario.now.geometry.peers }
-    requires placed { IsPlaced (device_access_seen access) }
-    requires told { AllFitDevices scenario.now.geometry.peers (reverse lines.now) }
-    ensures { result ≡ device_access_line (world_of scenario.now) (reverse lines.now) me (device_access_seen access) }
+    requires placed { IsPlaced (device_access_view access) }
+    requires recorded { AllFitDevices scenario.now.geometry.peers (reverse lines.now) }
+    ensures { result ≡ device_access_line (world_of scenario.now) (reverse lines.now) me (device_access_view access) }
 {
     let device = devices_after(scenario, lines);
     match access {
@@ -252,11 +252,11 @@ pub fn read_event(
     lines: &[Line],
     read: usize,
 ) -> Result<Option<usize>, NoMemory>
-    requires can { CanHappen (world_of scenario.now) (event_seen event) }
+    requires can { CanHappen (world_of scenario.now) (event_view event) }
     requires few { (most : ℕ) × (it : history.Peer) ×
-        IsPeer (config_of (world_of scenario.now) (event_peer (event_seen event))) most peer.old it × (most + 2 < 2 ^ 32) }
-    requires told { (past : List Line) × Reads lines.now past (Some read) × AllFitDevices scenario.now.geometry.peers past }
-    ensures { IfOk result (λ at. GoesBy (world_of scenario.now) lines.now losses.now (event_seen event) read peer.old peer.new at) }
+        IsPeer (config_of (world_of scenario.now) (event_peer (event_view event))) most peer.old it × (most + 2 < 2 ^ 32) }
+    requires recorded { (past : List Line) × Reads lines.now past (Some read) × AllFitDevices scenario.now.geometry.peers past }
+    ensures { IfOk result (λ at. GoesBy (world_of scenario.now) lines.now losses.now (event_view event) read peer.old peer.new at) }
 {
     match event {
         Event::Asked { call, .. } => {

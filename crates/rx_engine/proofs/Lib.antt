@@ -1,4 +1,4 @@
-pub mod Numbers
-pub mod Gathering
-pub mod Words
-pub mod Stretching
+pub mod ModularNumbers
+pub mod GatheredFrame
+pub mod FrameReads
+pub mod FrameBursts

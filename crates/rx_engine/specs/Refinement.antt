@@ -13,21 +13,21 @@ use Rattle.rx_engine.specs.declared.place.Place.{Place}
 use Rattle.rx_engine.specs.declared.place.Place.TheVariants.{Closed, ReadingAvailIndex, WritingAvailEvent, ReadingAvailEntry, ReadingDescAddressLow, ReadingDescAddressHigh, ReadingDescLength, ReadingDescFlags, ReadingFrameWord, WritingUsedId, WritingUsedLength, WritingUsedIndex, Ringing, Refusing}
 
 -- The place of the grammar, from the number of the current item and the words read of its frame.
-abbrev pub place_seen : ℕ → List ℕ → Place → laws.Place
-place_seen number read Closed = laws.Closed
-place_seen number read (ReadingAvailIndex last) = laws.ReadingAvailIndex number last
-place_seen number read WritingAvailEvent = laws.WritingAvailEvent number
-place_seen number read (ReadingAvailEntry more) = laws.ReadingAvailEntry number more
-place_seen number read (ReadingDescAddressLow more entry) = laws.ReadingDescAddressLow number more entry
-place_seen number read (ReadingDescAddressHigh more entry low) = laws.ReadingDescAddressHigh number more entry low
-place_seen number read (ReadingDescLength more entry address) = laws.ReadingDescLength number more entry address
-place_seen number read (ReadingDescFlags more entry address bytes) = laws.ReadingDescFlags number more entry address bytes
-place_seen number read (ReadingFrameWord more entry address bytes at) = laws.ReadingFrameWord number more entry address bytes read (words_for bytes - (at + 1))
-place_seen number read (WritingUsedId more entry) = laws.WritingUsedId number more entry
-place_seen number read (WritingUsedLength more) = laws.WritingUsedLength number more
-place_seen number read (WritingUsedIndex more) = laws.WritingUsedIndex number more
-place_seen number read Ringing = laws.RingingPoll
-place_seen number read Refusing = laws.Refusing
+abbrev pub place_view : ℕ → List ℕ → Place → laws.Place
+place_view number read Closed = laws.Closed
+place_view number read (ReadingAvailIndex last) = laws.ReadingAvailIndex number last
+place_view number read WritingAvailEvent = laws.WritingAvailEvent number
+place_view number read (ReadingAvailEntry more) = laws.ReadingAvailEntry number more
+place_view number read (ReadingDescAddressLow more entry) = laws.ReadingDescAddressLow number more entry
+place_view number read (ReadingDescAddressHigh more entry low) = laws.ReadingDescAddressHigh number more entry low
+place_view number read (ReadingDescLength more entry address) = laws.ReadingDescLength number more entry address
+place_view number read (ReadingDescFlags more entry address bytes) = laws.ReadingDescFlags number more entry address bytes
+place_view number read (ReadingFrameWord more entry address bytes at) = laws.ReadingFrameWord number more entry address bytes read (words_for bytes - (at + 1))
+place_view number read (WritingUsedId more entry) = laws.WritingUsedId number more entry
+place_view number read (WritingUsedLength more) = laws.WritingUsedLength number more
+place_view number read (WritingUsedIndex more) = laws.WritingUsedIndex number more
+place_view number read Ringing = laws.RingingPoll
+place_view number read Refusing = laws.Refusing
 
 -- The receiver was made for this configuration: its fixed parameters are the configuration's.
 pub record IsMadeFor (rx : Receiver) (config : EndConfig) : Type 0 where
@@ -65,7 +65,7 @@ pub record RefinesAt (rx : Receiver) (config : EndConfig) (end : End) (place : l
   pub read : List ℕ
   pub read_count : length read ≡ words_read rx.place
   pub gathered : rx.gathered ≡ flat_map word_bytes read
-  pub place_is : place ≡ place_seen end.returned read rx.place
+  pub place_is : place ≡ place_view end.returned read rx.place
 
 -- The frame delivered last after the step at a place that met `value`: the next frame if its last
 -- word was read, else the frame before.

@@ -11,8 +11,8 @@ use Rattle.rx_engine.specs.declared.receiver.Rx.TheInside.{Inside}
 abbrev pub longest_frame : Sizes → ℕ
 longest_frame q = min LONGEST_FRAME (data_area_len q)
 
-abbrev pub seen : Inside → Receiver
-seen a = record {
+abbrev pub receiver_of : Inside → Receiver
+receiver_of a = record {
   sizes = a.queue;
   own = a.own;
   theirs = a.theirs;

@@ -9,7 +9,7 @@ ghost use Rattle.call_grammar.specs.Words.{word_bytes, words_for};
 ghost use Rattle.call_grammar.specs.Bursts.{StepsThrough, ReadsBurst, WritesBurst};
 ghost use Rattle.call_grammar.specs.Orders.{word_kind};
 ghost use Rattle.call_grammar.specs.Places as laws;
-ghost use Rattle.call_grammar.specs.Reach.{HasSections, IsPermittedAccess};
+ghost use Rattle.call_grammar.specs.Permitted.{HasSections, IsPermittedAccess};
 ghost use Rattle.rx_engine.specs.Receiver.{fresh_receiver, renewed, is_last, is_armed, is_busy, reads_ahead, frame_ahead, writes_ahead, given, words_read, IsReached, KeepsNumbers};
 ghost use Rattle.rx_engine.specs.Refinement.{IsMadeFor, IsFreshSession, RefinesAt, rings, TakesStep, StaysOpen, IdleEngineOutlivesSteps};
 
@@ -49,9 +49,9 @@ impl Model for Rx {
 
     ghost Value = { Receiver };
 
-    ghost use Rattle.rx_engine.specs.Representation.{seen, IsWellFormed};
+    ghost use Rattle.rx_engine.specs.Representation.{receiver_of, IsWellFormed};
 
-    ghost view = { seen };
+    ghost view = { receiver_of };
 
     ghost invariant = { IsWellFormed };
 }
@@ -164,7 +164,7 @@ impl Rx {
     /// Returns the next access of the open poll.
     // claim access, reach: The next access is that of the receiver's place in the grammar, and is
     //    permitted.
-    #[tactic(auto, using(crate::proofs::Numbers::ring_place))]
+    #[tactic(auto, using(crate::proofs::ModularNumbers::ring_place))]
     pub fn next(&self) -> Access
         requires { is_busy self.now ≡ true }
         ensures access { (config : EndConfig) (end : End) (place : laws.Place) → RefinesAt self.now config end place → result ≡ laws.access_at config place }

@@ -17,7 +17,7 @@ use Rattle.sampling_port.specs.Views.{PortView, IsPlace, writing_place}
 use Rattle.sampling_port.specs.EventRecords.{Line, Wrote, Marked}
 use Rattle.sampling_port.specs.Memory.{last_write}
 use Rattle.sampling_port.proofs.Bytes.{IsByte}
-use Rattle.sampling_port.proofs.Reaching.{length_place_least, length_place_most}
+use Rattle.sampling_port.proofs.CallsArePermitted.{length_place_least, length_place_most}
 
 -- Words of the writer's section
 

@@ -25,11 +25,11 @@ use Rattle.sampling_port.specs.Schedule.{PortCall, Publish, Sample, Event, CallQ
 use Rattle.sampling_port.specs.EventRecords.{Line, EventRecord, event_of, mark_lines, step_lines, lines_by, lines_of, own_entries}
 use Rattle.sampling_port.specs.Memory.{MemoryLaw}
 use Rattle.sampling_port.specs.Order.{asked_for, mark_of_step, published_with, published_in, last_with, last_got, Progress, initial_progress, tree_of, begins_by, begins, CallStep, EventStep, noted, IsCallSequence}
-use Rattle.sampling_port.specs.History.{PeerState, HistoryState, opening, met, opened, opened_by, met_by, may_write, step_in, seat_in, entry_of, after_event, run, initial_state, HistoryIsLawful}
+use Rattle.sampling_port.specs.History.{PeerState, HistoryState, opening, met, opened, opened_by, met_by, may_write, step_in, peer_state_in, entry_of, after_event, run, initial_state, HistoryIsLawful}
 use Rattle.sampling_port.specs.Simulator.{IsPermittedEvent, IsPermittedCall}
-use Rattle.sampling_port.proofs.Telling.{may_of, may_true}
-use Rattle.sampling_port.proofs.Runs.{Kept, opened_kept, kept_on, fresh_kept, there_below, all_there, few_events}
-use Rattle.sampling_port.proofs.Reaching.{length_place_most}
+use Rattle.sampling_port.proofs.RecordedLines.{may_of, may_true}
+use Rattle.sampling_port.proofs.OneMoreEvent.{Kept, opened_kept, kept_on, fresh_kept, there_below, all_there, few_events}
+use Rattle.sampling_port.proofs.CallsArePermitted.{length_place_most}
 
 -- The effect of a step on the numbers of a port
 
@@ -204,7 +204,7 @@ poked_quiet word value false = refl
 pub event_keeps : PortsFollowCalls → (world : World) (n : ℕ) (peer_state : PeerState) (peer : Progress) (past : List Line) (event : Event) → world.geometry.peers ≤ 8 → n < 4000001 → Kept world (event_peer event) n peer_state →
     Keeps world (event_peer event) peer_state peer →
     (mid : Progress) × EventStep world (event_peer event) peer event (step_in world.geometry peer_state past event) mid
-    × Keeps world (event_peer event) (seat_in peer_state past event) (noted mid (record { event = event; went = step_in world.geometry peer_state past event }))
+    × Keeps world (event_peer event) (peer_state_in peer_state past event) (noted mid (record { event = event; went = step_in world.geometry peer_state past event }))
 event_keeps follow world n peer_state peer past (CallQueued p call) eight small kept keeps = (
   peer,
   (refl, refl),
@@ -341,7 +341,7 @@ serves_from follow world n moment event others q peer eight small there kept kee
     let same : p ≡ q = eqb-true p q is in
     let mine : Keeps world p (moment.peer_states p) peer = subst (λ (k : ℕ). Keeps world k (moment.peer_states k) peer) (sym same) keeps in
     let on = event_keeps follow world n (moment.peer_states p) peer moment.past event eight (omega arith) (kept p (there_below world event there)) mine in
-    let here : Keeps world q (seat_in (moment.peer_states p) moment.past event) (noted on.0 (entry_of world.geometry moment event)) = subst (λ (k : ℕ). Keeps world k (seat_in (moment.peer_states p) moment.past event) (noted on.0 (entry_of world.geometry moment event))) same on.2 in
+    let here : Keeps world q (peer_state_in (moment.peer_states p) moment.past event) (noted on.0 (entry_of world.geometry moment event)) = subst (λ (k : ℕ). Keeps world k (peer_state_in (moment.peer_states p) moment.past event) (noted on.0 (entry_of world.geometry moment event))) same on.2 in
     let then_ : Keeps world q ((after_event world.geometry moment event).peer_states q) (noted on.0 (entry_of world.geometry moment event)) = rw is here in
     let others_served = rest (noted on.0 (entry_of world.geometry moment event)) then_ in
     (others_served.0, (on.0, subst (λ (k : ℕ). EventStep world k peer event (step_in world.geometry (moment.peer_states p) moment.past event) on.0) same on.1, others_served.1))
@@ -372,7 +372,7 @@ history_lem follow world is =
       entries,
       record {
         events = f.scheduled;
-        told = sym (reverse-reverse (flat_map lines_of entries)) ∙ ap reverse (sym (append-nil (reverse (flat_map lines_of entries))) ∙ f.lines);
+        recorded = sym (reverse-reverse (flat_map lines_of entries)) ∙ ap reverse (sym (append-nil (reverse (flat_map lines_of entries))) ∙ f.lines);
         memory = rw reverse-reverse f.law;
         calls = λ p. served follow world events 0 moment p initial_progress is.few few there kept (fresh_keeps world p);
       },

@@ -9,7 +9,7 @@ use Rattle.sampling_port.specs.Marks.{PortMark}
 use Rattle.sampling_port.specs.Trees.{Ended, PortStep, port_step, Makes, unmarked_step}
 use Rattle.sampling_port.specs.Calls.{read_length, read_words, look_again, is_length}
 use Rattle.sampling_port.specs.Laws.{IsReadOnce, FieldsAreReadOnce}
-use Rattle.sampling_port.proofs.Reaching.{length_place_least}
+use Rattle.sampling_port.proofs.CallsArePermitted.{length_place_least}
 
 abbrev reads : List PortStep → List ℕ
 reads steps = reads_of (map unmarked_step steps)

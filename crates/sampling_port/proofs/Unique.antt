@@ -160,9 +160,9 @@ same_entries world past peers (d ∷ ds) (d' ∷ ds') same f f' =
     ap (λ x. x ∷ ds) now.0 ∙ ap (λ xs. d' ∷ xs) tails
 
 follows : (world : World) (lines : List Line) (entries : List EventRecord) → IsLawfulBy world lines entries → Follows world [] (λ p. initial_progress) entries
-follows world lines entries by = record { law = rw append-nil (rw (← by.told) at by.memory); calls = by.calls }
+follows world lines entries by = record { law = rw append-nil (rw (← by.recorded) at by.memory); calls = by.calls }
 
 pub one_history_lem : HasOneHistory
 one_history_lem world lines others lawful lawful' =
     let same = same_entries world [] (λ p. initial_progress) lawful.0 lawful'.0 (lawful.1.events ∙ sym lawful'.1.events) (follows world lines lawful.0 lawful.1) (follows world others lawful'.0 lawful'.1) in
-    sym lawful.1.told ∙ ap (λ (entries : List EventRecord). flat_map lines_of entries) same ∙ lawful'.1.told
+    sym lawful.1.recorded ∙ ap (λ (entries : List EventRecord). flat_map lines_of entries) same ∙ lawful'.1.recorded

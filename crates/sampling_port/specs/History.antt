@@ -70,22 +70,22 @@ step_in g peer_state past (CallQueued peer call) = None
 step_in g peer_state past (TurnTaken peer) = step_of_turn (opened peer_state).port past
 step_in g peer_state past (Poked peer word value) = poked_step g peer word value
 
-abbrev pub seat_in : PeerState → List Line → Event → PeerState
-seat_in peer_state past (CallQueued peer call) = record peer_state { waiting = peer_state.waiting ++ call ∷ [] }
-seat_in peer_state past (TurnTaken peer) = record { port = port_of_turn (opened peer_state).port past; waiting = (opened peer_state).waiting }
-seat_in peer_state past (Poked peer word value) = peer_state
+abbrev pub peer_state_in : PeerState → List Line → Event → PeerState
+peer_state_in peer_state past (CallQueued peer call) = record peer_state { waiting = peer_state.waiting ++ call ∷ [] }
+peer_state_in peer_state past (TurnTaken peer) = record { port = port_of_turn (opened peer_state).port past; waiting = (opened peer_state).waiting }
+peer_state_in peer_state past (Poked peer word value) = peer_state
 
 abbrev pub entry_of : Shape → HistoryState → Event → EventRecord
 entry_of g moment event = record { event = event; went = step_in g (moment.peer_states (event_peer event)) moment.past event }
 
 -- The peer states with another one for `peer`.
-abbrev pub seats_with : ℕ → PeerState → (ℕ → PeerState) → ℕ → PeerState
-seats_with peer peer_state peer_states p = if peer == p then peer_state else peer_states p
+abbrev pub peer_states_with : ℕ → PeerState → (ℕ → PeerState) → ℕ → PeerState
+peer_states_with peer peer_state peer_states p = if peer == p then peer_state else peer_states p
 
 abbrev pub after_event : Shape → HistoryState → Event → HistoryState
 after_event g moment event = record {
   past = reverse (lines_of (entry_of g moment event)) ++ moment.past;
-  peer_states = seats_with (event_peer event) (seat_in (moment.peer_states (event_peer event)) moment.past event) moment.peer_states;
+  peer_states = peer_states_with (event_peer event) (peer_state_in (moment.peer_states (event_peer event)) moment.past event) moment.peer_states;
 }
 
 abbrev pub run : Shape → List Event → HistoryState → HistoryState
@@ -97,12 +97,12 @@ abbrev pub initial_state : World → HistoryState
 initial_state world = record { past = []; peer_states = λ peer. record { port = fresh_port world.geometry peer world.most; waiting = [] } }
 
 -- The history state after these events.
-abbrev pub moment_of : World → List Event → HistoryState
-moment_of world events = run world.geometry events (initial_state world)
+abbrev pub history_state_after : World → List Event → HistoryState
+history_state_after world events = run world.geometry events (initial_state world)
 
 -- The history of the schedule.
 abbrev pub history : World → List Line
-history world = reverse (moment_of world (schedule world.acts)).past
+history world = reverse (history_state_after world (schedule world.acts)).past
 
 -- A schedule has a lawful history, and this is it.
 abbrev pub HistoryIsLawful : Type 0

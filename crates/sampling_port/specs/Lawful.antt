@@ -12,7 +12,7 @@ use Rattle.sampling_port.specs.Order.{Progress, initial_progress, IsCallSequence
 -- their order.
 pub record IsLawfulBy (world : World) (lines : List Line) (entries : List EventRecord) : Type 0 where
   pub events : map event_of entries ≡ schedule world.acts
-  pub told : flat_map lines_of entries ≡ lines
+  pub recorded : flat_map lines_of entries ≡ lines
   pub memory : MemoryLaw world.geometry (reverse lines)
   pub calls : (peer : ℕ) → (end : Progress) × IsCallSequence world peer initial_progress (own_entries peer entries) end
 

@@ -5,7 +5,7 @@ use Rattle.section_map.specs.MayWrite.{InSection}
 use Rattle.split_ring.specs.declared.steps.Access.{Access}
 use Rattle.split_ring.specs.declared.steps.Access.TheVariants as access
 use Rattle.call_grammar.specs.Ticks.{EndConfig}
-use Rattle.call_grammar.specs.Reach.{StaysInReach}
+use Rattle.call_grammar.specs.Permitted.{IsPermittedTree}
 use Rattle.call_grammar.specs.ReadsOnce.{reads_of, AreDistinct}
 use Rattle.sampling_port.specs.declared.notes.PortFault.{PortFault}
 use Rattle.sampling_port.specs.declared.notes.PortFault.TheVariants.{BadMessage, TooSmall, NoMemory}
@@ -22,12 +22,12 @@ IsPortFault shape most (TooSmall need found) = IsMessageSize most × (need ≡ 4
 IsPortFault shape most NoMemory = Unit {0}
 
 -- The access writes a word of the port's own section, or reads one of a peer's.
-abbrev pub IsInReach : PortView → Access → Type 0
-IsInReach port (access.Read word) = (from : ℕ) × (from < port.shape.peers) × InSection port.shape from word
-IsInReach port (access.Write word value) = InSection port.shape port.me word
-IsInReach port (access.State state) = ⊥
-IsInReach port (access.Ring target vector) = ⊥
-IsInReach port access.Nothing = ⊥
+abbrev pub IsPortAccess : PortView → Access → Type 0
+IsPortAccess port (access.Read word) = (from : ℕ) × (from < port.shape.peers) × InSection port.shape from word
+IsPortAccess port (access.Write word value) = InSection port.shape port.me word
+IsPortAccess port (access.State state) = ⊥
+IsPortAccess port (access.Ring target vector) = ⊥
+IsPortAccess port access.Nothing = ⊥
 
 -- Two peers as ends of a link in the call grammar; `me` makes the calls.
 abbrev pub config_of : Shape → (me from : ℕ) → EndConfig
@@ -42,11 +42,11 @@ config_of shape me from = record {
 }
 
 -- A publish and a sample make only accesses that the call grammar permits the end of a link.
-pub record CallsStayInReach : Type 0 where
+pub record CallsArePermitted : Type 0 where
   pub publishes : (shape : Shape) (me from most number : ℕ) (message : List ℕ) → IsMessageSize most → port_words most ≤ shape.out → length message ≤ most →
-      StaysInReach (config_of shape me from) (unmarked (publish (section_start shape me) most number message))
+      IsPermittedTree (config_of shape me from) (unmarked (publish (section_start shape me) most number message))
   pub samples : (shape : Shape) (me from most last : ℕ) → IsMessageSize most → port_words most ≤ shape.out →
-      StaysInReach (config_of shape me from) (unmarked (sample from (section_start shape from) most last))
+      IsPermittedTree (config_of shape me from) (unmarked (sample from (section_start shape from) most last))
 
 -- The words that a sample reads: no word twice, or the first word once more after the others.
 abbrev pub IsReadOnce : ℕ → List ℕ → Type 0

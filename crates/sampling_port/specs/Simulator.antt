@@ -20,7 +20,7 @@ use Rattle.sampling_port.specs.Schedule.{PortCall, Publish, Sample, Event, CallQ
 use Rattle.sampling_port.specs.EventRecords.{Line}
 use Rattle.sampling_port.specs.Memory.{last_write}
 use Rattle.sampling_port.specs.Record.{text_of_lines}
-use Rattle.sampling_port.specs.History.{PeerState, initial_state, moment_of}
+use Rattle.sampling_port.specs.History.{PeerState, initial_state, history_state_after}
 
 -- The call of the grammar that a waiting call is.
 abbrev pub call_of : Call → PortCall
@@ -28,21 +28,21 @@ call_of (waiting.Publish message) = Publish message
 call_of (waiting.Sample from) = Sample from
 
 -- The peer state of the computed history that a peer state refines.
-abbrev pub seat_of : sits.PeerState → PeerState
-seat_of peer_state = record { port = peer_state.port; waiting = map call_of peer_state.waiting.items }
+abbrev pub peer_state_of : sits.PeerState → PeerState
+peer_state_of peer_state = record { port = peer_state.port; waiting = map call_of peer_state.waiting.items }
 
 -- Each word has the value written last; the lines are listed newest first.
 abbrev pub Holds : List ℕ → List Line → Type 0
 Holds words past = (word : ℕ) → word < length words → slice_index words word ≡ last_write past word
 
 -- The record has these lines after the text `front`.
-pub record RecordAfter (front : List ℕ) (past : List Line) (told : kept.Record) : Type 0 where
-  pub text : told.text.items ≡ front ++ text_of_lines (reverse past)
-  pub count : told.count ≡ length past
+pub record RecordAfter (front : List ℕ) (past : List Line) (recorded : kept.Record) : Type 0 where
+  pub text : recorded.text.items ≡ front ++ text_of_lines (reverse past)
+  pub count : recorded.count ≡ length past
 
 pub record WorldStateAfter (front : List ℕ) (past : List Line) (world_state : WorldState) : Type 0 where
   pub words : Holds world_state.region.words past
-  pub told : RecordAfter front past world_state.told
+  pub recorded : RecordAfter front past world_state.recorded
 
 -- A step of a port reads a word of the region, or writes one that its peer may write.
 abbrev pub CanPerform : Shape → ℕ → Access → Type 0
@@ -67,14 +67,14 @@ pub record RunsTo (world : World) (front : List ℕ) (events : List Event) (simu
   pub there : AllByRecursion (IsPermittedEvent world) events
   pub few : length events ≤ MOST_TURNS
   pub shape : simulator.world_state.region.shape ≡ world.geometry
-  pub after : WorldStateAfter front (moment_of world events).past simulator.world_state
+  pub after : WorldStateAfter front (history_state_after world events).past simulator.world_state
   pub count : length simulator.peer_states.items ≡ world.geometry.peers
-  pub peer_states : (p : ℕ) (peer_state : sits.PeerState) → slice_get simulator.peer_states.items p ≡ Some peer_state → seat_of peer_state ≡ (moment_of world events).peer_states p
+  pub peer_states : (p : ℕ) (peer_state : sits.PeerState) → slice_get simulator.peer_states.items p ≡ Some peer_state → peer_state_of peer_state ≡ (history_state_after world events).peer_states p
 
 -- `count` initial peer states.
 pub record AreAtStart (world : World) (count : ℕ) (peer_states : List sits.PeerState) : Type 0 where
   pub length_is : length peer_states ≡ count
-  pub fresh : (p : ℕ) (peer_state : sits.PeerState) → slice_get peer_states p ≡ Some peer_state → seat_of peer_state ≡ (initial_state world).peer_states p
+  pub fresh : (p : ℕ) (peer_state : sits.PeerState) → slice_get peer_states p ≡ Some peer_state → peer_state_of peer_state ≡ (initial_state world).peer_states p
 
 -- The event happens: if the simulator refines the state after any events, the new one refines the
 -- state after them and this event.

@@ -1,14 +1,14 @@
 //! Laws of the calls of every port. Each function does nothing: its contract is the law.
 ghost use Rattle.sampling_port.specs.Lists.{CallsAreLists};
-ghost use Rattle.sampling_port.specs.Laws.{CallsStayInReach, FieldsAreReadOnce, PortsFollowCalls};
+ghost use Rattle.sampling_port.specs.Laws.{CallsArePermitted, FieldsAreReadOnce, PortsFollowCalls};
 ghost use Rattle.sampling_port.specs.Lawful.{HasOneHistory};
 ghost use Rattle.sampling_port.specs.History.{HistoryIsLawful};
 ghost use Rattle.sampling_port.specs.HistoryLaws.{NumbersNeverFall, GotIsPublished, LooksCountPublishes, ZeroIsNothing, NothingIsUnpublished, AgainIsLater, HonestIsNotRefused};
 
 /// Law: a publish writes its own section alone. A sample reads only the section of the peer that it
 /// samples, for all values read.
-pub fn calls_stay_in_reach()
-    ensures { CallsStayInReach }
+pub fn calls_are_permitted()
+    ensures { CallsArePermitted }
 {}
 
 /// Law: a sample reads the length and each word of the message once. It reads the sequence once

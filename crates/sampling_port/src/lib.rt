@@ -19,7 +19,7 @@ mod simulator;
 mod world_state;
 
 pub use laws::{
-    calls_are_lists, calls_stay_in_reach, fields_are_read_once, history_is_lawful,
+    calls_are_lists, calls_are_permitted, fields_are_read_once, history_is_lawful,
     numbers_never_fall, one_history, ports_follow_calls, samples_are_published,
 };
 pub use notes::{PortFault, PortField, PortNote};

@@ -5,8 +5,8 @@ ghost use Rattle.sampling_port.specs.Views.{IsPort, is_busy, port_after};
 ghost use Rattle.sampling_port.specs.Laws.{step_of_port};
 ghost use Rattle.sampling_port.specs.Schedule.{TurnTaken};
 ghost use Rattle.sampling_port.specs.EventRecords.{Line, step_lines, lines_by};
-ghost use Rattle.sampling_port.specs.History.{met_by, opening, opened, step_in, seat_in};
-ghost use Rattle.sampling_port.specs.Simulator.{call_of, seat_of, WorldStateAfter, IsPermittedCall, IsReady};
+ghost use Rattle.sampling_port.specs.History.{met_by, opening, opened, step_in, peer_state_in};
+ghost use Rattle.sampling_port.specs.Simulator.{call_of, peer_state_of, WorldStateAfter, IsPermittedCall, IsReady};
 
 use crate::port::Port;
 use crate::world_state::WorldState;
@@ -45,8 +45,8 @@ fn open(port: &mut Port, call: Call)
 
 /// Opens the oldest call that waits, if no call is open.
 fn open_next(peer_state: &mut PeerState)
-    requires { (world : World) × (me : ℕ) × IsReady world me (seat_of peer_state.old) }
-    ensures { seat_of peer_state.new ≡ opened (seat_of peer_state.old) }
+    requires { (world : World) × (me : ℕ) × IsReady world me (peer_state_of peer_state.old) }
+    ensures { peer_state_of peer_state.new ≡ opened (peer_state_of peer_state.old) }
 {
     if peer_state.port.busy() {
         return;
@@ -62,7 +62,7 @@ fn step(me: u32, port: &mut Port, world_state: &mut WorldState) -> Result<(), No
     requires busy { is_busy port.old ≡ true }
     requires me { port.old.me ≡ me }
     requires shape { world_state.old.region.shape ≡ port.old.shape }
-    requires room { world_state.old.told.count < 2 ^ 62 }
+    requires room { world_state.old.recorded.count < 2 ^ 62 }
     ensures after { (front : List ℕ) (past : List Line) → WorldStateAfter front past world_state.old →
         OnOk result (WorldStateAfter front (reverse (step_lines me (step_of_port port.old (met_by past port.old))) ++ past) world_state.new
         × (port.new ≡ port_after port.old port.old.place (met_by past port.old))) }
@@ -82,11 +82,11 @@ pub fn turn(
     peer_state: &mut PeerState,
     world_state: &mut WorldState,
 ) -> Result<(), NoMemory>
-    requires ready { (world : World) × IsReady world me (seat_of peer_state.old) × (world_state.old.region.shape ≡ world.geometry) }
-    requires room { world_state.old.told.count < 2 ^ 62 }
+    requires ready { (world : World) × IsReady world me (peer_state_of peer_state.old) × (world_state.old.region.shape ≡ world.geometry) }
+    requires room { world_state.old.recorded.count < 2 ^ 62 }
     ensures after { (front : List ℕ) (past : List Line) → WorldStateAfter front past world_state.old →
-        OnOk result (WorldStateAfter front (reverse (lines_by (TurnTaken me) (step_in world_state.old.region.shape (seat_of peer_state.old) past (TurnTaken me))) ++ past) world_state.new
-        × (seat_of peer_state.new ≡ seat_in (seat_of peer_state.old) past (TurnTaken me))) }
+        OnOk result (WorldStateAfter front (reverse (lines_by (TurnTaken me) (step_in world_state.old.region.shape (peer_state_of peer_state.old) past (TurnTaken me))) ++ past) world_state.new
+        × (peer_state_of peer_state.new ≡ peer_state_in (peer_state_of peer_state.old) past (TurnTaken me))) }
     ensures shape { world_state.new.region.shape ≡ world_state.old.region.shape }
 {
     open_next(peer_state);

@@ -4,7 +4,7 @@ ghost use Rattle.call_grammar.specs.Words.{words_for, frame_word, word_bytes};
 ghost use Rattle.section_map.specs.Geometry.{section_start};
 ghost use Rattle.sampling_port.specs.Layout.{IsMessageSize, length_place, data_place};
 ghost use Rattle.sampling_port.specs.Views.{PortView, IsPort, fresh_port, is_busy, publishing, sampling, access_at, from_at, note_at, port_after, closed, got, KeepsNumbers};
-ghost use Rattle.sampling_port.specs.Laws.{IsPortFault, IsInReach};
+ghost use Rattle.sampling_port.specs.Laws.{IsPortFault, IsPortAccess};
 
 use crate::notes::{PortFault, PortField, PortNote};
 use crate::place::{Place, reading_place, writing_place};
@@ -38,12 +38,12 @@ pub struct Port {
 }
 
 impl Model for Port {
-    ghost use Rattle.sampling_port.specs.Representation.{seen, IsWellFormed};
+    ghost use Rattle.sampling_port.specs.Representation.{port_view_of, IsWellFormed};
     ghost use Rattle.sampling_port.specs.Views.{PortView};
 
     ghost Value = { PortView };
 
-    ghost view = { seen };
+    ghost view = { port_view_of };
 
     ghost invariant = { IsWellFormed };
 }
@@ -174,12 +174,12 @@ impl Port {
     }
 
     /// Returns the next access of the open call.
-    // claim reach with calls_stay_in_reach: A call writes its own section alone, and reads the
+    // claim reach with calls_are_permitted: A call writes its own section alone, and reads the
     //    section of the sampled peer alone.
     pub fn next(&self) -> Access
         requires { is_busy self.now ≡ true }
         ensures access { result ≡ access_at self.now self.now.place }
-        ensures reach { IsInReach self.now result }
+        ensures reach { IsPortAccess self.now result }
     {
         match self.place {
             Place::WritingLength => {

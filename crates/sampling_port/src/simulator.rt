@@ -5,8 +5,8 @@ ghost use Rattle.port_text.specs.Spelling.{world_of};
 ghost use Rattle.port_text.specs.Acts.{cost};
 ghost use Rattle.sampling_port.specs.Schedule.{Event, CallQueued, TurnTaken, Poked, events_of};
 ghost use Rattle.sampling_port.specs.Record.{text_of_lines};
-ghost use Rattle.sampling_port.specs.History.{moment_of};
-ghost use Rattle.sampling_port.specs.Simulator.{call_of, seat_of, AreAtStart, IsPermittedEvent, RunsTo, Happens, IsRunning, Turns, MayPlay, Plays};
+ghost use Rattle.sampling_port.specs.History.{history_state_after};
+ghost use Rattle.sampling_port.specs.Simulator.{call_of, peer_state_of, AreAtStart, IsPermittedEvent, RunsTo, Happens, IsRunning, Turns, MayPlay, Plays};
 
 use crate::peer_state::{Call, PeerState, turn};
 use crate::port::Port;
@@ -25,7 +25,7 @@ pub struct Simulator {
 }
 
 /// Returns the initial states of all peers. A hostile peer has a port too, which gets no call.
-fn seats_of(alloc: Global, scenario: &Scenario) -> Result<Vec<PeerState>, NoMemory>
+fn peer_states_of(alloc: Global, scenario: &Scenario) -> Result<Vec<PeerState>, NoMemory>
     ensures { IfOk result (λ peer_states. AreAtStart (world_of scenario.now) scenario.now.geometry.peers peer_states.items) }
 {
     let mut peer_states = Vec::new(alloc);
@@ -45,11 +45,11 @@ impl Simulator {
     pub fn new(alloc: Global, scenario: &Scenario, text: Vec<u8>) -> Result<Simulator, NoMemory>
         ensures { IfOk result (λ simulator. RunsTo (world_of scenario.now) text.items [] simulator) }
     {
-        let peer_states = seats_of(alloc, scenario)?;
+        let peer_states = peer_states_of(alloc, scenario)?;
         let region = Region::new(alloc, &scenario.geometry)?;
-        let told = Record { text, count: 0 };
+        let recorded = Record { text, count: 0 };
         Ok(Simulator {
-            world_state: WorldState { region, told },
+            world_state: WorldState { region, recorded },
             peer_states,
         })
     }
@@ -112,10 +112,10 @@ impl Simulator {
 
     /// Returns the record.
     pub fn into_record(self) -> Record
-        ensures { result ≡ self.world_state.told }
+        ensures { result ≡ self.world_state.recorded }
     {
         let Simulator { world_state, .. } = self;
-        let WorldState { told, .. } = world_state;
-        told
+        let WorldState { recorded, .. } = world_state;
+        recorded
     }
 }

@@ -27,9 +27,9 @@ pub struct Record {
 
 impl Record {
     /// Records the line of a form.
-    pub fn tell(&mut self, form: Form, numbers: &[u64], bytes: &[u8]) -> Result<(), NoMemory>
+    pub fn record_line(&mut self, form: Form, numbers: &[u64], bytes: &[u8]) -> Result<(), NoMemory>
         requires room { self.old.count < 2 ^ 63 }
-        ensures told { (front : List ℕ) (past : List Line) (line : Line) → row_of_line line ≡ row form numbers.now bytes.now → RecordAfter front past self.old →
+        ensures recorded { (front : List ℕ) (past : List Line) (line : Line) → row_of_line line ≡ row form numbers.now bytes.now → RecordAfter front past self.old →
             OnOk result (RecordAfter front (line ∷ past) self.new) }
         ensures count { OnOk result (self.new.count ≡ self.old.count + 1) }
     {
@@ -43,7 +43,7 @@ impl Record {
 #[derive(Drop)]
 pub struct WorldState {
     pub region: Region,
-    pub told: Record,
+    pub recorded: Record,
 }
 
 impl WorldState {
@@ -51,18 +51,18 @@ impl WorldState {
     fn read(&mut self, peer: u32, word: u32) -> Result<u32, NoMemory>
         requires seated { peer < self.old.region.shape.peers }
         requires inside { word < word_count self.old.region.shape }
-        requires room { self.old.told.count < 2 ^ 63 }
+        requires room { self.old.recorded.count < 2 ^ 63 }
         ensures after { (front : List ℕ) (past : List Line) → WorldStateAfter front past self.old →
             IfOk result (λ value. (value ≡ last_write past word) × WorldStateAfter front (Read peer word value ∷ past) self.new) }
         ensures shape { self.new.region.shape ≡ self.old.region.shape }
-        ensures count { OnOk result (self.new.told.count ≡ self.old.told.count + 1) }
+        ensures count { OnOk result (self.new.recorded.count ≡ self.old.recorded.count + 1) }
     {
         let value = match self.region.read(peer, word) {
             Ok(value) => value,
             Err(_) => unreachable!(),
         };
         let numbers = [u64::from(peer), u64::from(word), u64::from(value)];
-        self.told.tell(Form::Read, &numbers, &[])?;
+        self.recorded.record_line(Form::Read, &numbers, &[])?;
         Ok(value)
     }
 
@@ -70,23 +70,23 @@ impl WorldState {
     fn write(&mut self, peer: u32, word: u32, value: u32) -> Result<(), NoMemory>
         requires seated { peer < self.old.region.shape.peers }
         requires may { MayWrite self.old.region.shape peer word }
-        requires room { self.old.told.count < 2 ^ 63 }
+        requires room { self.old.recorded.count < 2 ^ 63 }
         ensures after { (front : List ℕ) (past : List Line) → WorldStateAfter front past self.old →
             OnOk result (WorldStateAfter front (Wrote peer word value ∷ past) self.new) }
         ensures shape { self.new.region.shape ≡ self.old.region.shape }
-        ensures count { OnOk result (self.new.told.count ≡ self.old.told.count + 1) }
+        ensures count { OnOk result (self.new.recorded.count ≡ self.old.recorded.count + 1) }
     {
         if self.region.write(peer, word, value).is_err() {
             unreachable!()
         }
         let numbers = [u64::from(peer), u64::from(word), u64::from(value)];
-        self.told.tell(Form::Wrote, &numbers, &[])
+        self.recorded.record_line(Form::Wrote, &numbers, &[])
     }
 
     /// Writes a word if the peer may write it, and denies the write otherwise.
     pub fn poke(&mut self, peer: u32, word: u32, value: u32) -> Result<(), NoMemory>
         requires seated { peer < self.old.region.shape.peers }
-        requires room { self.old.told.count < 2 ^ 63 }
+        requires room { self.old.recorded.count < 2 ^ 63 }
         ensures after { (front : List ℕ) (past : List Line) → WorldStateAfter front past self.old →
             OnOk result (WorldStateAfter front (reverse (lines_by (Poked peer word value) (poked_step self.old.region.shape peer word value)) ++ past) self.new) }
         ensures shape { self.new.region.shape ≡ self.old.region.shape }
@@ -94,33 +94,34 @@ impl WorldState {
         match self.region.write(peer, word, value) {
             Ok(()) => {
                 let numbers = [u64::from(peer), u64::from(word), u64::from(value)];
-                self.told.tell(Form::Wrote, &numbers, &[])
+                self.recorded.record_line(Form::Wrote, &numbers, &[])
             }
             Err(_) => {
                 let numbers = [u64::from(peer), u64::from(word)];
-                self.told.tell(Form::Denied, &numbers, &[])
+                self.recorded.record_line(Form::Denied, &numbers, &[])
             }
         }
     }
 
     /// Records a turn of a peer without a step.
     pub fn idle(&mut self, peer: u32) -> Result<(), NoMemory>
-        requires room { self.old.told.count < 2 ^ 63 }
+        requires room { self.old.recorded.count < 2 ^ 63 }
         ensures after { (front : List ℕ) (past : List Line) → WorldStateAfter front past self.old → OnOk result (WorldStateAfter front (Idle peer ∷ past) self.new) }
         ensures shape { self.new.region.shape ≡ self.old.region.shape }
     {
-        self.told.tell(Form::Idle, &[u64::from(peer)], &[])
+        self.recorded
+            .record_line(Form::Idle, &[u64::from(peer)], &[])
     }
 
     /// Performs the access of a peer's step. Returns the value read, or 0 for a write.
     pub fn perform(&mut self, peer: u32, access: Access) -> Result<u32, NoMemory>
         requires seated { peer < self.old.region.shape.peers }
         requires can { CanPerform self.old.region.shape peer access }
-        requires room { self.old.told.count < 2 ^ 62 }
+        requires room { self.old.recorded.count < 2 ^ 62 }
         ensures after { (front : List ℕ) (past : List Line) → WorldStateAfter front past self.old →
             IfOk result (λ value. (value ≡ met past access) × WorldStateAfter front (access_lines peer access value ++ past) self.new) }
         ensures shape { self.new.region.shape ≡ self.old.region.shape }
-        ensures room { IfOk result (λ _. self.new.told.count < 2 ^ 63) }
+        ensures room { IfOk result (λ _. self.new.recorded.count < 2 ^ 63) }
     {
         match access {
             Access::Read(word) => self.read(peer, word),
@@ -140,28 +141,28 @@ impl WorldState {
         message: &[u8],
         note: PortNote,
     ) -> Result<(), NoMemory>
-        requires room { self.old.told.count < 2 ^ 63 }
+        requires room { self.old.recorded.count < 2 ^ 63 }
         ensures after { (front : List ℕ) (past : List Line) → WorldStateAfter front past self.old →
             OnOk result (WorldStateAfter front (Marked peer (mark_of from message.now note) ∷ past) self.new) }
         ensures shape { self.new.region.shape ≡ self.old.region.shape }
     {
         let peer = u64::from(peer);
         let from = u64::from(from);
-        let told = &mut self.told;
+        let recorded = &mut self.recorded;
         match note {
             PortNote::Publish(number) => {
-                told.tell(Form::Publish, &[peer, u64::from(number)], &[])
+                recorded.record_line(Form::Publish, &[peer, u64::from(number)], &[])
             }
             PortNote::Got(number) => {
-                told.tell(Form::Got, &[peer, from, u64::from(number)], message)
+                recorded.record_line(Form::Got, &[peer, from, u64::from(number)], message)
             }
-            PortNote::Nothing => told.tell(Form::Nothing, &[peer, from], &[]),
+            PortNote::Nothing => recorded.record_line(Form::Nothing, &[peer, from], &[]),
             PortNote::Again(first, second) => {
                 let numbers = [peer, from, u64::from(first), u64::from(second)];
-                told.tell(Form::Again, &numbers, &[])
+                recorded.record_line(Form::Again, &numbers, &[])
             }
             PortNote::Refuse { field, value } => {
-                told.tell(Form::of_refusal(field), &[peer, u64::from(value)], &[])
+                recorded.record_line(Form::of_refusal(field), &[peer, u64::from(value)], &[])
             }
         }
     }

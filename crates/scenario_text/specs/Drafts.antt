@@ -1,9 +1,9 @@
 -- A draft as the value of its lines.
 use Rattle.scenario_text.specs.declared.drafts.Draft.{Draft}
-use Rattle.scenario_text.specs.Judge.{SoFar}
+use Rattle.scenario_text.specs.Judge.{DraftView}
 
-abbrev pub so_far : Draft → SoFar
-so_far d = record {
+abbrev pub draft_view : Draft → DraftView
+draft_view d = record {
   position = d.position;
   version = d.version;
   peers = d.peers;

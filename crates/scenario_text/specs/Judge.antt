@@ -30,7 +30,7 @@ use Rattle.scenario_text.specs.Scenario.{World, is_too_late, is_in_range, is_its
 
 -- The value of the lines so far, with sizes in bytes. The default of a line that wasn't read is
 -- version 1, 0, INTx or empty.
-pub record SoFar : Type 0 where
+pub record DraftView : Type 0 where
   pub position : Position
   pub version : ℕ
   pub peers : ℕ
@@ -43,8 +43,8 @@ pub record SoFar : Type 0 where
   pub acts : List Act
 
 -- The world of the lines so far.
-abbrev pub world_so_far : SoFar → World
-world_so_far d = record {
+abbrev pub world_of_draft : DraftView → World
+world_of_draft d = record {
   version = d.version;
   geometry = shape_of d.peers d.table d.common d.out;
   queue = record { version = d.version; out = d.out; mtu = d.mtu };
@@ -84,30 +84,30 @@ position_of Begin = AtBegin
 position_of _ = AtActs
 
 -- The order rules about peer p: the head's peers come in order, and acts come as they are allowed.
-abbrev pub is_out_of_turn : SoFar → Form → ℕ → Bool
+abbrev pub is_out_of_turn : DraftView → Form → ℕ → Bool
 is_out_of_turn d Honest p = not (p == length d.honest)
 is_out_of_turn d Hostile p = not (p == length d.honest)
 is_out_of_turn d form p = is_too_late d.acts form p
 
 -- The line is out of order at this position; the rules about a peer apply only if the peer's field
 -- is a number.
-abbrev pub is_out_of_order : SoFar → Form → List (List ℕ) → Bool
+abbrev pub is_out_of_order : DraftView → Form → List (List ℕ) → Bool
 is_out_of_order d form fields =
     not (ordinal_of (position_of form) == ordinal_of d.position)
     || option_map_or (is_out_of_turn d form) (option_and_then number_of (slice_get fields 1)) false
 
 -- ---- BadNumber, and then BadPeer
 
-abbrev pub wrong_numbers : SoFar → Form → List ℕ → Option Cause
+abbrev pub wrong_numbers : DraftView → Form → List ℕ → Option Cause
 wrong_numbers d form ns =
-    if not (is_in_range (world_so_far d) form ns) then Some BadNumber
-    else if not (is_its_peer (world_so_far d) form ns) then Some BadPeer
+    if not (is_in_range (world_of_draft d) form ns) then Some BadNumber
+    else if not (is_its_peer (world_of_draft d) form ns) then Some BadPeer
     else None
 
 -- ---- BadGeometry
 
 -- The geometry is judged on the `out` line, and the queue on the `mtu` line.
-abbrev pub fits_sizes : SoFar → Form → List ℕ → Bool
+abbrev pub fits_sizes : DraftView → Form → List ℕ → Bool
 fits_sizes d Out ns = is_geometry d.peers d.table d.common (slice_index ns 0)
 fits_sizes d Mtu ns = is_queue (record { version = d.version; out = d.out; mtu = slice_index ns 0 })
 fits_sizes d _ ns = true
@@ -122,12 +122,12 @@ is_end _ = false
 abbrev pub is_act : Form → Bool
 is_act form = ordinal_of (position_of form) == 9 && not (is_end form)
 
-abbrev pub with_peer : Bool → SoFar → SoFar
+abbrev pub with_peer : Bool → DraftView → DraftView
 with_peer b d =
     let honest = d.honest ++ b ∷ [] in
     record d { position = if length honest == d.peers then AtBegin else AtPeer; honest = honest }
 
-abbrev pub with_act : Act → SoFar → SoFar
+abbrev pub with_act : Act → DraftView → DraftView
 with_act act d = record d { acts = d.acts ++ act ∷ [] }
 
 -- The act of a row, if the form is that of an act.
@@ -154,7 +154,7 @@ act_of Lose ns frame = Some (acts.Lose (slice_index ns 0))
 act_of Again ns frame = Some (acts.Again (slice_index ns 0) (slice_index ns 1))
 act_of _ ns frame = None
 
-abbrev pub add_head : Form → List ℕ → SoFar → SoFar
+abbrev pub add_head : Form → List ℕ → DraftView → DraftView
 add_head Version ns d = record d { position = AtPeers; version = max 1 (slice_index ns 0) }
 add_head Peers ns d = record d { position = AtTable; peers = slice_index ns 0 }
 add_head Table ns d = record d { position = AtCommon; table = slice_index ns 0 }
@@ -170,20 +170,20 @@ add_head End ns d = record d { position = Ended }
 add_head _ ns d = d
 
 -- The value after a line of the head, if the sizes fit.
-abbrev pub head_with : Form → List ℕ → SoFar → Result SoFar Cause
+abbrev pub head_with : Form → List ℕ → DraftView → Result DraftView Cause
 head_with form ns d = if fits_sizes d form ns then Ok (add_head form ns d) else Err BadGeometry
 
-abbrev pub turns_with : SoFar → Option Act → ℕ
+abbrev pub turns_with : DraftView → Option Act → ℕ
 turns_with d (Some act) = turns_of d.acts + cost act
 turns_with d None = 0
 
-abbrev pub add : Form → List ℕ → Option Act → SoFar → SoFar
+abbrev pub add : Form → List ℕ → Option Act → DraftView → DraftView
 add form ns (Some act) d = with_act act d
 add form ns None d = add_head form ns d
 
 -- ---- BadGeometry, and then TooManyTurns
 
-abbrev pub wrong_row : SoFar → Form → List ℕ → List ℕ → Option Cause
+abbrev pub wrong_row : DraftView → Form → List ℕ → List ℕ → Option Cause
 wrong_row d form ns frame =
     if not (fits_sizes d form ns) then Some BadGeometry
     else if nat_lt MOST_ACTS (turns_with d (act_of form ns frame)) then Some TooManyTurns
@@ -199,30 +199,30 @@ cause Bytes = BadFrame
 
 -- ---- the text
 
-abbrev pub at_start : SoFar
+abbrev pub at_start : DraftView
 at_start = record { position = AtVersion; version = 1; peers = 0; table = 0; common = 0; out = 0; mtu = 0; wiring = wirings.Intx; honest = []; acts = [] }
 
-abbrev pub has_ended : SoFar → Bool
+abbrev pub has_ended : DraftView → Bool
 has_ended d = ordinal_of d.position == 10
 
 -- The grammar of a scenario's text.
-abbrev pub rules : Rules SoFar Form Cause
+abbrev pub rules : Rules DraftView Form Cause
 rules = record {
   pieces_of = pieces_of;
   forms = all_forms;
   cause = cause;
   is_out_of_order = is_out_of_order;
   wrong_numbers = wrong_numbers;
-  fits = λ d form size. is_frame_size (world_so_far d) form size;
+  fits = λ d form size. is_frame_size (world_of_draft d) form size;
   wrong_row = wrong_row;
   add = λ form ns frame d. add form ns (act_of form ns frame) d;
   ended = has_ended;
 }
 
-abbrev pub step : SoFar → List ℕ → Result SoFar Cause
+abbrev pub step : DraftView → List ℕ → Result DraftView Cause
 step d line = grammar.step rules d line
 
-abbrev pub machine : Machine SoFar Cause
+abbrev pub machine : Machine DraftView Cause
 machine = machine_of rules
 
 -- ---- answers
@@ -237,8 +237,8 @@ fault_at BadGeometry n = faults.BadGeometry n
 fault_at TooManyTurns n = faults.TooManyTurns n
 
 -- Bytes after the end are a faulty line.
-abbrev pub sense : Sense SoFar Cause World ScenarioFault
-sense = record { start = at_start; value = λ d. Ok (world_so_far d); at = fault_at; after = λ n. faults.BadLine n; no_end = faults.NoEnd }
+abbrev pub sense : Sense DraftView Cause World ScenarioFault
+sense = record { start = at_start; value = λ d. Ok (world_of_draft d); at = fault_at; after = λ n. faults.BadLine n; no_end = faults.NoEnd }
 
 -- The scenario that a text spells, or its first fault.
 abbrev pub answer : List ℕ → Result World ScenarioFault

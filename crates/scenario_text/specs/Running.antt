@@ -100,7 +100,7 @@ not_running w = first_break [] w.acts (first_line w)
 -- ---- the search for it
 
 -- The flags are those of these acts.
-pub record Tells (before : Before) (acts : List Act) : Type 0 where
+pub record FlagsAre (before : Before) (acts : List Act) : Type 0 where
   pub autos : (p : ℕ) → slice_index_or before.autos p false ≡ has_auto acts p
   pub storms : (p : ℕ) → slice_index_or before.storms p false ≡ has_storm acts p
   pub turns : (p : ℕ) → slice_index_or before.turned p false ≡ has_turn acts p

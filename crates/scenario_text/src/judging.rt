@@ -6,8 +6,8 @@ ghost use Rattle.section_map.specs.Geometry.{word_count};
 ghost use Rattle.scenario_text.specs.Acts.{peer_of};
 ghost use Rattle.scenario_text.specs.Table.{pieces_of};
 ghost use Rattle.scenario_text.specs.Scenario.{is_aligned, is_in_range, is_its_peer, is_frame_size, is_link, is_peer, is_hostile};
-ghost use Rattle.scenario_text.specs.Judge.{world_so_far, is_out_of_turn, is_out_of_order, act_of, is_act};
-ghost use Rattle.scenario_text.specs.Drafts.{so_far};
+ghost use Rattle.scenario_text.specs.Judge.{world_of_draft, is_out_of_turn, is_out_of_order, act_of, is_act};
+ghost use Rattle.scenario_text.specs.Drafts.{draft_view};
 
 use crate::acts::Act;
 use crate::drafts::Draft;
@@ -18,7 +18,7 @@ use line_format::{flag_at, number_at, number_in};
 
 /// Whether the order rules about peer `p` forbid the line here.
 fn is_out_of_turn(draft: &Draft, form: Form, p: u64) -> bool
-    ensures { result ≡ is_out_of_turn (so_far draft.now) form p }
+    ensures { result ≡ is_out_of_turn (draft_view draft.now) form p }
 {
     match form {
         Form::Honest | Form::Hostile => p != draft.honest.items().len() as u64,
@@ -31,7 +31,7 @@ fn is_out_of_turn(draft: &Draft, form: Form, p: u64) -> bool
 
 /// Whether the line is forbidden at this position.
 pub fn is_out_of_order(draft: &Draft, form: Form, fields: &[&[u8]]) -> bool
-    ensures { result ≡ is_out_of_order (so_far draft.now) form (texts fields.now) }
+    ensures { result ≡ is_out_of_order (draft_view draft.now) form (texts fields.now) }
 {
     if Position::of(form) != draft.position {
         return true;
@@ -58,7 +58,7 @@ fn words(draft: &Draft) -> u64
 
 /// Whether the numbers are in the ranges that depend on the scenario or on one another.
 pub fn is_in_range(draft: &Draft, form: Form, numbers: &[u64]) -> bool
-    ensures { result ≡ is_in_range (world_so_far (so_far draft.now)) form numbers.now }
+    ensures { result ≡ is_in_range (world_of_draft (draft_view draft.now)) form numbers.now }
 {
     match form {
         Form::Poke | Form::Peek => number_at(numbers, 1) < words(draft),
@@ -71,19 +71,19 @@ pub fn is_in_range(draft: &Draft, form: Form, numbers: &[u64]) -> bool
 }
 
 fn is_peer(draft: &Draft, p: u64) -> bool
-    ensures { result ≡ is_peer (world_so_far (so_far draft.now)) p }
+    ensures { result ≡ is_peer (world_of_draft (draft_view draft.now)) p }
 {
     p < u64::from(draft.peers)
 }
 
 fn is_link(draft: &Draft, p: u64) -> bool
-    ensures { result ≡ is_link (world_so_far (so_far draft.now)) p }
+    ensures { result ≡ is_link (world_of_draft (draft_view draft.now)) p }
 {
     p < 2 && flag_at(draft.honest.items(), p)
 }
 
 fn is_hostile(draft: &Draft, p: u64) -> bool
-    ensures { result ≡ is_hostile (world_so_far (so_far draft.now)) p }
+    ensures { result ≡ is_hostile (world_of_draft (draft_view draft.now)) p }
 {
     is_peer(draft, p) && !flag_at(draft.honest.items(), p)
 }
@@ -91,7 +91,7 @@ fn is_hostile(draft: &Draft, p: u64) -> bool
 /// Whether the scenario has the peer, and the peer is of the kind that the form requires.
 pub fn is_its_peer(draft: &Draft, form: Form, numbers: &[u64]) -> bool
     ensures small { IsTrue result → IsTrue (is_act form) → slice_index numbers.now 0 < 8 }
-    ensures value { result ≡ is_its_peer (world_so_far (so_far draft.now)) form numbers.now }
+    ensures value { result ≡ is_its_peer (world_of_draft (draft_view draft.now)) form numbers.now }
 {
     let p = number_at(numbers, 0);
     match form {
@@ -120,7 +120,7 @@ pub fn is_its_peer(draft: &Draft, form: Form, numbers: &[u64]) -> bool
 
 /// Whether the frame of an offer has 14 to MTU + 18 bytes.
 pub fn is_frame_size(draft: &Draft, form: Form, size: u64) -> bool
-    ensures { result ≡ is_frame_size (world_so_far (so_far draft.now)) form size }
+    ensures { result ≡ is_frame_size (world_of_draft (draft_view draft.now)) form size }
 {
     match form {
         Form::Offer => 14 <= size && size <= u64::from(draft.mtu) + 18,

@@ -2,9 +2,9 @@
 ghost use Rattle.std.specs.Prelude.{◌≡◌, IfOk, true};
 ghost use Rattle.scenario_text.specs.Scenario.{World, IsWorld};
 ghost use Rattle.scenario_text.specs.Spelling.{world_of, IsSpelling};
-ghost use Rattle.scenario_text.specs.Judge.{world_so_far, at_start, has_ended, answer};
+ghost use Rattle.scenario_text.specs.Judge.{world_of_draft, at_start, has_ended, answer};
 ghost use Rattle.scenario_text.specs.Answers.{Answers};
-ghost use Rattle.scenario_text.specs.Drafts.{so_far};
+ghost use Rattle.scenario_text.specs.Drafts.{draft_view};
 
 use crate::acts::{Acts, Flags};
 use crate::drafts::Draft;
@@ -18,7 +18,7 @@ use std::alloc::Global;
 impl Draft {
     /// Returns the draft of a text before its first line.
     pub fn new(alloc: Global) -> Draft
-        ensures { so_far result ≡ at_start }
+        ensures { draft_view result ≡ at_start }
     {
         Draft {
             position: Position::AtVersion,
@@ -43,9 +43,9 @@ impl Draft {
     /// Returns the scenario of the lines up to the end.
     // claim with Draft::new: A draft becomes the scenario of what was read so far.
     pub fn finish(self) -> Scenario
-        requires ended { has_ended (so_far self) ≡ true }
-        requires world { IsWorld (world_so_far (so_far self)) }
-        ensures { world_of result ≡ world_so_far (so_far self) }
+        requires ended { has_ended (draft_view self) ≡ true }
+        requires world { IsWorld (world_of_draft (draft_view self)) }
+        ensures { world_of result ≡ world_of_draft (draft_view self) }
     {
         let Draft {
             geometry,

@@ -2,7 +2,7 @@
 ghost use Rattle.std.specs.Prelude.{◌≡◌, ◌<◌, ◌++◌, [], ◌∷◌, ◌==◌, ◌&&◌, ℕ, List, false, slice_index_or, drop, if◌then◌else◌};
 ghost use Rattle.scenario_text.specs.declared.acts.Act as acts;
 ghost use Rattle.scenario_text.specs.Acts.{peer_of};
-ghost use Rattle.scenario_text.specs.Running.{sets_device, breaks, not_running, Tells, AreEnds};
+ghost use Rattle.scenario_text.specs.Running.{sets_device, breaks, not_running, FlagsAre, AreEnds};
 ghost use Rattle.scenario_text.specs.Spelling.{world_of};
 
 use crate::acts::Act;
@@ -68,7 +68,7 @@ impl Act {
 impl Before {
     /// Returns the value before the first act.
     fn nothing() -> Before
-        ensures { Tells result [] }
+        ensures { FlagsAre result [] }
     {
         Before {
             autos: [false; 8],
@@ -82,7 +82,7 @@ impl Before {
     /// Whether the act breaks the form. It is act number `count`, and `ends` are the ends in all
     /// acts.
     fn is_broken_by(&self, act: &Act, ends: &Ends, count: usize) -> bool
-        ensures { (before all : List acts.Act) → Tells self.now before → AreEnds ends.now all → result ≡ breaks before act.now (drop count all) }
+        ensures { (before all : List acts.Act) → FlagsAre self.now before → AreEnds ends.now all → result ≡ breaks before act.now (drop count all) }
     {
         match act {
             Act::Auto { .. } | Act::Storm { .. } => false,
@@ -106,7 +106,7 @@ impl Before {
     /// Adds an act.
     fn add(&mut self, act: &Act)
         requires { peer_of act.now < 8 }
-        ensures { (said : List acts.Act) → Tells self.old said → Tells self.new (said ++ act.now ∷ []) }
+        ensures { (said : List acts.Act) → FlagsAre self.old said → FlagsAre self.new (said ++ act.now ∷ []) }
     {
         let peer = act.peer() as usize;
         mark(&mut self.autos, peer, act.is_auto());

@@ -6,9 +6,9 @@ ghost use Rattle.scenario_text.specs.declared.forms.Form.TheVariants.{Out, Mtu};
 ghost use Rattle.scenario_text.specs.declared.limits.TheConstants.{MOST_ACTS};
 ghost use Rattle.scenario_text.specs.Table.{pieces_of};
 ghost use Rattle.scenario_text.specs.Acts.{cost, peer_of, is_auto, is_storm, is_call};
-ghost use Rattle.scenario_text.specs.Judge.{SoFar, ordinal_of, position_of, head_with, with_act, with_peer, rules};
+ghost use Rattle.scenario_text.specs.Judge.{DraftView, ordinal_of, position_of, head_with, with_act, with_peer, rules};
 ghost use Rattle.line_format.specs.Reading.{Gives};
-ghost use Rattle.scenario_text.specs.Drafts.{so_far};
+ghost use Rattle.scenario_text.specs.Drafts.{draft_view};
 
 use crate::acts::Act;
 use crate::drafts::Draft;
@@ -63,7 +63,7 @@ pub fn mark(flags: &mut [bool; 8], peer: usize, on: bool)
 impl Draft {
     fn push_peer(&mut self, is_honest: bool) -> Result<(), NoMemory>
         requires order { 5 < ordinal_of self.old.position }
-        ensures { OnOk result (so_far self.new ≡ with_peer is_honest (so_far self.old)) }
+        ensures { OnOk result (draft_view self.new ≡ with_peer is_honest (draft_view self.old)) }
     {
         self.honest.push(is_honest)?;
         self.position = if self.honest.items().len() as u64 == u64::from(self.peers) {
@@ -77,7 +77,7 @@ impl Draft {
     fn push_act(&mut self, act: Act) -> Result<(), NoMemory>
         requires turns { self.old.turns + cost act ≤ MOST_ACTS }
         requires peer { peer_of act < 8 }
-        ensures { OnOk result (so_far self.new ≡ with_act act (so_far self.old)) }
+        ensures { OnOk result (draft_view self.new ≡ with_act act (draft_view self.old)) }
     {
         let cost = act.cost();
         let peer = act.peer() as usize;
@@ -94,7 +94,7 @@ impl Draft {
 
     /// Takes the size of a section, if a region of the sizes so far exists.
     fn add_out(&mut self, out: u64) -> Result<(), LineFault<Cause>>
-        ensures { Gives (so_far self.new) result (head_with Out (out ∷ []) (so_far self.old)) }
+        ensures { Gives (draft_view self.new) result (head_with Out (out ∷ []) (draft_view self.old)) }
     {
         let Ok(geometry) = Geometry::new(self.peers, self.table, self.common, out) else {
             return Err(LineFault::Wrong(Cause::BadGeometry));
@@ -108,7 +108,7 @@ impl Draft {
     /// Takes the MTU, if a section has a queue for it.
     fn add_mtu(&mut self, mtu: u32) -> Result<(), LineFault<Cause>>
         requires order { 4 < ordinal_of self.old.position }
-        ensures { Gives (so_far self.new) result (head_with Mtu (mtu ∷ []) (so_far self.old)) }
+        ensures { Gives (draft_view self.new) result (head_with Mtu (mtu ∷ []) (draft_view self.old)) }
     {
         let Ok(queue) = Queue::of_version(self.version, self.out, mtu) else {
             return Err(LineFault::Wrong(Cause::BadGeometry));
@@ -122,7 +122,7 @@ impl Draft {
     fn add_head(&mut self, form: Form, numbers: &[u64]) -> Result<(), LineFault<Cause>>
         requires limits { AreInRange (pieces_of form) numbers.now }
         requires order { ordinal_of (position_of form) ≡ ordinal_of self.old.position }
-        ensures { Gives (so_far self.new) result (head_with form numbers.now (so_far self.old)) }
+        ensures { Gives (draft_view self.new) result (head_with form numbers.now (draft_view self.old)) }
     {
         let number = number_at(numbers, 0);
         match form {
@@ -167,9 +167,9 @@ impl Grammar for Draft {
 
     type Cause = Cause;
 
-    ghost SoFar = { SoFar };
+    ghost DraftView = { DraftView };
 
-    ghost so_far = { so_far };
+    ghost draft_view = { draft_view };
 
     ghost rules = { rules };
 
@@ -214,7 +214,7 @@ impl Grammar for Draft {
         self.position == Position::Ended
     }
 
-    #[tactic(auto, using(crate::proofs::Follows::small_peer))]
+    #[tactic(auto, using(crate::proofs::RowTests::small_peer))]
     fn add(
         &mut self,
         alloc: Global,

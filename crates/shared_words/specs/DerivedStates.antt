@@ -18,8 +18,8 @@ pub record ObservedAccess : Type 0 where
   pub access : Access
   pub value : ℕ
 
-abbrev pub touch : Access → ℕ → ObservedAccess
-touch a value = record { access = a; value = value }
+abbrev pub observed_access : Access → ℕ → ObservedAccess
+observed_access a value = record { access = a; value = value }
 
 -- The same, with the call that the access begins, if any. A read of the used index alone doesn't
 -- determine the frame of its offer.
@@ -28,11 +28,11 @@ pub record CallAccess : Type 0 where
   pub access : Access
   pub value : ℕ
 
-abbrev pub taken : Option Call → Access → ℕ → CallAccess
-taken begins a value = record { begins = begins; access = a; value = value }
+abbrev pub call_access : Option Call → Access → ℕ → CallAccess
+call_access begins a value = record { begins = begins; access = a; value = value }
 
-abbrev pub touch_of : CallAccess → ObservedAccess
-touch_of t = touch t.access (value_given t.access t.value)
+abbrev pub observed_of : CallAccess → ObservedAccess
+observed_of t = observed_access t.access (value_given t.access t.value)
 
 -- What a peer does to the words of the region and of the sessions:
 -- * `called`: an access of a call, or of a storm;

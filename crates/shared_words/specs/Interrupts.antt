@@ -43,58 +43,58 @@ IsOneShot key target = flag_of key.one_shot target ≡ true
 -- Counts
 
 -- The sum of a count over actions, and over the peers below n.
-unfoldable pub weigh : {A : Type 0} → (Action A → ℕ) → List (Action A) → ℕ
-weigh f [] = 0
-weigh f (t ∷ list) = f t + weigh f list
+unfoldable pub count_in : {A : Type 0} → (Action A → ℕ) → List (Action A) → ℕ
+count_in f [] = 0
+count_in f (t ∷ list) = f t + count_in f list
 
-unfoldable pub tally : ℕ → (ℕ → ℕ) → ℕ
-tally zero f = 0
-tally (suc n) f = tally n f + f n
+unfoldable pub sum_below : ℕ → (ℕ → ℕ) → ℕ
+sum_below zero f = 0
+sum_below (suc n) f = sum_below n f + f n
 
 -- the action sets this bit at this target
-unfoldable pub rings : {A : Type 0} → (target bit : ℕ) → Action A → ℕ
-rings target bit (accessed a) = 0
-rings target bit (rang at b) = one_if ((at == target) && (b == bit))
-rings target bit (looked found) = 0
-rings target bit (cleared at found) = 0
+unfoldable pub rings_bit : {A : Type 0} → (target bit : ℕ) → Action A → ℕ
+rings_bit target bit (accessed a) = 0
+rings_bit target bit (rang at b) = one_if ((at == target) && (b == bit))
+rings_bit target bit (looked found) = 0
+rings_bit target bit (cleared at found) = 0
 
 -- The action sets any bit at this target.
-unfoldable pub aims : {A : Type 0} → (target : ℕ) → Action A → ℕ
-aims target (accessed a) = 0
-aims target (rang at b) = one_if (at == target)
-aims target (looked found) = 0
-aims target (cleared at found) = 0
+unfoldable pub rings_target : {A : Type 0} → (target : ℕ) → Action A → ℕ
+rings_target target (accessed a) = 0
+rings_target target (rang at b) = one_if (at == target)
+rings_target target (looked found) = 0
+rings_target target (cleared at found) = 0
 
 -- The action is a look that found this bit.
-unfoldable pub finds : {A : Type 0} → (bit : ℕ) → Action A → ℕ
-finds bit (accessed a) = 0
-finds bit (rang at b) = 0
-finds bit (looked found) = bit_at found bit
-finds bit (cleared at found) = 0
+unfoldable pub finds_bit : {A : Type 0} → (bit : ℕ) → Action A → ℕ
+finds_bit bit (accessed a) = 0
+finds_bit bit (rang at b) = 0
+finds_bit bit (looked found) = bit_at found bit
+finds_bit bit (cleared at found) = 0
 
 -- The action is a clear at this target that found its bit set.
-unfoldable pub wins : {A : Type 0} → (target : ℕ) → Action A → ℕ
-wins target (accessed a) = 0
-wins target (rang at b) = 0
-wins target (looked found) = 0
-wins target (cleared at found) = if at == target then bit_at found 0 else 0
+unfoldable pub clears_set_bit : {A : Type 0} → (target : ℕ) → Action A → ℕ
+clears_set_bit target (accessed a) = 0
+clears_set_bit target (rang at b) = 0
+clears_set_bit target (looked found) = 0
+clears_set_bit target (cleared at found) = if at == target then bit_at found 0 else 0
 
 -- The action is a clear at this target.
-unfoldable pub strikes : {A : Type 0} → (target : ℕ) → Action A → ℕ
-strikes target (accessed a) = 0
-strikes target (rang at b) = 0
-strikes target (looked found) = 0
-strikes target (cleared at found) = one_if (at == target)
+unfoldable pub clears_target : {A : Type 0} → (target : ℕ) → Action A → ℕ
+clears_target target (accessed a) = 0
+clears_target target (rang at b) = 0
+clears_target target (looked found) = 0
+clears_target target (cleared at found) = one_if (at == target)
 
 -- The invariant of the interrupt words.
 
 -- Each ring at this target follows a clear that found its bit set, one ring for each clear.
 abbrev pub FollowsClears : {A : Type 0} → (target : ℕ) → List (Action A) → Type 0
-FollowsClears target list = (n : ℕ) → weigh (aims target) (take n list) ≤ weigh (wins target) (take n list)
+FollowsClears target list = (n : ℕ) → count_in (rings_target target) (take n list) ≤ count_in (clears_set_bit target) (take n list)
 
 -- One more ring may be made.
 abbrev pub MayRing : {A : Type 0} → (target : ℕ) → List (Action A) → Type 0
-MayRing target list = weigh (aims target) list < weigh (wins target) list
+MayRing target list = count_in (rings_target target) list < count_in (clears_set_bit target) list
 
 -- Of each target and bit: the looks that found the bit, plus one if it is set now, are at most the
 -- rings of all peers. Bit 0 of the target's Interrupt Control, plus the number of clears of all
@@ -102,23 +102,23 @@ MayRing target list = weigh (aims target) list < weigh (wins target) list
 -- such a clear.
 pub record Interrupts {A : Type 0} (key : RunSetup) (memory : ℕ → ℕ) (acc : ℕ → List (Action A)) : Type 0 where
   pub rung : (target bit : ℕ) → target < key.geometry.peers →
-      weigh (finds bit) (acc target) + bit_at (memory (interrupt_word key target)) bit ≤ tally key.geometry.peers (λ p. weigh (rings target bit) (acc p))
+      count_in (finds_bit bit) (acc target) + bit_at (memory (interrupt_word key target)) bit ≤ sum_below key.geometry.peers (λ p. count_in (rings_bit target bit) (acc p))
   pub control : (target : ℕ) → target < key.geometry.peers →
-      bit_at (memory (control_word key target)) 0 + tally key.geometry.peers (λ p. weigh (wins target) (acc p)) ≡ one_if (flag_of key.enabled target)
+      bit_at (memory (control_word key target)) 0 + sum_below key.geometry.peers (λ p. count_in (clears_set_bit target) (acc p)) ≡ one_if (flag_of key.enabled target)
   pub leave : (target p : ℕ) → target < key.geometry.peers → p < key.geometry.peers → IsOneShot key target → FollowsClears target (acc p)
 
 -- Of each target and bit: if any peer rang it, it is set now or a look found it. If any peer
 -- cleared a target's Interrupt Control, its bit 0 isn't set.
 pub record Doorbells {A : Type 0} (key : RunSetup) (memory : ℕ → ℕ) (acc : ℕ → List (Action A)) : Type 0 where
-  pub refines : (target bit : ℕ) → target < key.geometry.peers → 1 ≤ tally key.geometry.peers (λ p. weigh (rings target bit) (acc p)) →
-      1 ≤ bit_at (memory (interrupt_word key target)) bit + weigh (finds bit) (acc target)
-  pub shut : (target : ℕ) → target < key.geometry.peers → 1 ≤ tally key.geometry.peers (λ p. weigh (strikes target) (acc p)) →
+  pub refines : (target bit : ℕ) → target < key.geometry.peers → 1 ≤ sum_below key.geometry.peers (λ p. count_in (rings_bit target bit) (acc p)) →
+      1 ≤ bit_at (memory (interrupt_word key target)) bit + count_in (finds_bit bit) (acc target)
+  pub shut : (target : ℕ) → target < key.geometry.peers → 1 ≤ sum_below key.geometry.peers (λ p. count_in (clears_target target) (acc p)) →
       bit_at (memory (control_word key target)) 0 ≡ 0
 
 -- Of the lists alone: no peer finds a bit more often than the bit was rung. A one-shot peer finds
 -- one bit at most, and once. Each ring at a one-shot peer comes after a clear that found its bit
 -- set.
 pub record AreRung {A : Type 0} (key : RunSetup) (acc : ℕ → List (Action A)) : Type 0 where
-  pub rung : (target bit : ℕ) → target < key.geometry.peers → weigh (finds bit) (acc target) ≤ tally key.geometry.peers (λ p. weigh (rings target bit) (acc p))
-  pub once : (target : ℕ) → target < key.geometry.peers → IsOneShot key target → tally 64 (λ bit. weigh (finds bit) (acc target)) ≤ 1
+  pub rung : (target bit : ℕ) → target < key.geometry.peers → count_in (finds_bit bit) (acc target) ≤ sum_below key.geometry.peers (λ p. count_in (rings_bit target bit) (acc p))
+  pub once : (target : ℕ) → target < key.geometry.peers → IsOneShot key target → sum_below 64 (λ bit. count_in (finds_bit bit) (acc target)) ≤ 1
   pub behind : (target p : ℕ) → target < key.geometry.peers → p < key.geometry.peers → IsOneShot key target → FollowsClears target (acc p)

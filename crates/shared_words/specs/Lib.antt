@@ -3,7 +3,7 @@ pub mod Actions
 pub mod Interrupts
 pub mod DerivedStates
 pub mod SharedMemory
-pub mod Happened
+pub mod ActionsMade
 pub mod Rules
 pub mod PassView
 pub mod Passes

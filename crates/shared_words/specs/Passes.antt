@@ -7,23 +7,23 @@ use Rattle.call_grammar.specs.Calls.{Call}
 use Rattle.shared_words.specs.declared.run_setup.RunSetup.{RunSetup}
 use Rattle.shared_words.specs.PassView.{PassView}
 use Rattle.shared_words.specs.RunSetups.{IsFit, IsMadeFor, honest_of}
-use Rattle.shared_words.specs.DerivedStates.{CallAccess, ObservedAccess, touch_of, MemoryOp, memory_op_by, DerivedState, derived_state, IsNext}
+use Rattle.shared_words.specs.DerivedStates.{CallAccess, ObservedAccess, observed_of, MemoryOp, memory_op_by, DerivedState, derived_state, IsNext}
 use Rattle.shared_words.specs.Actions.{Action, seen_by, accesses_in}
 use Rattle.shared_words.specs.Interrupts.{all_words}
 use Rattle.shared_words.specs.Rules.{front, added_to}
 
 -- The pass is of the words. Their number is that of the run setup, and the range is one of its
 -- peers.
-abbrev pub IsOf : TableId → RunSetup → PassView → Type 0
-IsOf id key h = (h.table_id ≡ id) × (id.words ≡ all_words key) × (h.from + length h.lists ≤ key.geometry.peers) × IsFit key
+abbrev pub IsPassOf : TableId → RunSetup → PassView → Type 0
+IsPassOf id key h = (h.table_id ≡ id) × (id.words ≡ all_words key) × (h.from + length h.lists ≤ key.geometry.peers) × IsFit key
 
 -- The pass is of the words, and has a peer.
 abbrev pub IsFilled : TableId → RunSetup → PassView → Type 0
-IsFilled id key h = IsOf id key h × (0 < length h.lists)
+IsFilled id key h = IsPassOf id key h × (0 < length h.lists)
 
 -- The pass is of the words, and this peer is its first one.
 abbrev pub IsFirstIn : TableId → RunSetup → ℕ → PassView → Type 0
-IsFirstIn id key p h = IsOf id key h × (h.from ≡ p) × (0 < length h.lists)
+IsFirstIn id key p h = IsPassOf id key h × (h.from ≡ p) × (0 < length h.lists)
 
 -- The derived state of peer p by the first list of the pass.
 abbrev pub state_in : RunSetup → ℕ → PassView → DerivedState
@@ -41,7 +41,7 @@ MayAccess key h begins a = honest_of key h.from ≡ true → IsNextIn key h.from
 
 -- The words were made for this scenario, and the pass is of them and has all peers.
 abbrev pub IsWhole : World → TableId → RunSetup → PassView → Type 0
-IsWhole world id key h = IsMadeFor world key × IsOf id key h × (h.from ≡ 0) × (length h.lists ≡ key.geometry.peers)
+IsWhole world id key h = IsMadeFor world key × IsPassOf id key h × (h.from ≡ 0) × (length h.lists ≡ key.geometry.peers)
 
 -- No peer of the pass has an action.
 abbrev pub IsUnused : RunSetup → PassView → Type 0
@@ -49,7 +49,7 @@ IsUnused key h = h.lists ≡ replicate key.geometry.peers []
 
 -- The actions of a peer, by a pass that has all peers.
 abbrev pub shown : List (Action (MemoryOp CallAccess)) → List (Action (MemoryOp ObservedAccess))
-shown list = map (seen_by (memory_op_by touch_of)) list
+shown list = map (seen_by (memory_op_by observed_of)) list
 
 abbrev pub actions_of : PassView → ℕ → List (Action (MemoryOp ObservedAccess))
 actions_of h p = shown (get_or h.lists p [])

@@ -14,11 +14,11 @@ use Rattle.pair_sessions.specs.Numbers.{own_side}
 use Rattle.shared_words.specs.declared.run_setup.RunSetup.{RunSetup}
 use Rattle.shared_words.specs.declared.view.View.{View}
 use Rattle.shared_words.specs.RunSetups.{honest_of, IsFit}
-use Rattle.shared_words.specs.DerivedStates.{FrameNumber, At, CallAccess, taken, MemoryOp, called, numbered, carried, restarted, derived_state, NeverMarked}
+use Rattle.shared_words.specs.DerivedStates.{FrameNumber, At, CallAccess, call_access, MemoryOp, called, numbered, carried, restarted, derived_state, NeverMarked}
 use Rattle.shared_words.specs.Actions.{Action, accessed, rang, looked, cleared, accesses_in}
 use Rattle.shared_words.specs.Interrupts.{session_word, all_words, IsOneShot, MayRing, AreRung}
 pub use Rattle.shared_words.specs.SharedMemory.{IsOwned}
-use Rattle.shared_words.specs.Happened.{Happened}
+use Rattle.shared_words.specs.ActionsMade.{ActionsMade}
 
 -- The words of the region come first, and those of the sessions last. The memory operations of each
 -- peer made them.
@@ -39,7 +39,7 @@ pub record Memory (key : RunSetup) (words : List ℕ) (acc : ℕ → List (Actio
   pub sized : length words ≡ all_words key
   pub small : (w : ℕ) → w < word_count key.geometry → slice_index words w < 2 ^ 32
   pub numbers : (p : ℕ) → p < 2 → session_words key words p < 2 ^ 32
-  pub happened : Happened key (λ w. slice_index words w) acc
+  pub happened : ActionsMade key (λ w. slice_index words w) acc
 
 -- The holder `id` of a range of peers has the view `v`. The range is within the `peers` peers,
 -- `seat` maps each peer of the range to `id`, and `v` has the list of each by `acc`.
@@ -89,13 +89,13 @@ upper p v = view p (drop (p - v.from) v.lists)
 -- Reports of steps.
 
 abbrev pub reads : Option Call → Step ℕ → Me ℕ View → ℕ → Me ℕ View → Type 0
-reads call st m n t = (t ≡ (more m.0 (accessed (called (taken call (access.Read st.word) n))), m.1)) × (n < 2 ^ 32)
+reads call st m n t = (t ≡ (more m.0 (accessed (called (call_access call (access.Read st.word) n))), m.1)) × (n < 2 ^ 32)
 
 abbrev pub writes : Option Call → Step ℕ → Me ℕ View → ℕ → Me ℕ View → Type 0
-writes call st m n t = t ≡ (more m.0 (accessed (called (taken call (access.Write st.word n) 0))), m.1)
+writes call st m n t = t ≡ (more m.0 (accessed (called (call_access call (access.Write st.word n) 0))), m.1)
 
 abbrev pub sets : Option Call → Step ℕ → Me ℕ View → ℕ → Me ℕ View → Type 0
-sets call st m n t = t ≡ (more m.0 (accessed (called (taken call (access.State n) 0))), m.1)
+sets call st m n t = t ≡ (more m.0 (accessed (called (call_access call (access.State n) 0))), m.1)
 
 -- The store of the own session word, the load of the other's, and the reset's store of 0 to the own
 -- state word.

@@ -44,17 +44,17 @@ pub record Appends {A : Type 0} (acc next : ℕ → List A) (p : ℕ) (t : A) : 
 -- All words are 0 and all lists are empty. Or a peer makes an access: a read returns the word, and
 -- a store changes that word alone. Or it stores its session word; or it loads the other's; or its
 -- device is reset, by a store of 0 in its state word.
-pub data Made (key : RunSetup) : (memory words : ℕ → ℕ) → (ℕ → List (MemoryOp CallAccess)) → Type 0 where
+pub data OperationsMade (key : RunSetup) : (memory words : ℕ → ℕ) → (ℕ → List (MemoryOp CallAccess)) → Type 0 where
   starts : (memory words : ℕ → ℕ) (acc : ℕ → List (MemoryOp CallAccess)) → ((w : ℕ) → memory w ≡ 0) → ((p : ℕ) → words p ≡ 0) → ((p : ℕ) → acc p ≡ []) →
-      Made key memory words acc
+      OperationsMade key memory words acc
   makes : (memory after words : ℕ → ℕ) (acc next : ℕ → List (MemoryOp CallAccess)) (p : ℕ) (t : CallAccess) →
-      Made key memory words acc → p < key.geometry.peers →
+      OperationsMade key memory words acc → p < key.geometry.peers →
       MayTake key p (acc p) t → ReadsMemory memory t.access t.value → MemoryAfter p memory t.access after → Appends acc next p (called t) →
-      Made key after words next
+      OperationsMade key after words next
   stores : (memory words now : ℕ → ℕ) (acc next : ℕ → List (MemoryOp CallAccess)) (p number : ℕ) →
-      Made key memory words acc → MayStoreSession key p (acc p) number →
-      Stored words now p number → Appends acc next p (numbered number) → Made key memory now next
-  loads : (memory words : ℕ → ℕ) (acc next : ℕ → List (MemoryOp CallAccess)) (p : ℕ) → Made key memory words acc → MayLoadSession key p (acc p) →
-      Appends acc next p (carried (words (1 - p))) → Made key memory words next
-  resets : (memory after words : ℕ → ℕ) (acc next : ℕ → List (MemoryOp CallAccess)) (p : ℕ) → Made key memory words acc → p < key.geometry.peers →
-      Stored memory after p 0 → Appends acc next p restarted → Made key after words next
+      OperationsMade key memory words acc → MayStoreSession key p (acc p) number →
+      Stored words now p number → Appends acc next p (numbered number) → OperationsMade key memory now next
+  loads : (memory words : ℕ → ℕ) (acc next : ℕ → List (MemoryOp CallAccess)) (p : ℕ) → OperationsMade key memory words acc → MayLoadSession key p (acc p) →
+      Appends acc next p (carried (words (1 - p))) → OperationsMade key memory words next
+  resets : (memory after words : ℕ → ℕ) (acc next : ℕ → List (MemoryOp CallAccess)) (p : ℕ) → OperationsMade key memory words acc → p < key.geometry.peers →
+      Stored memory after p 0 → Appends acc next p restarted → OperationsMade key after words next

@@ -3,7 +3,7 @@ ghost use Rattle.std.specs.Prelude.{◌≡◌, ◌<◌};
 ghost use Rattle.split_ring.specs.declared.steps.Access.{Access};
 ghost use Rattle.section_map.specs.Geometry.{word_count};
 ghost use Rattle.section_map.specs.MayWrite.{MayWrite};
-ghost use Rattle.shared_words.specs.DerivedStates.{taken, called};
+ghost use Rattle.shared_words.specs.DerivedStates.{call_access, called};
 ghost use Rattle.shared_words.specs.Actions.{accessed};
 ghost use Rattle.shared_words.specs.Passes.{IsFilled, IsFirstIn, MayAccess, added};
 
@@ -19,7 +19,7 @@ pub fn load<B: Begins>(words: &Words, pass: &mut Pass, word: u32) -> u32
     requires next { MayAccess words.now.shared.key pass.old B.call (Access.Read word) }
     requires of { IsFilled words.now.shared.table_id words.now.shared.key pass.old }
     requires word { word < word_count words.now.shared.key.geometry }
-    ensures list { pass.new ≡ added pass.old (accessed (called (taken B.call (Access.Read word) result))) }
+    ensures list { pass.new ≡ added pass.old (accessed (called (call_access B.call (Access.Read word) result))) }
 {
     words.shared.load::<Reads<B>>(&mut pass.seat, word as usize) as u32
 }
@@ -29,7 +29,7 @@ pub fn store<B: Begins>(words: &Words, pass: &mut Pass, word: u32, value: u32)
     requires next { MayAccess words.now.shared.key pass.old B.call (Access.Write word value) }
     requires of { IsFilled words.now.shared.table_id words.now.shared.key pass.old }
     requires own { MayWrite words.now.shared.key.geometry pass.old.from word }
-    ensures { pass.new ≡ added pass.old (accessed (called (taken B.call (Access.Write word value) 0))) }
+    ensures { pass.new ≡ added pass.old (accessed (called (call_access B.call (Access.Write word value) 0))) }
 {
     words
         .shared
@@ -40,7 +40,7 @@ pub fn store<B: Begins>(words: &Words, pass: &mut Pass, word: u32, value: u32)
 pub fn set_state<B: Begins>(words: &Words, pass: &mut Pass, peer: u32, state: u32)
     requires next { MayAccess words.now.shared.key pass.old B.call (Access.State state) }
     requires of { IsFirstIn words.now.shared.table_id words.now.shared.key peer pass.old }
-    ensures { pass.new ≡ added pass.old (accessed (called (taken B.call (Access.State state) 0))) }
+    ensures { pass.new ≡ added pass.old (accessed (called (call_access B.call (Access.State state) 0))) }
 {
     words
         .shared

@@ -24,7 +24,7 @@ fn interrupt_word(words: &Words, peers: u32, peer: u32) -> usize
 
 /// `ring`, by a play that the caller picks.
 fn ring_by<M: Play<u8, View>>(words: &Words, pass: &mut Pass, peers: u32, target: u32, bit: u32)
-    requires tells { LearnsExactly M.then (rings_at target bit) }
+    requires reports { LearnsExactly M.then (rings_at target bit) }
     requires of { IsFilled words.now.shared.table_id words.now.shared.key pass.old }
     requires peers { peers ≡ words.now.shared.key.geometry.peers }
     requires target { (target < peers) × (bit < 64) }
@@ -62,7 +62,7 @@ pub fn look(words: &Words, pass: &mut Pass, peers: u32, me: u32) -> u64
 
 /// `clear`, by a play that the caller picks.
 fn clear_by<M: Play<u8, View>>(words: &Words, pass: &mut Pass, peers: u32, target: u32) -> u64
-    requires tells { LearnsExactly M.then (clears words.now.shared.key target) }
+    requires reports { LearnsExactly M.then (clears words.now.shared.key target) }
     requires of { IsFilled words.now.shared.table_id words.now.shared.key pass.old }
     requires peers { peers ≡ words.now.shared.key.geometry.peers }
     requires target { target < peers }

@@ -5,7 +5,7 @@ ghost use Rattle.scenario_text.specs.Spelling.{world_of};
 ghost use Rattle.shared_words.specs.RunSetups.{IsFit};
 ghost use Rattle.shared_words.specs.Interrupts.{one_if, words_at_start};
 ghost use Rattle.shared_words.specs.Rules.{lower, upper, learns, LearnsExactly, IsLearned};
-ghost use Rattle.shared_words.specs.Passes.{IsOf, IsWhole, IsUnused, lower_pass, upper_pass, join_passes};
+ghost use Rattle.shared_words.specs.Passes.{IsPassOf, IsWhole, IsUnused, lower_pass, upper_pass, join_passes};
 
 use crate::routes::routes_of;
 use crate::rule::{Both, Rule};
@@ -85,7 +85,7 @@ pub fn words_for(alloc: Global, scenario: &Scenario) -> Result<(Words, Pass), No
 /// `split_pass`, by a cut that the caller picks.
 fn split_at<M: Split<View>>(words: &Words, pass: &mut Pass, from: u32) -> Pass
     requires cut { (M.left ≡ lower from) × (M.right ≡ upper from) }
-    requires of { IsOf words.now.shared.table_id words.now.shared.key pass.old }
+    requires of { IsPassOf words.now.shared.table_id words.now.shared.key pass.old }
     requires inside { (pass.old.from ≤ from) × (from ≤ pass.old.from + length pass.old.lists) }
     ensures left { pass.new ≡ lower_pass from pass.old }
     ensures right { result ≡ upper_pass from pass.old }
@@ -100,7 +100,7 @@ fn split_at<M: Split<View>>(words: &Words, pass: &mut Pass, from: u32) -> Pass
 // claim left, right with join_pass: A pass is split and joined with its lists: nothing is lost and
 //    nothing is doubled.
 pub fn split_pass(words: &Words, pass: &mut Pass, from: u32) -> Pass
-    requires of { IsOf words.now.shared.table_id words.now.shared.key pass.old }
+    requires of { IsPassOf words.now.shared.table_id words.now.shared.key pass.old }
     requires inside { (pass.old.from ≤ from) × (from ≤ pass.old.from + length pass.old.lists) }
     ensures left { pass.new ≡ lower_pass from pass.old }
     ensures right { result ≡ upper_pass from pass.old }
@@ -110,8 +110,8 @@ pub fn split_pass(words: &Words, pass: &mut Pass, from: u32) -> Pass
 
 /// Adds the peers and lists of the other pass.
 pub fn join_pass(words: &Words, pass: &mut Pass, other: Pass)
-    requires own { IsOf words.now.shared.table_id words.now.shared.key pass.old }
-    requires of { IsOf words.now.shared.table_id words.now.shared.key other × (other.from ≡ pass.old.from + length pass.old.lists) }
+    requires own { IsPassOf words.now.shared.table_id words.now.shared.key pass.old }
+    requires of { IsPassOf words.now.shared.table_id words.now.shared.key other × (other.from ≡ pass.old.from + length pass.old.lists) }
     ensures { pass.new ≡ join_passes pass.old other }
 {
     let Pass { seat } = other;
@@ -120,10 +120,10 @@ pub fn join_pass(words: &Words, pass: &mut Pass, other: Pass)
 
 /// `learn`, by a play that the caller picks: a load that adds no action.
 fn learn_by<M: Play<u8, View>>(words: &Words, pass: &mut Pass)
-    requires tells { LearnsExactly M.then (learns words.now.shared.key) }
-    requires of { IsOf words.now.shared.table_id words.now.shared.key pass.old }
+    requires reports { LearnsExactly M.then (learns words.now.shared.key) }
+    requires of { IsPassOf words.now.shared.table_id words.now.shared.key pass.old }
     ensures same { pass.new ≡ pass.old }
-    ensures told { IsLearned words.now.shared.key pass.old.from pass.old.lists }
+    ensures learned { IsLearned words.now.shared.key pass.old.from pass.old.lists }
 {
     runs_keep_the_invariant();
     sessions_are_paired();
@@ -137,14 +137,14 @@ fn learn_by<M: Play<u8, View>>(words: &Words, pass: &mut Pass)
 ///   for is rung.
 /// - An honest peer opposite a hostile one: its sessions carry none.
 /// - All peers: each interrupt that is found was rung.
-// claim same, told: From the lists of all peers the rule follows, and the pass stays. Of two honest
-//    peers: their sessions are paired, neither refuses, and in a link with events no offer ended
-//    without a doorbell that the other's event word asks for. Next to a hostile peer, sessions
-//    carry none. No interrupt is found that was not rung.
+// claim same, learned: From the lists of all peers the rule follows, and the pass stays. Of two
+//    honest peers: their sessions are paired, neither refuses, and in a link with events no offer
+//    ended without a doorbell that the other's event word asks for. Next to a hostile peer,
+//    sessions carry none. No interrupt is found that was not rung.
 pub fn learn(words: &Words, pass: &mut Pass)
-    requires of { IsOf words.now.shared.table_id words.now.shared.key pass.old }
+    requires of { IsPassOf words.now.shared.table_id words.now.shared.key pass.old }
     ensures same { pass.new ≡ pass.old }
-    ensures told { IsLearned words.now.shared.key pass.old.from pass.old.lists }
+    ensures learned { IsLearned words.now.shared.key pass.old.from pass.old.lists }
 {
     learn_by::<Brand>(words, pass);
 }

@@ -1,4 +1,4 @@
-pub mod Histories
+pub mod DrainedHistories
 pub mod Turns
-pub mod Stopping
+pub mod StoppedPlays
 pub mod LoadActs

@@ -7,7 +7,7 @@ use Rattle.scenario_text.specs.declared.acts.Act.{Act}
 use Rattle.scenario_text.specs.declared.acts.Act.TheVariants.{Auto, Offer, Turn}
 use Rattle.scenario_text.specs.declared.limits.TheConstants.{LOAD_STEPS, MOST_LOAD}
 use Rattle.scenario_text.specs.Loads.{load_frame, load_offers, rounds, load_acts, load_world}
-use Rattle.scenario_text.proofs.LoadLaws.{load_is_world}
+use Rattle.scenario_text.proofs.LoadIsScenario.{load_is_world}
 use Rattle.lawful_history.specs.declared.line.Line.{Line}
 use Rattle.lawful_history.specs.Schedule.{Event, schedule}
 use Rattle.lawful_history.specs.Sessions.{recorded_in}
@@ -15,10 +15,10 @@ use Rattle.lawful_history.specs.History.{history}
 use Rattle.simulator.specs.Log.{no_output}
 use Rattle.scenario_text.specs.Scenario.{World}
 use Rattle.simulator.specs.Simulator.{RunsTo, IsAct, kept_lines}
-use Rattle.simulator.proofs.Runs.{act_at}
+use Rattle.simulator.proofs.OneMoreEvent.{act_at}
 use Rattle.sim_world.specs.Playing.{output_of, HasStopped, StopsWithin}
-use Rattle.sim_world.proofs.Histories.{heard_whole}
-use Rattle.sim_world.proofs.Stopping.{stops_within}
+use Rattle.sim_world.proofs.DrainedHistories.{received_whole}
+use Rattle.sim_world.proofs.StoppedPlays.{stops_within}
 use Rattle.simulator.specs.declared.simulator.Simulator.{Simulator}
 
 -- the acts of one round
@@ -153,7 +153,7 @@ is_act count i act few inside is = act_at (load_world count) i act (load_is_worl
 
 pub load_received : (count : ℕ) (gone : List Line) (i : ℕ) (s : Simulator) → length (load_acts count) ≤ i → RunsTo (load_world count) (output_of 2 gone) (schedule (take i (load_acts count))) s → gone ++ kept_lines s ≡ recorded_in (load_world count) 2 (history (load_world count))
 unfolding load_world
-load_received count gone i s whole runs = heard_whole (load_world count) 2 gone i s whole runs
+load_received count gone i s whole runs = received_whole (load_world count) 2 gone i s whole runs
 
 pub load_stops : (count : ℕ) (P : List Line → Type 0) (events more : List Event) → schedule (load_acts count) ≡ events ++ more → HasStopped (load_world count) 2 P events → StopsWithin (load_world count) 2 P
 unfolding load_world

@@ -5,7 +5,7 @@ use Rattle.lawful_history.specs.declared.line.Line.{Line}
 use Rattle.lawful_history.specs.Schedule.{Event, schedule}
 use Rattle.lawful_history.specs.Sessions.{recorded_in}
 use Rattle.simulator.specs.Log.{Output}
-use Rattle.simulator.specs.Simulator.{RunsTo, moment_of, kept_lines}
+use Rattle.simulator.specs.Simulator.{RunsTo, history_state_after, kept_lines}
 use Rattle.simulator.specs.declared.simulator.Simulator.{Simulator}
 
 -- A record of this version that was given these lines.
@@ -36,4 +36,4 @@ pub record StopsWithin (world : World) (version : ℕ) (stopped_after : List Lin
   pub before : List Event
   pub rest : List Event
   pub scheduled : schedule world.acts ≡ before ++ rest
-  pub lines : stopped_after (recorded_in world version (reverse (moment_of world before).past))
+  pub lines : stopped_after (recorded_in world version (reverse (history_state_after world before).past))

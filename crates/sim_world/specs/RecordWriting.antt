@@ -10,10 +10,10 @@ use Rattle.record_text.specs.Growing.{history_text}
 use Rattle.sim_world.specs.declared.record_writer.RecordWriter.{RecordWriter}
 
 -- Between the two states these lines were appended and counted.
-pub record HasRecorded (began told : RecordWriter) (lines : List Line) : Type 0 where
-  pub text : told.text.items ≡ began.text.items ++ history_text lines
-  pub count : told.count ≡ began.count + length lines
-  pub few : told.count < 2 ^ 64
+pub record HasRecorded (began recorded : RecordWriter) (lines : List Line) : Type 0 where
+  pub text : recorded.text.items ≡ began.text.items ++ history_text lines
+  pub count : recorded.count ≡ began.count + length lines
+  pub few : recorded.count < 2 ^ 64
   pub fits : AllFit lines
   pub frames : HaveFrames lines
 

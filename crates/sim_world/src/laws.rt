@@ -13,7 +13,7 @@ use std::alloc::Global;
 pub fn writes_alike(alloc: Global, scenario: Scenario) -> Result<bool, NoMemory>
     ensures { IfOk result (λ alike. alike ≡ true) }
 {
-    let told = simulate_text(alloc, &scenario)?;
+    let recorded = simulate_text(alloc, &scenario)?;
     let printed = print(alloc, &simulate(alloc, scenario)?)?;
-    Ok(told == printed)
+    Ok(recorded == printed)
 }

@@ -9,7 +9,7 @@ ghost use Rattle.sim_world.specs.RecordWriting.{HasRecorded, lawful_record};
 use crate::VERSION;
 use crate::playing::{Listener, Stopped, play};
 use ivs_base::NoMemory;
-use lawful_history::{Line, records_tell_one_history};
+use lawful_history::{Line, records_hold_one_history};
 use record_text::{parts_are_the_record, put_count, put_front, put_lines};
 use scenario_text::Scenario;
 use std::alloc::Global;
@@ -52,7 +52,7 @@ pub fn simulate_text(alloc: Global, scenario: &Scenario) -> Result<Vec<u8>, NoMe
     ensures again { IfOk result (λ text. answer text.items ≡ Ok (lawful_record 2 (world_of scenario.now))) }
     ensures lawful { IfOk result (λ _. IsLawfulIn (world_of scenario.now) 2 (lawful_record 2 (world_of scenario.now)).lines) }
 {
-    records_tell_one_history();
+    records_hold_one_history();
     parts_are_the_record();
     let mut record_writer = RecordWriter {
         text: Vec::new(alloc),
@@ -62,7 +62,7 @@ pub fn simulate_text(alloc: Global, scenario: &Scenario) -> Result<Vec<u8>, NoMe
     match play(alloc, scenario, VERSION, &mut record_writer) {
         Ok(()) => {}
         Err(Stopped::NoMemory) => return Err(NoMemory),
-        Err(Stopped::HeardEnough) => unreachable!(),
+        Err(Stopped::HasEnough) => unreachable!(),
     }
     let RecordWriter { mut text, count } = record_writer;
     put_count(&mut text, count)?;

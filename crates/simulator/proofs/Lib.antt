@@ -1,9 +1,9 @@
-pub mod Logging
-pub mod Arriving
+pub mod LogLines
+pub mod InterruptLines
 pub mod Poking
-pub mod AtPlaces
+pub mod PlacesOfCalls
 pub mod Steps
 pub mod Openings
-pub mod Choosing
-pub mod Turning
-pub mod Runs
+pub mod ChosenCallOpens
+pub mod HonestTurns
+pub mod OneMoreEvent

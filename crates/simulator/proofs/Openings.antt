@@ -7,7 +7,7 @@ use Rattle.call_grammar.specs.Trees.{CallTree, Ended}
 use Rattle.call_grammar.specs.Calls.{EndConfig, tree_of}
 use Rattle.call_grammar.specs.Calls as calls
 use Rattle.call_grammar.specs.Places.{Place, remaining, is_open}
-use Rattle.call_grammar.specs.Reach.{IsPermittedCall}
+use Rattle.call_grammar.specs.Permitted.{IsPermittedCall}
 use Rattle.link_endpoint.specs.Plan.{Plan}
 use Rattle.lawful_history.specs.Peers.{Driver, Peer, chosen, opened_by, opened}
 use Rattle.lawful_history.proofs.Exists.{AreGiven, IsFit}
@@ -15,7 +15,7 @@ use Rattle.simulator.specs.declared.link.Waiting.{Waiting}
 use Rattle.simulator.specs.declared.link.Waiting.TheVariants.{Tick, Poll, Stop, Offer}
 use Rattle.simulator.specs.declared.link.Link.{Link}
 use Rattle.simulator.specs.PeerStates.{call_of, DriverIs, LinkRefines, IsOffered, MayWait, PlanFits, LinkFits}
-use Rattle.simulator.proofs.AtPlaces.{open_by, shut_place}
+use Rattle.simulator.proofs.PlacesOfCalls.{open_by, shut_place}
 
 -- An open call isn't replaced.
 pub stays_open : (config : EndConfig) (peer : Peer) (link : Link) → (refines : LinkRefines config peer link) → is_open refines.place ≡ true → LinkRefines config (opened config peer) link

@@ -12,7 +12,7 @@ use Rattle.section_map.proofs.Tests.{may_test, may_fails}
 use Rattle.simulator.specs.Log.{Output, Records}
 use Rattle.simulator.specs.WorldState.{WorldStateAfter}
 use Rattle.simulator.specs.declared.world_state.WorldState.{WorldState}
-use Rattle.simulator.proofs.Arriving.{written}
+use Rattle.simulator.proofs.InterruptLines.{written}
 
 -- The lines of a poke.
 poked_lines : (world : World) (past : List Line) (p word value : ℕ) (b : Bool) → may_write world.geometry p word ≡ b →

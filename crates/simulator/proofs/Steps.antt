@@ -13,7 +13,7 @@ use Rattle.lawful_history.specs.Memory.{last_write}
 use Rattle.lawful_history.specs.Sides.{config_of}
 use Rattle.lawful_history.specs.EventRecords.{access_lines, mark_line, step_lines, turn_lines}
 use Rattle.lawful_history.specs.Peers.{Driver, Peer, stepped}
-use Rattle.lawful_history.specs.Device.{brought_by, step_interrupts}
+use Rattle.lawful_history.specs.Device.{interrupts_of_access, step_interrupts}
 use Rattle.lawful_history.specs.History.{step_by, moved_by}
 use Rattle.simulator.specs.WorldState.{GaveLast, accessed}
 
@@ -52,11 +52,11 @@ pub lines_are : (world : World) (past : List Line) (losses : ℕ → ℕ) (me : 
     reverse (step_lines me (step_of a value marks) (step_interrupts world past losses me (Some (step_of a value marks)))) ++ past
 lines_are world past losses me a value marks =
     let first = access_lines me a value in
-    let brought = brought_by world past losses first in
-    let told = map (mark_line me) marks in
-    let whole : reverse told ++ (reverse (first ++ brought) ++ past) ≡ reverse (first ++ (brought ++ told)) ++ past =
-    sym (append_assoc (reverse told) (reverse (first ++ brought)) past) ∙ ap (λ r. r ++ past) (sym (reverse-append (first ++ brought) told) ∙ ap reverse (append_assoc first brought told)) in
-    whole ∙ ap (λ ls. reverse (ls ++ (brought_by world past losses ls ++ told)) ++ past) (sym (same_lines me a value))
+    let brought = interrupts_of_access world past losses first in
+    let recorded = map (mark_line me) marks in
+    let whole : reverse recorded ++ (reverse (first ++ brought) ++ past) ≡ reverse (first ++ (brought ++ recorded)) ++ past =
+    sym (append_assoc (reverse recorded) (reverse (first ++ brought)) past) ∙ ap (λ r. r ++ past) (sym (reverse-append (first ++ brought) recorded) ∙ ap reverse (append_assoc first brought recorded)) in
+    whole ∙ ap (λ ls. reverse (ls ++ (interrupts_of_access world past losses ls ++ recorded)) ++ past) (sym (same_lines me a value))
 
 -- A step that was performed, completed and recorded is the step of the history, and the peer is in
 -- the state after it.

@@ -42,15 +42,15 @@ pub record LinkRefines (config : EndConfig) (peer : Peer) (link : Link) : Type 0
   pub driver : DriverIs link.auto peer.driver
 
 -- A peer state without an end of the link: its peer has no call, open or queued.
-pub record SitsBy (driven : Driver) (peer : Peer) : Type 0 where
+pub record HasNoCalls (driven : Driver) (peer : Peer) : Type 0 where
   pub left : peer.left ≡ Ended
   pub waiting : peer.waiting ≡ []
   pub driver : peer.driver ≡ driven
 
 abbrev pub PeerStateRefines : EndConfig → Peer → PeerState → Type 0
 PeerStateRefines config peer (peer_state.Honest link) = LinkRefines config peer link
-PeerStateRefines config peer (peer_state.Storm x) = SitsBy (Storms x) peer
-PeerStateRefines config peer peer_state.Idle = SitsBy Waits peer
+PeerStateRefines config peer (peer_state.Storm x) = HasNoCalls (Storms x) peer
+PeerStateRefines config peer peer_state.Idle = HasNoCalls Waits peer
 
 -- The frame may be offered.
 abbrev pub IsOffered : ℕ → List ℕ → Type 0

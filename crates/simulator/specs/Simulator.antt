@@ -28,8 +28,8 @@ pub record AreAtStart (world : World) (count : ℕ) (peer_states : List PeerStat
   pub linked : (p : ℕ) (peer_state : PeerState) → slice_get peer_states p ≡ Some peer_state → is_honest peer_state ≡ is_link world p
 
 -- The history state after these events.
-abbrev pub moment_of : World → List Event → HistoryState
-moment_of world events = run world events (initial_state world)
+abbrev pub history_state_after : World → List Event → HistoryState
+history_state_after world events = run world events (initial_state world)
 
 -- The lines of the simulator that were recorded and not drained.
 abbrev pub kept_lines : Simulator → List Line
@@ -41,10 +41,10 @@ pub record RunsTo (world : World) (output : Output) (events : List Event) (s : S
   pub there : AllByRecursion (IsPermittedEvent world) events
   pub geometry : s.sizes.geometry ≡ world.geometry
   pub queue : s.sizes.queue ≡ world.queue
-  pub after : WorldStateAfter world output (moment_of world events).past (moment_of world events).losses s.world_state
+  pub after : WorldStateAfter world output (history_state_after world events).past (history_state_after world events).losses s.world_state
   pub count : length s.peer_states.items ≡ world.geometry.peers
   pub seated : (p : ℕ) → p < world.geometry.peers → HasPeer s.world_state p
-  pub refines : (p : ℕ) (peer_state : PeerState) → slice_get s.peer_states.items p ≡ Some peer_state → PeerStateRefines (config_of world p) (peer_at (moment_of world events) p) peer_state
+  pub refines : (p : ℕ) (peer_state : PeerState) → slice_get s.peer_states.items p ≡ Some peer_state → PeerStateRefines (config_of world p) (peer_at (history_state_after world events) p) peer_state
   pub linked : (p : ℕ) (peer_state : PeerState) → slice_get s.peer_states.items p ≡ Some peer_state → is_honest peer_state ≡ is_link world p
 
 -- The event happens: if the simulator refines the state after any events, the new one refines the

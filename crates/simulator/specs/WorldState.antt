@@ -12,7 +12,7 @@ use Rattle.scenario_text.specs.Scenario.{World, IsWorld}
 use Rattle.lawful_history.specs.declared.line.Line.{Line}
 use Rattle.lawful_history.specs.Memory.{Apart, memory_effect_of, last_write}
 use Rattle.lawful_history.specs.EventRecords.{access_lines}
-use Rattle.lawful_history.specs.Device.{devices_of, device_event_of, device_events, lost_by, lost_count, arrivals, brought_by}
+use Rattle.lawful_history.specs.Device.{devices_of, device_event_of, device_events, lost_by, lost_count, interrupts_of_line, interrupts_of_access}
 use Rattle.lawful_history.specs.Frames.{has_frame}
 use Rattle.simulator.specs.Log.{Output, IsLogOf}
 use Rattle.simulator.specs.declared.world_state.WorldState.{WorldState}
@@ -49,7 +49,7 @@ pub record HasPeer (world_state : WorldState) (me : ℕ) : Type 0 where
 -- byte.
 pub record IsMark (line : Line) : Type 0 where
   pub touch : memory_effect_of line ≡ Apart
-  pub told : device_event_of line ≡ None
+  pub recorded : device_event_of line ≡ None
   pub lost : (p : ℕ) → lost_by line p ≡ 0
   pub frame : has_frame line ≡ true
 
@@ -69,7 +69,7 @@ GaveLast past _ value = Unit {0}
 
 -- The lines after an access of a peer: its line, and the interrupts that it causes.
 abbrev pub accessed : World → List Line → (ℕ → ℕ) → ℕ → Access → ℕ → List Line
-accessed world past losses me a value = access_lines me a value ++ brought_by world past losses (access_lines me a value)
+accessed world past losses me a value = access_lines me a value ++ interrupts_of_access world past losses (access_lines me a value)
 
 -- The line causes these interrupts, after these older lines.
 abbrev pub BringsBy : World → List Line → Option device.Event → List Delivery → Type 0
@@ -83,4 +83,4 @@ with_state region me (Some value) = record region { words = slice_set region.wor
 
 -- A line with the interrupts that it causes.
 abbrev pub line_with_interrupts : World → List Line → (ℕ → ℕ) → Line → List Line
-line_with_interrupts world past losses line = line ∷ arrivals world past losses line
+line_with_interrupts world past losses line = line ∷ interrupts_of_line world past losses line

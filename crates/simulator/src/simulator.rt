@@ -10,13 +10,13 @@ ghost use Rattle.lawful_history.specs.Peers.{at_start};
 ghost use Rattle.lawful_history.specs.Permitted.{IsPermittedEvent};
 ghost use Rattle.simulator.specs.Log.{Output, no_output, given, IsLogOf};
 ghost use Rattle.simulator.specs.PeerStates.{call_of, PeerStateRefines, is_honest};
-ghost use Rattle.simulator.specs.Simulator.{AreAtStart, IsLinked, RunsTo, Happens, IsRunning, IsAct, PlaysAct, moment_of, kept_lines};
+ghost use Rattle.simulator.specs.Simulator.{AreAtStart, IsLinked, RunsTo, Happens, IsRunning, IsAct, PlaysAct, history_state_after, kept_lines};
 
 use crate::link::{Link, Waiting};
 use crate::log::Log;
 use crate::peer_state::{PeerState, StormSizes, reset, turn};
 use crate::world_state::WorldState;
-use call_grammar::calls_stay_in_reach;
+use call_grammar::calls_are_permitted;
 use doorbell_irq::Device;
 use ivs_base::{Frame, NoMemory};
 use lawful_history::{Line, Lines};
@@ -167,7 +167,7 @@ impl Simulator {
         requires { IsRunning self.old peer }
         ensures { OnOk result (Happens (TurnTaken peer) self.old self.new) }
     {
-        calls_stay_in_reach();
+        calls_are_permitted();
         let peer_state = &mut self.peer_states[peer as usize];
         turn(
             self.alloc,
@@ -206,7 +206,7 @@ impl Simulator {
     //    Simulator::read_msix, Simulator::write_msix, Simulator::lose, Simulator::repeat: An act
     //    makes exactly its events, and each event what the rules say of it.
     pub fn act(&mut self, act: &Act) -> Result<(), NoMemory>
-        requires { (world : World) × (output : Output) × (events : List Event) × RunsTo world output events self.old × IsAct world act.now × ((p : ℕ) → (moment_of world events).losses p < 2 ^ 64 - 1) }
+        requires { (world : World) × (output : Output) × (events : List Event) × RunsTo world output events self.old × IsAct world act.now × ((p : ℕ) → (history_state_after world events).losses p < 2 ^ 64 - 1) }
         ensures { OnOk result (PlaysAct act.now self.old self.new) }
     {
         match act {

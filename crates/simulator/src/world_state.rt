@@ -9,7 +9,7 @@ ghost use Rattle.lawful_history.specs.Memory.{last_write};
 ghost use Rattle.lawful_history.specs.Schedule.{InterruptDropped, ReadsConfig, WritesConfig, ReadsRegister, WritesRegister, ReadsMsix, WritesMsix};
 ghost use Rattle.lawful_history.specs.EventRecords.{region_access_lines};
 ghost use Rattle.lawful_history.specs.History.{acted_step};
-ghost use Rattle.lawful_history.specs.Device.{arrival, arrived, arrivals, brought_by, step_interrupts, device_access_line, losses_with};
+ghost use Rattle.lawful_history.specs.Device.{delivery_line, delivery_lines, interrupts_of_line, interrupts_of_access, step_interrupts, device_access_line, losses_with};
 ghost use Rattle.simulator.specs.Log.{Output, Records};
 ghost use Rattle.simulator.specs.WorldState.{InEachWorld, WorldStateAfter, HasPeer, IsMark, CanPerform, GaveLast, line_with_interrupts, accessed, with_state};
 
@@ -49,7 +49,7 @@ impl WorldState {
     /// Delivers one interrupt to its peer, or loses it.
     fn arrive_at(&mut self, delivery: &Delivery) -> Result<(), NoMemory>
         ensures after { InEachWorld self.old (λ world output past losses.
-            OnOk result (WorldStateAfter world output (arrival past losses delivery.now ∷ past) losses self.new)) }
+            OnOk result (WorldStateAfter world output (delivery_line past losses delivery.now ∷ past) losses self.new)) }
         ensures seated { (me : ℕ) → HasPeer self.old me → HasPeer self.new me }
     {
         let Delivery { peer, vector } = *delivery;
@@ -64,7 +64,7 @@ impl WorldState {
     /// Delivers interrupts, in their order.
     fn arrive(&mut self, deliveries: &[Delivery]) -> Result<(), NoMemory>
         ensures after { InEachWorld self.old (λ world output past losses.
-            OnOk result (WorldStateAfter world output (reverse (arrived past losses deliveries.now) ++ past) losses self.new)) }
+            OnOk result (WorldStateAfter world output (reverse (delivery_lines past losses deliveries.now) ++ past) losses self.new)) }
         ensures seated { (me : ℕ) → HasPeer self.old me → HasPeer self.new me }
     {
         for delivery in deliveries {

@@ -1,3 +1,3 @@
-pub mod Framing
-pub mod Marks
-pub mod Draws
+pub mod FramesOfMarks
+pub mod NotesAreMarks
+pub mod DrawnAccess

@@ -3,7 +3,7 @@ ghost use Rattle.std.specs.Prelude.{◌≡◌, ◌≤◌, ◌<◌, IfOk, length}
 ghost use Rattle.sampling_port.specs.Views.{KeepsNumbers};
 
 use sampling_port::{
-    Port, PortFault, PortField, PortNote, calls_are_lists, calls_stay_in_reach,
+    Port, PortFault, PortField, PortNote, calls_are_lists, calls_are_permitted,
     fields_are_read_once, ports_follow_calls,
 };
 use section_map::Geometry;
@@ -73,7 +73,7 @@ fn one_message(rt: HostRuntime) -> Result<(), Fail> {
     assert_eq!(rt; reader.last(0), 1);
     assert_eq!(rt; reader.last(1), 0);
     calls_are_lists();
-    calls_stay_in_reach();
+    calls_are_permitted();
     fields_are_read_once();
     ports_follow_calls();
     Ok(())

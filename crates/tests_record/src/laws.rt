@@ -1,10 +1,10 @@
 //! Each law may be called: none has a condition for its caller.
 use history_laws::{
-    accepted_frames_stand_in_the_section, calls_end_within_bounds, delivered_frames_are_read,
+    accepted_frames_are_spelled, calls_end_within_bounds, delivered_frames_are_read,
     delivered_frames_are_spelled, device_acts_change_nothing, done_polls_deliver_all,
     histories_deliver, histories_run_the_machine, honest_peers_never_refuse, indexes_are_read_once,
-    refused_peers_rest, refused_values_are_out_of_range, refused_values_are_read, resets_are_quiet,
-    sessions_are_numbered, values_out_of_range_are_refused, wakes_are_rung,
+    refused_peers_stay_in_reset, refused_values_are_out_of_range, refused_values_are_read,
+    resets_are_quiet, sessions_are_numbered, values_out_of_range_are_refused, wakes_are_rung,
 };
 
 // claim call_grammar.fields_are_read_once
@@ -14,9 +14,9 @@ use history_laws::{
 // claim history_laws.histories_run_the_machine
 // claim history_laws.done_polls_deliver_all
 // claim history_laws.refused_values_are_out_of_range
-// claim history_laws.refused_peers_rest
+// claim history_laws.refused_peers_stay_in_reset
 // claim history_laws.values_out_of_range_are_refused
-// claim history_laws.accepted_frames_stand_in_the_section
+// claim history_laws.accepted_frames_are_spelled
 // claim history_laws.delivered_frames_are_read
 // claim history_laws.delivered_frames_are_spelled
 // claim history_laws.indexes_are_read_once
@@ -30,10 +30,10 @@ fn laws_of_histories() {
     histories_run_the_machine();
     honest_peers_never_refuse();
     refused_values_are_out_of_range();
-    refused_peers_rest();
+    refused_peers_stay_in_reset();
     done_polls_deliver_all();
     histories_deliver();
-    accepted_frames_stand_in_the_section();
+    accepted_frames_are_spelled();
     delivered_frames_are_read();
     delivered_frames_are_spelled();
     refused_values_are_read();

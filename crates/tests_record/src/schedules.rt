@@ -33,7 +33,7 @@ impl Listener for First {
 
     fn take_lines(&mut self, lines: &[Line]) -> Result<(), Stopped> {
         self.lines = lines.len();
-        Err(Stopped::HeardEnough)
+        Err(Stopped::HasEnough)
     }
 }
 
@@ -43,7 +43,7 @@ fn a_listener_stops_the_play(rt: HostRuntime) -> Result<(), Fail> {
     let alloc = rt.alloc();
     let scenario = parse(alloc, SESSION)?;
     let mut first = First { lines: 0 };
-    assert!(rt; play(alloc, &scenario, 2, &mut first) == Err(Stopped::HeardEnough));
+    assert!(rt; play(alloc, &scenario, 2, &mut first) == Err(Stopped::HasEnough));
     assert!(rt; first.lines >= 256);
     Ok(())
 }

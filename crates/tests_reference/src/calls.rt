@@ -125,7 +125,7 @@ fn config(me: u32, words: u32) -> Result<EndConfig, Fail> {
 }
 
 /// Returns the configuration of the same peer in a link with events.
-fn event_who(me: u32) -> Result<EndConfig, Fail> {
+fn event_config(me: u32) -> Result<EndConfig, Fail> {
     let mut config = config(me, 4096)?;
     config.queue = Queue::of_version(2, 16_384, 256)?;
     Ok(config)
@@ -210,7 +210,7 @@ fn check(
 
 /// Returns the configuration of the same peer in a link with a byte ring, in which a frame may have
 /// the length of the ring.
-fn byte_who(me: u32) -> Result<EndConfig, Fail> {
+fn byte_config(me: u32) -> Result<EndConfig, Fail> {
     let mut config = config(me, 4096)?;
     config.queue = Queue::of_version(3, 16_384, 14_574)?;
     Ok(config)
@@ -375,7 +375,7 @@ const EVENTS: [(u32, &[Line], u64, bool); 8] = [
 #[test]
 fn event_asked(rt: HostRuntime) -> Result<(), Fail> {
     let alloc = rt.alloc();
-    let config = event_who(0)?;
+    let config = event_config(0)?;
     let call = Call::Offer(frame(alloc, 0)?);
     for (number, writes, event, asks) in EVENTS {
         let mut end = end(alloc, Phase::Run, number);
@@ -453,7 +453,7 @@ const FLYING: [(&[u64], u32); 10] = [
 #[test]
 fn bytes_in_flight(rt: HostRuntime) -> Result<(), Fail> {
     let alloc = rt.alloc();
-    let config = byte_who(0)?;
+    let config = byte_config(0)?;
     let call = Call::Offer(frame(alloc, 0)?);
     let freed: [u64; 45] = [274; 45];
     for (flying, start) in FLYING {
@@ -490,7 +490,7 @@ const LAST_DESCRIPTOR: [Line; 15] = [
 #[test]
 fn descriptors_in_flight(rt: HostRuntime) -> Result<(), Fail> {
     let alloc = rt.alloc();
-    let config = byte_who(0)?;
+    let config = byte_config(0)?;
     let call = Call::Offer(frame(alloc, 0)?);
     let lengths: [u64; 64] = [14; 64];
     let full = end_of(alloc, &lengths, 0)?;
@@ -658,7 +658,7 @@ fn offer_between_the_looks(rt: HostRuntime) -> Result<(), Fail> {
     for (delivered, lines) in TWO_LOOKS {
         let mut end = end(alloc, Phase::Run, 0);
         end.delivered = delivered;
-        check(&rt, alloc, &event_who(1)?, &end, &Call::Poll, lines)?;
+        check(&rt, alloc, &event_config(1)?, &end, &Call::Poll, lines)?;
     }
     Ok(())
 }
@@ -671,7 +671,7 @@ const QUIET: [Line; 3] = [('r', 1280, 0), ('l', 0, 0), ('k', 0, 0)];
 #[test]
 fn armed_poll_stays_quiet(rt: HostRuntime) -> Result<(), Fail> {
     let alloc = rt.alloc();
-    let config = event_who(1)?;
+    let config = event_config(1)?;
     let mut end = end(alloc, Phase::Run, 0);
     end.found_none = true;
     check(&rt, alloc, &config, &end, &Call::Poll, &QUIET)?;

@@ -21,13 +21,13 @@ fn is_of_session(line: &[u8]) -> bool {
 
 /// The result of a run: its status, its text, and whether it left the words and pass of its peers.
 #[derive(Drop)]
-struct Told {
+struct RunResult {
     status: Status,
     text: Vec<u8>,
     has_ran: bool,
 }
 
-impl Told {
+impl RunResult {
     /// Returns the number of lines that begin with `start`.
     fn count(&self, start: &[u8]) -> usize {
         self.text
@@ -68,7 +68,7 @@ fn run<R: Threads + Sync, G: Gate + Sync>(
     alloc: Global,
     scenario: &str,
     gate: &G,
-) -> Result<Told, Fail> {
+) -> Result<RunResult, Fail> {
     let mut words = Vec::new(alloc);
     words.push(String::from_str(alloc, "run")?)?;
     let mut source = MemorySource::new(alloc, scenario.as_bytes(), 4096, &[])?;
@@ -85,7 +85,7 @@ fn run<R: Threads + Sync, G: Gate + Sync>(
     );
     let text = sink.bytes().to_vec(alloc)?;
     let has_ran = ran.is_some();
-    Ok(Told {
+    Ok(RunResult {
         status,
         text,
         has_ran,
@@ -113,15 +113,15 @@ fn automatic(
 }
 
 /// Checks that the run is done, and how many of its lines begin with each of these starts.
-fn check_counts(rt: &impl Abort, told: &Told, rows: &[(&str, usize)]) {
-    assert!(rt; told.status == Status::Done);
+fn check_counts(rt: &impl Abort, run_result: &RunResult, rows: &[(&str, usize)]) {
+    assert!(rt; run_result.status == Status::Done);
     for at in 0..rows.len() {
-        assert!(rt; told.counts(rows[at]), "row {at}");
+        assert!(rt; run_result.counts(rows[at]), "row {at}");
     }
 }
 
 /// Checks that both peers finished, and that each delivered what the other offered.
-fn check_delivered(rt: &impl Abort, told: &Told, frames: [u32; 2]) {
+fn check_delivered(rt: &impl Abort, run_result: &RunResult, frames: [u32; 2]) {
     let [first, second] = frames;
     let rows = [
         ("finished", 2),
@@ -132,8 +132,8 @@ fn check_delivered(rt: &impl Abort, told: &Told, frames: [u32; 2]) {
         ("accept 1 ", second as usize),
         ("deliver 0 ", second as usize),
     ];
-    check_counts(rt, told, &rows);
-    assert!(rt; told.has_ran);
+    check_counts(rt, run_result, &rows);
+    assert!(rt; run_result.has_ran);
 }
 
 /// Peers that exchange frames: the head of their scenario, the numbers of their frames, and their
@@ -158,9 +158,9 @@ fn check_near<R: Threads + Sync + Abort>(
 ) -> Result<(), Fail> {
     let scenario = automatic(alloc, head, frames, turns)?;
     let gate = Near::new(span);
-    let told = run(rt, alloc, &scenario, &gate)?;
+    let run_result = run(rt, alloc, &scenario, &gate)?;
     assert!(rt; !gate.is_spent());
-    check_delivered(rt, &told, frames);
+    check_delivered(rt, &run_result, frames);
     Ok(())
 }
 
@@ -181,9 +181,9 @@ fn check_meeting<R: Threads + Sync + Abort>(
     scenario: &str,
 ) -> Result<(), Fail> {
     let gate = Meeting::new();
-    let told = run(rt, alloc, scenario, &gate)?;
+    let run_result = run(rt, alloc, scenario, &gate)?;
     assert!(rt; gate.was_passed());
-    check_counts(rt, &told, &[("refuse ", 0)]);
+    check_counts(rt, &run_result, &[("refuse ", 0)]);
     Ok(())
 }
 
@@ -193,11 +193,11 @@ fn run_near_assembly<R: Threads + Sync + Abort>(
     alloc: Global,
     scenario: &str,
     peers: u64,
-) -> Result<Told, Fail> {
+) -> Result<RunResult, Fail> {
     let gate = NearAssembly::new(peers, 64);
-    let told = run(rt, alloc, scenario, &gate)?;
+    let run_result = run(rt, alloc, scenario, &gate)?;
     assert!(rt; gate.assembly.was_passed() && !gate.near.is_spent());
-    Ok(told)
+    Ok(run_result)
 }
 
 /// Peers that exchange frames, and meet at their first turns.
@@ -218,8 +218,8 @@ fn peers_run_beside_one_another(rt: HostRuntime) -> Result<(), Fail> {
     for (head, frames, turns) in MEETINGS {
         let scenario = automatic(alloc, head, frames, turns)?;
         check_meeting(&rt, alloc, &scenario)?;
-        let told = run_near_assembly(&rt, alloc, &scenario, 2)?;
-        check_delivered(&rt, &told, frames);
+        let run_result = run_near_assembly(&rt, alloc, &scenario, 2)?;
+        check_delivered(&rt, &run_result, frames);
     }
     Ok(())
 }
@@ -232,9 +232,14 @@ fn lockstep_through_a_session(rt: HostRuntime) -> Result<(), Fail> {
 
 /// Whether the gate was called once at the end of the peer, and the peer's line has the number of
 /// its turns.
-fn is_counted(alloc: Global, gate: &Counter, told: &Told, peer: u32) -> Result<bool, Fail> {
+fn is_counted(
+    alloc: Global,
+    gate: &Counter,
+    run_result: &RunResult,
+    peer: u32,
+) -> Result<bool, Fail> {
     let line = format!(in alloc; "turns {}", gate.turns.of(peer))?;
-    Ok(gate.ends.of(peer) == 1 && told.count(line.as_bytes()) > 0)
+    Ok(gate.ends.of(peer) == 1 && run_result.count(line.as_bytes()) > 0)
 }
 
 #[test]
@@ -242,11 +247,11 @@ fn a_gate_is_called_before_each_turn(rt: HostRuntime) -> Result<(), Fail> {
     let alloc = rt.alloc();
     let scenario = automatic(alloc, HONEST, [3, 0], 100_000)?;
     let gate = Counter::new();
-    let told = run(&rt, alloc, &scenario, &gate)?;
-    check_delivered(&rt, &told, [3, 0]);
+    let run_result = run(&rt, alloc, &scenario, &gate)?;
+    check_delivered(&rt, &run_result, [3, 0]);
     assert!(rt; !gate.near.is_spent() && gate.faults.load(Ordering::SeqCst) == 0);
-    assert!(rt; is_counted(alloc, &gate, &told, 0)?);
-    assert!(rt; is_counted(alloc, &gate, &told, 1)?);
+    assert!(rt; is_counted(alloc, &gate, &run_result, 0)?);
+    assert!(rt; is_counted(alloc, &gate, &run_result, 1)?);
     Ok(())
 }
 
@@ -266,9 +271,9 @@ const ANEW: &[u8] =
     b"session 0 1 1\nx 0\nsession 0 2 2\nspent\nsession 1 1 1\nsession 1 2 2\nspent\n";
 
 /// Whether the record is one of a run, and has these lines of sessions.
-fn has_sessions(alloc: Global, told: &Told, wanted: &[u8]) -> Result<bool, Fail> {
-    let found = told.sessions(alloc)?;
-    Ok(told.text.starts_with(b"run 2\n") && found.as_slice() == wanted)
+fn has_sessions(alloc: Global, run_result: &RunResult, wanted: &[u8]) -> Result<bool, Fail> {
+    let found = run_result.sessions(alloc)?;
+    Ok(run_result.text.starts_with(b"run 2\n") && found.as_slice() == wanted)
 }
 
 // claim peer_runner.drive
@@ -277,11 +282,11 @@ fn a_reset_peer_opens_a_session_anew(rt: HostRuntime) -> Result<(), Fail> {
     let alloc = rt.alloc();
     let scenario = restarting(alloc)?;
     let gate = Near::new(64);
-    let told = run(&rt, alloc, &scenario, &gate)?;
+    let run_result = run(&rt, alloc, &scenario, &gate)?;
     assert!(rt; !gate.is_spent());
-    assert!(rt; has_sessions(alloc, &told, ANEW)?);
-    check_counts(&rt, &told, &[("refuse ", 0)]);
-    assert!(rt; told.lines(b"turns 406001") == 1);
+    assert!(rt; has_sessions(alloc, &run_result, ANEW)?);
+    check_counts(&rt, &run_result, &[("refuse ", 0)]);
+    assert!(rt; run_result.lines(b"turns 406001") == 1);
     Ok(())
 }
 
@@ -303,11 +308,11 @@ fn is_own(line: &[u8]) -> bool {
 
 /// Whether each peer of the run writes its own section alone, and the last part is that of the
 /// storm.
-fn is_storm(told: &Told) -> Result<bool, Fail> {
-    let is_last = str::from_utf8(&told.text)?.contains("turns 20000\nspent\nend ");
+fn is_storm(run_result: &RunResult) -> Result<bool, Fail> {
+    let is_last = str::from_utf8(&run_result.text)?.contains("turns 20000\nspent\nend ");
     Ok(
         is_last
-            && told
+            && run_result
                 .text
                 .split(|byte| *byte == b'\n')
                 .all(|line| is_own(line)),
@@ -322,10 +327,10 @@ fn a_storm_beside_an_honest_peer(rt: HostRuntime) -> Result<(), Fail> {
     let scenario = format!(in alloc;
         "{HOSTILE}auto 0 0\noffer 0 {FRAME}\noffer 0 {FRAME}\noffer 0 {FRAME}\nstorm 1 7\nturn 0 20000\nturn 1 20000\nend\n"
     )?;
-    let told = run(&rt, alloc, &scenario, &OpenGate)?;
-    assert!(rt; told.status == Status::Done && told.has_ran);
-    assert!(rt; told.count(b"w 1 ") > 0);
-    assert!(rt; is_storm(&told)?);
+    let run_result = run(&rt, alloc, &scenario, &OpenGate)?;
+    assert!(rt; run_result.status == Status::Done && run_result.has_ran);
+    assert!(rt; run_result.count(b"w 1 ") > 0);
+    assert!(rt; is_storm(&run_result)?);
     Ok(())
 }
 
@@ -349,7 +354,7 @@ fn eight(alloc: Global, wiring: &str, acts: &str) -> Result<String, AllocError> 
 fn eight_peers_run_at_once(rt: HostRuntime) -> Result<(), Fail> {
     let alloc = rt.alloc();
     let scenario = eight(alloc, "msix 2", "")?;
-    let told = run_near_assembly(&rt, alloc, &scenario, 8)?;
+    let run_result = run_near_assembly(&rt, alloc, &scenario, 8)?;
     let rows = [
         ("accept 0 ", 5),
         ("accept 1 ", 5),
@@ -358,9 +363,9 @@ fn eight_peers_run_at_once(rt: HostRuntime) -> Result<(), Fail> {
         ("refuse ", 0),
         ("i ", 0),
     ];
-    check_counts(&rt, &told, &rows);
-    assert!(rt; told.lines(b"turns 1000") == 6);
-    assert!(rt; told.lines(b"finished") == 2);
+    check_counts(&rt, &run_result, &rows);
+    assert!(rt; run_result.lines(b"turns 1000") == 6);
+    assert!(rt; run_result.lines(b"finished") == 2);
     Ok(())
 }
 
@@ -368,10 +373,10 @@ fn eight_peers_run_at_once(rt: HostRuntime) -> Result<(), Fail> {
 fn a_peer_in_one_shot_mode_is_interrupted_once(rt: HostRuntime) -> Result<(), Fail> {
     let alloc = rt.alloc();
     let scenario = eight(alloc, "intx", "cfg 1 w 67 1 1\nmmio 1 w 8 1\n")?;
-    let told = run(&rt, alloc, &scenario, &OpenGate)?;
-    check_counts(&rt, &told, &[("refuse ", 0)]);
-    assert!(rt; told.lines(b"turns 1000") == 6);
-    let interrupts = told.count(b"i 1 0");
-    assert!(rt; interrupts <= 1 && told.count(b"i ") == interrupts);
+    let run_result = run(&rt, alloc, &scenario, &OpenGate)?;
+    check_counts(&rt, &run_result, &[("refuse ", 0)]);
+    assert!(rt; run_result.lines(b"turns 1000") == 6);
+    let interrupts = run_result.count(b"i 1 0");
+    assert!(rt; interrupts <= 1 && run_result.count(b"i ") == interrupts);
     Ok(())
 }

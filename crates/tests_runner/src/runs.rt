@@ -364,7 +364,7 @@ const ONE_SHOT: &[u8] =
 /// takes one.
 // claim peer_runner.drive
 #[test]
-fn a_one_shot_peer_hears_once(rt: HostRuntime) -> Result<(), Fail> {
+fn a_one_shot_peer_is_interrupted_once(rt: HostRuntime) -> Result<(), Fail> {
     let sights = [
         (0, Sight::Interrupts(1)),
         (0, Sight::MoreLines(1)),
@@ -384,7 +384,7 @@ const DOORBELLS: &[u8] =
 /// for its first frame before peer 1 runs, and for its second one after the first was delivered.
 /// One interrupt comes for each, before its frame.
 #[test]
-fn each_doorbell_between_honest_peers_is_heard(rt: HostRuntime) -> Result<(), Fail> {
+fn each_doorbell_between_honest_peers_is_delivered(rt: HostRuntime) -> Result<(), Fail> {
     let sights = [
         (0, Sight::Turns(9129)),
         (0, Sight::Finished(true)),
@@ -548,18 +548,18 @@ fn two_threads_deliver_by_events(rt: HostRuntime) -> Result<(), Fail> {
 // claim peer_runner.words_are_made
 // claim peer_runner.all_words_are_made
 // claim peer_runner.interrupts_are_rung
-// claim peer_runner.doorbells_stand
+// claim peer_runner.doorbells_stay_set
 // claim peer_runner.accesses_are_calls
 // claim peer_runner.words_are_written
-// claim peer_runner.phases_show
+// claim peer_runner.words_follow_phases
 // claim peer_runner.flight_is_spelled
 // claim peer_runner.offers_store_apart
 // claim peer_runner.read_values_are_in_range
 // claim peer_runner.honest_peers_never_refuse
-// claim peer_runner.other_opens_none
+// claim peer_runner.other_opens_no_session
 // claim peer_runner.session_words_are_numbers
 // claim peer_runner.sessions_are_paired
-// claim peer_runner.pair_keeps
+// claim peer_runner.pair_invariant_holds
 // claim peer_runner.read_values_are_as_sent
 // claim peer_runner.hostile_words_are_free
 #[test]
@@ -568,19 +568,19 @@ fn laws_of_the_rule() {
     laws::all_words_are_made();
     laws::stores_are_owned();
     laws::interrupts_are_rung();
-    laws::doorbells_stand();
+    laws::doorbells_stay_set();
     laws::accesses_are_calls();
     laws::words_are_written();
-    laws::phases_show();
+    laws::words_follow_phases();
     laws::flight_is_spelled();
     laws::offers_store_apart();
     laws::read_values_are_in_range();
     laws::honest_peers_never_refuse();
-    laws::other_opens_none();
+    laws::other_opens_no_session();
     laws::session_words_are_numbers();
     laws::hostile_sessions_are_none();
     laws::sessions_are_paired();
-    laws::pair_keeps();
+    laws::pair_invariant_holds();
     laws::asked_doorbells_are_rung();
     laws::read_values_are_as_sent();
     laws::hostile_words_are_free();

@@ -147,9 +147,9 @@ fn a_fault_leaves_a_front(rt: HostRuntime) -> Result<(), Fail> {
 // A reader and a writer without a model of their bytes. The second read fails, and the second write
 // writes nothing.
 #[derive(Drop)]
-struct Untold(u8);
+struct Unmodelled(u8);
 
-impl Read for Untold {
+impl Read for Unmodelled {
     fn read(&mut self, buf: &mut [u8]) -> io::Result<usize> {
         self.0 = self.0.saturating_add(1);
         match self.0 {
@@ -160,7 +160,7 @@ impl Read for Untold {
     }
 }
 
-impl Write for Untold {
+impl Write for Unmodelled {
     fn write(&mut self, buf: &[u8]) -> io::Result<usize> {
         self.0 = self.0.saturating_add(1);
         Ok(if self.0 == 2 { 0 } else { buf.len().min(3) })
@@ -174,17 +174,17 @@ impl Write for Untold {
 // claim ivs_base.InputSource.read.end
 #[test]
 fn faults_of_the_standard_ends(rt: HostRuntime) -> Result<(), Fail> {
-    let mut source = InputSource::new(Untold(0));
+    let mut source = InputSource::new(Unmodelled(0));
     let got = read_all(rt.alloc(), &mut source, 10);
     assert_eq!(rt; got.map(|read| read.len()), Err(ReadEnd::ReadFault));
     assert_eq!(rt; source.faults(), 1);
-    let mut ended = InputSource::new(Untold(2));
+    let mut ended = InputSource::new(Unmodelled(2));
     assert_eq!(rt;
         read_all(rt.alloc(), &mut ended, 10).map(|read| read.len()),
         Ok(0)
     );
 
-    let mut sink = OutputSink::new(Untold(0));
+    let mut sink = OutputSink::new(Unmodelled(0));
     assert_eq!(rt; write_whole(&mut sink, b"bytes"), Err(WriteFault));
     assert_eq!(rt; sink.faults(), 1);
     let mut whole = OutputSink::new(io::writer(&rt));

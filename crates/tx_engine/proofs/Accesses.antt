@@ -13,7 +13,7 @@ use Rattle.tx_engine.specs.declared.place.Place.{Place}
 use Rattle.tx_engine.specs.declared.place.Place.TheVariants.{ReadingUsedId, WritingAvailEntry}
 use Rattle.tx_engine.specs.Sender.{Sender, IsSender, allocator_of, entry_word_of}
 use Rattle.tx_engine.specs.Refinement.{RefinesAt, CountsMatch, IsAt, IsMadeFor, HasCopy}
-use Rattle.tx_engine.proofs.Counting.{fewer, once}
+use Rattle.tx_engine.proofs.ModularCounts.{fewer, once}
 use Rattle.tx_engine.proofs.Flights.{oldest_of_flight}
 
 -- The facts of the end that follow from the sender's place `here`.

@@ -15,7 +15,7 @@ use Rattle.tx_engine.specs.Sender.{Sender, IsFrame, IsPlace, allocator_of}
 use Rattle.tx_engine.specs.Representation.{sender_of, IsWellFormed}
 use Rattle.tx_engine.specs.Continuations.{GoesOn, full_notes}
 use Rattle.tx_engine.specs.Refinement.{TakesStep}
-use Rattle.tx_engine.proofs.Reading.{CanGoOn, with_turn, oldest_length, index_taken, id_taken, id_refused}
+use Rattle.tx_engine.proofs.AfterReads.{CanGoOn, with_turn, oldest_length, index_taken, id_taken, id_refused}
 
 pub length_is : (t : Inside) → IsWellFormed t → length (sender_of t).frame ≡ t.length
 length_is t kept = omega (arith, length-take t.length t.buffer.items, kept.buffer, kept.length)

@@ -17,7 +17,7 @@ use Rattle.frame_slots.proofs.Rings.{turns_lem}
 use Rattle.frame_slots.proofs.Fitting.{few_of}
 use Rattle.call_grammar.specs.Words.{words_for}
 use Rattle.tx_engine.specs.Sender.{FlightRefinesSession, HasFlight}
-use Rattle.tx_engine.proofs.Counting.{fewer}
+use Rattle.tx_engine.proofs.ModularCounts.{fewer}
 
 -- The lengths of frames from `sent` on make no difference.
 pub told_flight : (t : Allocator) (lengths : List ℕ) (length_of others : ℕ → ℕ) (freed sent : ℕ) → ((j : ℕ) → j < sent → length_of j ≡ others j) → FlightRefinesSession t lengths length_of freed sent →

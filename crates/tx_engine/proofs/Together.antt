@@ -12,7 +12,7 @@ use Rattle.call_grammar.specs.Calls.{pending_of}
 use Rattle.call_grammar.specs.Words.{words_for, frame_word, word_bytes}
 use Rattle.call_grammar.specs.Bursts.{StepsThrough, WritesBurst, place_after}
 use Rattle.call_grammar.specs.Places as laws
-use Rattle.call_grammar.proofs.Spelled.{word_again}
+use Rattle.call_grammar.proofs.WordsOfBytes.{word_again}
 use Rattle.frame_slots.specs.declared.slots.Slot as slots
 use Rattle.tx_engine.specs.declared.ahead.Burst.{Burst}
 use Rattle.tx_engine.specs.declared.ahead.Bursts.{Bursts}
@@ -21,7 +21,7 @@ use Rattle.tx_engine.specs.Sender.{Sender, IsSender, HasSlot, entry_word_of}
 use Rattle.tx_engine.specs.Ahead.{listed, WritesAll}
 use Rattle.tx_engine.specs.Refinement.{RefinesAt, IsAt, IsMadeFor, HasPlaced, StaysOpen}
 use Rattle.tx_engine.proofs.Accesses.{at_here, entry_access}
-use Rattle.tx_engine.proofs.Stretching.{fill_at, placed, fills, describes, writes_on, described_word, descriptor_bytes}
+use Rattle.tx_engine.proofs.FrameBursts.{fill_at, placed, fills, describes, writes_on, described_word, descriptor_bytes}
 
 -- The steps
 

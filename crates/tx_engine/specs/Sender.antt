@@ -107,12 +107,12 @@ entry_word_of tx descriptor = with_entry (tx.accepted % size_of tx.sizes) (slice
 
 -- The access reads a word of the other's section, writes a word of the own section or State 0, or
 -- rings the target.
-abbrev pub IsInReach : Sender → Access → Type 0
-IsInReach tx (access.Read word) = (tx.theirs ≤ word) × (4 * word + 4 ≤ 4 * tx.theirs + tx.sizes.out)
-IsInReach tx (access.Write word value) = (tx.own ≤ word) × (4 * word + 4 ≤ 4 * tx.own + tx.sizes.out)
-IsInReach tx (access.State state) = state ≡ 0
-IsInReach tx (access.Ring target vector) = (target ≡ tx.target) × (vector ≡ tx.vector)
-IsInReach tx access.Nothing = ⊥
+abbrev pub IsSenderAccess : Sender → Access → Type 0
+IsSenderAccess tx (access.Read word) = (tx.theirs ≤ word) × (4 * word + 4 ≤ 4 * tx.theirs + tx.sizes.out)
+IsSenderAccess tx (access.Write word value) = (tx.own ≤ word) × (4 * word + 4 ≤ 4 * tx.own + tx.sizes.out)
+IsSenderAccess tx (access.State state) = state ≡ 0
+IsSenderAccess tx (access.Ring target vector) = (target ≡ tx.target) × (vector ≡ tx.vector)
+IsSenderAccess tx access.Nothing = ⊥
 
 -- A sender with these parameters that accepted, wrote and was offered nothing.
 abbrev pub fresh_sender : Sizes → (own theirs target vector : ℕ) → Sender

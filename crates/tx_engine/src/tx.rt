@@ -7,12 +7,12 @@ ghost use Rattle.call_grammar.specs.Ends.{End};
 ghost use Rattle.call_grammar.specs.Ticks.{EndConfig};
 ghost use Rattle.call_grammar.specs.Calls.{Offer};
 ghost use Rattle.call_grammar.specs.Places as laws;
-ghost use Rattle.call_grammar.specs.Reach.{HasSections, IsPermittedAccess};
+ghost use Rattle.call_grammar.specs.Permitted.{HasSections, IsPermittedAccess};
 ghost use Rattle.call_grammar.specs.Words.{words_for, frame_word, word_bytes};
 ghost use Rattle.call_grammar.specs.Bursts.{StepsThrough, WritesBurst};
 ghost use Rattle.call_grammar.specs.Orders.{word_kind};
 ghost use Rattle.link_handshake.specs.declared.Phase.TheVariants.{Run};
-ghost use Rattle.tx_engine.specs.Sender.{IsSender, fresh_sender, renewed, is_open, writes_ahead, IsFrame, IsPlace, IsInReach, entry_word_of};
+ghost use Rattle.tx_engine.specs.Sender.{IsSender, fresh_sender, renewed, is_open, writes_ahead, IsFrame, IsPlace, IsSenderAccess, entry_word_of};
 ghost use Rattle.tx_engine.specs.Ahead.{bursts_of, words_of, listed, last_words, WritesAll};
 ghost use Rattle.tx_engine.specs.Refinement.{RefinesAt, rings, TakesStep, StaysOpen, IsMadeFor, IsFreshSession, IdleEngineOutlivesSteps};
 
@@ -173,7 +173,7 @@ impl Tx {
     pub fn next(&self) -> Access
         requires { is_open self.now.place ≡ true }
         ensures access { (config : EndConfig) (end : End) (place : laws.Place) → RefinesAt self.now config end place → result ≡ laws.access_at config place }
-        ensures reach { IsInReach self.now result }
+        ensures reach { IsSenderAccess self.now result }
         ensures lawful { (config : EndConfig) → IsMadeFor self.now config → HasSections config → IsPermittedAccess config result }
     {
         let queue = &self.queue;

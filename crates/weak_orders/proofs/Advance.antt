@@ -10,10 +10,10 @@ use Rattle.call_grammar.specs.Offers.{PendingOffer}
 use Rattle.link_invariant.specs.LinkConfig.{LinkConfig, IsLinkConfig, config_of, section_of}
 use Rattle.link_invariant.specs.Steps.{ReadsMemory, MemoryAfter}
 use Rattle.link_invariant.specs.EndInvariant.{EndInvariant}
-use Rattle.weak_orders.specs.Memory.{Moment, Action, Starts, Begins, Takes, Fences, Hears, Resets, Does, Heard, seen}
+use Rattle.weak_orders.specs.Memory.{Moment, Action, Starts, Begins, Takes, Fences, Receives, Resets, Does, Received, seen}
 use Rattle.weak_orders.proofs.Cuts.{Cut, flip}
 use Rattle.weak_orders.proofs.Diamond.{Looked, looked, Clash, diamond}
-use Rattle.weak_orders.proofs.Held.{At, like, turn, met, action_cut, Comes, no_clash}
+use Rattle.weak_orders.proofs.InvariantAtMoments.{At, like, turn, met, action_cut, Comes, no_clash}
 
 -- A moment of the other at which the word has the value that the action loaded.
 abbrev pub Sourced : LinkConfig → ℕ → Moment → (others : ℕ → Moment) → (now : ℕ) → Action → Type 0
@@ -39,7 +39,7 @@ Reclaimed link_config p m m' others _ = Unit {0}
 
 -- The same for a doorbell that the end received.
 abbrev pub Rung : LinkConfig → ℕ → Moment → (others : ℕ → Moment) → Action → Type 0
-Rung link_config p m' others (Hears k) = Heard link_config p m' others k
+Rung link_config p m' others (Receives k) = Received link_config p m' others k
 Rung link_config p m' others _ = Unit {0}
 
 pub record Trail (link_config : LinkConfig) (p : ℕ) (past : ℕ → Moment) (k : ℕ) (others : ℕ → Moment) (now : ℕ) : Type 0 where
@@ -64,7 +64,7 @@ pub record Held (link_config : LinkConfig) (pasts : ℕ → ℕ → Moment) (now
   pub low : (p : ℕ) → p < 2 → (a : ℕ) → a ≤ now p → (pasts p a).fenced ≤ (pasts p (now p)).fenced
   pub alone : (p : ℕ) → p < 2 → (a : ℕ) → a ≤ now p → (y : ℕ → ℕ) × EndInvariant link_config (seen link_config p (pasts p a).words y) p (pasts p a).end (pasts p a).place
   pub causal : (p : ℕ) → p < 2 → (a : ℕ) → suc a ≤ now p → (k : ℕ) → k ≤ (pasts p (suc a)).view → (pasts (1 - p) k).view ≤ a
-  pub heard : (p : ℕ) → p < 2 → (a : ℕ) → a ≤ now p → (t k : ℕ) → (pasts p a).owed ≡ false → (pasts p a).place ≡ ReadingAvailEvent t → (pasts p a).fenced ≤ k → k ≤ a → (pasts p k).place ≡ ReadingAvailEvent t
+  pub received : (p : ℕ) → p < 2 → (a : ℕ) → a ≤ now p → (t k : ℕ) → (pasts p a).owed ≡ false → (pasts p a).place ≡ ReadingAvailEvent t → (pasts p a).fenced ≤ k → k ≤ a → (pasts p k).place ≡ ReadingAvailEvent t
   pub near : (p : ℕ) → p < 2 → (a : ℕ) → a ≤ now p → (pasts p a).fenced ≤ a
   pub trail : (p : ℕ) → p < 2 → (k : ℕ) → suc k ≤ now p → Trail link_config p (pasts p) k (pasts (1 - p)) (now (1 - p))
 
@@ -128,7 +128,7 @@ module _ (link_config : LinkConfig) (is : IsLinkConfig link_config) (pasts : ℕ
         by_action Starts d s = absurd d
         by_action (Begins call) d s = turn link_config is p p2 new (pasts (1 - p) (suc k)) (action_cut link_config is (1 - p) (omega arith) (pasts (1 - p) k) (pasts (1 - p) (suc k)) new (Begins call) d tt (flip link_config is p p2 c))
         by_action Fences d s = turn link_config is p p2 new (pasts (1 - p) (suc k)) (action_cut link_config is (1 - p) (omega arith) (pasts (1 - p) k) (pasts (1 - p) (suc k)) new Fences d tt (flip link_config is p p2 c))
-        by_action (Hears h) d s = turn link_config is p p2 new (pasts (1 - p) (suc k)) (action_cut link_config is (1 - p) (omega arith) (pasts (1 - p) k) (pasts (1 - p) (suc k)) new (Hears h) d tt (flip link_config is p p2 c))
+        by_action (Receives h) d s = turn link_config is p p2 new (pasts (1 - p) (suc k)) (action_cut link_config is (1 - p) (omega arith) (pasts (1 - p) k) (pasts (1 - p) (suc k)) new (Receives h) d tt (flip link_config is p p2 c))
         by_action Resets d s = turn link_config is p p2 new (pasts (1 - p) (suc k)) (action_cut link_config is (1 - p) (omega arith) (pasts (1 - p) k) (pasts (1 - p) (suc k)) new Resets d tt (flip link_config is p p2 c))
         by_action (Takes value) d s = by_met value d s (met (access_at (config_of link_config (1 - p)) (pasts (1 - p) k).place) value)
 

@@ -5,11 +5,11 @@ use Rattle.split_ring.specs.declared.steps.Access.TheVariants as access
 use Rattle.call_grammar.specs.Places.{access_at}
 use Rattle.link_invariant.specs.LinkConfig.{LinkConfig, config_of}
 use Rattle.link_invariant.specs.Steps.{ReadsMemory}
-use Rattle.weak_orders.specs.Memory.{Moment, Action, Starts, Begins, Takes, Fences, Hears, Resets, access_of, Loads, LoadsBy, FencedBy, seen}
+use Rattle.weak_orders.specs.Memory.{Moment, Action, Starts, Begins, Takes, Fences, Receives, Resets, access_of, Loads, LoadsBy, FencedBy, seen}
 use Rattle.weak_orders.specs.Runs.{WeakRuns, IsFirst}
 use Rattle.weak_orders.specs.Runs as runs
 use Rattle.weak_orders.specs.Stronger.{IsFenced, BufferedRuns, starts, goes, StoreBufferRunsAreWeak}
-use Rattle.weak_orders.proofs.Main.{pick}
+use Rattle.weak_orders.proofs.RunsKeepInvariant.{pick}
 
 -- What has left a buffer is past. An end's view has left the other's buffer, and its last fence has
 -- left its own buffer.
@@ -27,20 +27,20 @@ loads_so link_config p old new theirs out now value access.Nothing met = tt
 
 module _ (link_config : LinkConfig) (p : ℕ) (old new : Moment) (theirs : ℕ → Moment) (out now : ℕ) where
   loads_by : (action : Action) → ((value : ℕ) → action ≡ Takes value → ReadsMemory (seen link_config p old.words (theirs out).words) (access_at (config_of link_config p) old.place) value) →
-      ((k : ℕ) → action ≡ Hears k → (k < out) × (access_of link_config (1 - p) (theirs k).place (theirs (suc k)).action ≡ access.Ring p link_config.vector)) → new.view ≡ out → out ≤ now → Loads link_config p old new out theirs now action
-  loads_by Starts met heard view most = tt
-  loads_by (Begins call) met heard view most = tt
-  loads_by Fences met heard view most = tt
-  loads_by (Hears k) met heard view most = let h = heard k refl in let lt = h.0 in (omega arith, (h.1, λ r. omega arith))
-  loads_by Resets met heard view most = tt
-  loads_by (Takes value) met heard view most = loads_so link_config p old new theirs out now value (access_at (config_of link_config p) old.place) (met value refl)
+      ((k : ℕ) → action ≡ Receives k → (k < out) × (access_of link_config (1 - p) (theirs k).place (theirs (suc k)).action ≡ access.Ring p link_config.vector)) → new.view ≡ out → out ≤ now → Loads link_config p old new out theirs now action
+  loads_by Starts met received view most = tt
+  loads_by (Begins call) met received view most = tt
+  loads_by Fences met received view most = tt
+  loads_by (Receives k) met received view most = let h = received k refl in let lt = h.0 in (omega arith, (h.1, λ r. omega arith))
+  loads_by Resets met received view most = tt
+  loads_by (Takes value) met received view most = loads_so link_config p old new theirs out now value (access_at (config_of link_config p) old.place) (met value refl)
 
   fenced_by : (at own : ℕ) (action : Action) → (theirs now).fenced ≤ new.view → IsFenced old new at own action → FencedBy old new at theirs now action
   fenced_by at own Starts seen f = f
   fenced_by at own (Begins call) seen f = f
   fenced_by at own (Takes value) seen f = f
   fenced_by at own Fences seen f = (seen, f.1)
-  fenced_by at own (Hears k) seen f = f
+  fenced_by at own (Receives k) seen f = f
   fenced_by at own Resets seen f = f
 
 last_fence : (old new : Moment) (at own out : ℕ) (action : Action) → IsFenced old new at own action → old.fenced ≤ out → out ≤ own → new.fenced ≤ own
@@ -48,7 +48,7 @@ last_fence old new at own out Starts f low up = omega arith
 last_fence old new at own out (Begins call) f low up = omega arith
 last_fence old new at own out (Takes value) f low up = omega arith
 last_fence old new at own out Fences f low up = let e = f.0 in let g = f.1 in omega arith
-last_fence old new at own out (Hears k) f low up = omega arith
+last_fence old new at own out (Receives k) f low up = omega arith
 last_fence old new at own out Resets f low up = omega arith
 
 record WeakAndSound (link_config : LinkConfig) (pasts : ℕ → ℕ → Moment) (now out : ℕ → ℕ) : Type 0 where
@@ -77,7 +77,7 @@ buffered link_config pasts _ _ (goes now next out left p run p2 own_up own_most 
         keeps = omega arith;
         known = omega arith;
         fence = fenced_by link_config p old new theirs (left (1 - p)) (now (1 - p)) (suc (now p)) (left p) new.action (omega arith) fenced;
-        loads = loads_by link_config p old new theirs (left (1 - p)) (now (1 - p)) new.action is.loads is.hears is.view (omega arith);
+        loads = loads_by link_config p old new theirs (left (1 - p)) (now (1 - p)) new.action is.loads is.receives is.view (omega arith);
       } np nq;
       sound = record {
         left = pick p p2 (λ q. left q ≤ next q) own_most most;

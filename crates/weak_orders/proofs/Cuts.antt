@@ -17,11 +17,11 @@ use Rattle.link_invariant.specs.Steps.{Stored, IsUntouched, ReadsMemory, MemoryA
 use Rattle.link_invariant.specs.EndInvariant.{EndInvariant}
 use Rattle.link_invariant.specs.Pair.{freed_at, Polls, InFlight, IsAttached}
 use Rattle.link_invariant.proofs.Fields.{fields_same}
-use Rattle.link_invariant.proofs.Forms.{sent_same}
-use Rattle.link_invariant.proofs.AloneKept.{alone_kept}
-use Rattle.link_invariant.proofs.PairForms.{Before, Leads, link_same, takes_on}
+use Rattle.link_invariant.proofs.EndObligations.{sent_same}
+use Rattle.link_invariant.proofs.EndInvariantKept.{alone_kept}
+use Rattle.link_invariant.proofs.PairObligations.{Before, Leads, link_same, takes_on}
 use Rattle.link_invariant.proofs.PairKept.{leads, untouched, by_state}
-use Rattle.link_invariant.proofs.Handshakes.{leads_reset, set_apart}
+use Rattle.link_invariant.proofs.HandshakeOfPair.{leads_reset, set_apart}
 use Rattle.weak_orders.specs.Memory.{is_own, seen}
 
 -- The words that an end finds

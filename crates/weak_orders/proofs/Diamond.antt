@@ -22,7 +22,7 @@ use Rattle.link_invariant.specs.LinkConfig.{LinkConfig, config_of, fields}
 use Rattle.link_invariant.specs.EndInvariant.{PlaceInvariant, EndInvariant}
 use Rattle.link_invariant.specs.Pair.{freed_at, Polls, InFlight, IsAttached, OpensNone}
 use Rattle.link_invariant.proofs.TickSteps.{not_phase}
-use Rattle.link_invariant.proofs.PairForms.{Facing, Before, takes_on}
+use Rattle.link_invariant.proofs.PairObligations.{Facing, Before, takes_on}
 use Rattle.weak_orders.specs.Memory.{seen}
 use Rattle.weak_orders.proofs.Cuts.{Cut}
 

@@ -11,10 +11,10 @@ use Rattle.call_grammar.proofs.OfferLists.{yes, no}
 use Rattle.link_invariant.specs.LinkConfig.{LinkConfig, config_of}
 use Rattle.weak_orders.specs.Orders.{owes}
 use Rattle.link_invariant.specs.Steps.{MemoryAfter}
-use Rattle.weak_orders.specs.Memory.{Moment, Action, Starts, Begins, Takes, Fences, Hears, Resets, Does, Knows, Gives, Loads, LoadsBy, FencedBy, StoresTo, access_of, is_release, seen}
+use Rattle.weak_orders.specs.Memory.{Moment, Action, Starts, Begins, Takes, Fences, Receives, Resets, Does, Knows, Gives, Loads, LoadsBy, FencedBy, StoresTo, access_of, is_release, seen}
 use Rattle.weak_orders.specs.Runs.{WeakRuns, starts, goes, IsFirst}
 use Rattle.weak_orders.specs.Stronger.{ComesTo, LoadsMayBeStale}
-use Rattle.weak_orders.proofs.Main.{pick}
+use Rattle.weak_orders.proofs.RunsKeepInvariant.{pick}
 
 -- A run depends on its moments up to the last ones alone.
 
@@ -42,7 +42,7 @@ module _ (link_config : LinkConfig) (p : ℕ) (old new : Moment) (base : ℕ) (t
   loads_same (Begins call) le l = tt
   loads_same (Takes value) le l = loads_same' value (access_at (config_of link_config p) old.place) le l
   loads_same Fences le l = tt
-  loads_same (Hears k) le l = let lt = l.0 in let e = same k (omega arith) in let f = same (suc k) (omega arith) in (
+  loads_same (Receives k) le l = let lt = l.0 in let e = same k (omega arith) in let f = same (suc k) (omega arith) in (
     l.0,
     (
       subst (λ (m : Moment). access_of link_config (1 - p) m.place (theirs' (suc k)).action ≡ access.Ring p link_config.vector) (sym e) (subst (λ (m : Moment). access_of link_config (1 - p) (theirs k).place m.action ≡ access.Ring p link_config.vector) (sym f) l.1.0),
@@ -56,7 +56,7 @@ module _ (link_config : LinkConfig) (p : ℕ) (old new : Moment) (base : ℕ) (t
   fenced_same at (Begins call) f = f
   fenced_same at (Takes value) f = f
   fenced_same at Fences f = (subst (λ (m : Moment). m.fenced ≤ new.view) (sym (same now (omega arith))) f.0, f.1)
-  fenced_same at (Hears k) f = f
+  fenced_same at (Receives k) f = f
   fenced_same at Resets f = f
 
 knows_same : (link_config : LinkConfig) (p : ℕ) (old new : Moment) (at : ℕ) (theirs theirs' : ℕ → Moment) (now : ℕ) → ((k : ℕ) → k ≤ now → theirs' k ≡ theirs k) → Knows link_config p old new at theirs now → Knows link_config p old new at theirs' now

@@ -5,19 +5,19 @@ use Rattle.split_ring.specs.declared.steps.Access.TheVariants as access
 use Rattle.call_grammar.specs.Steps.{Mark, Refuse}
 use Rattle.call_grammar.specs.Ends.{End, fresh, with_access, with_mark, with_marks}
 use Rattle.call_grammar.specs.Calls.{Call, Tick, Stop, Offer, Poll}
-use Rattle.call_grammar.specs.Reach.{StaysInReach, IsPermittedCall, IsPermittedAccess}
+use Rattle.call_grammar.specs.Permitted.{IsPermittedTree, IsPermittedCall, IsPermittedAccess}
 use Rattle.call_grammar.specs.Places.{Place, Closed, remaining, access_at, next_place, step_at}
-use Rattle.call_grammar.proofs.Following.{following}
-use Rattle.call_grammar.proofs.Reaching.{reaching}
+use Rattle.call_grammar.proofs.PlacesFollowTrees.{following}
+use Rattle.call_grammar.proofs.CallsArePermitted.{reaching}
 use Rattle.link_invariant.specs.LinkConfig.{LinkConfig, IsLinkConfig, config_of, IsGivenTo}
 use Rattle.link_invariant.specs.EndInvariant.{EndInvariant}
-use Rattle.link_invariant.proofs.AloneKept.{alone_kept}
+use Rattle.link_invariant.proofs.EndInvariantKept.{alone_kept}
 use Rattle.link_invariant.proofs.PairKept.{starts_alone}
-use Rattle.weak_orders.specs.Memory.{Moment, Action, Starts, Begins, Takes, Fences, Hears, Resets, Does, is_own}
+use Rattle.weak_orders.specs.Memory.{Moment, Action, Starts, Begins, Takes, Fences, Receives, Resets, Does, is_own}
 use Rattle.weak_orders.specs.Runs.{WeakRuns, starts, goes, IsFirst}
 use Rattle.weak_orders.specs.OneEnd.{RunsAlone, EndsAreSafe}
 use Rattle.weak_orders.proofs.Cuts.{own_test, owns_section}
-use Rattle.weak_orders.proofs.Main.{held_lem}
+use Rattle.weak_orders.proofs.RunsKeepInvariant.{held_lem}
 
 -- The invariant of one end
 
@@ -31,13 +31,13 @@ module _ (link_config : LinkConfig) (is : IsLinkConfig link_config) (p : ℕ) (p
   alone_by old new (Begins call) d a = end_like d.2 d.3 d.4 (alone_kept.begins link_config p old.words old.end call is d.0 (subst (EndInvariant link_config old.words p old.end) d.1 a))
   alone_by old new (Takes value) d a = end_like refl d.2 d.3 (alone_kept.steps link_config p old.words new.words old.end old.place value is p2 d.0 d.1 a)
   alone_by old new Fences d a = end_like d.0 d.1 d.2 a
-  alone_by old new (Hears k) d a = end_like d.0 d.1 d.2 a
+  alone_by old new (Receives k) d a = end_like d.0 d.1 d.2 a
   alone_by old new Resets d a = end_like refl d.1 d.2 (alone_kept.resets link_config p old.words new.words old.end old.place is p2 d.0 a)
 
   -- Its next access
 
   abbrev Reaches : Place → Type 0
-  Reaches place = StaysInReach (config_of link_config p) (remaining (config_of link_config p) place)
+  Reaches place = IsPermittedTree (config_of link_config p) (remaining (config_of link_config p) place)
 
   permitted_call : (call : Call) → IsGivenTo link_config call → IsPermittedCall (config_of link_config p) call
   permitted_call Tick g = tt
@@ -48,12 +48,12 @@ module _ (link_config : LinkConfig) (is : IsLinkConfig link_config) (p : ℕ) (p
   reaches_by : (old new : Moment) (action : Action) → Does link_config p old new action → Reaches old.place → Reaches new.place
   reaches_by old new Starts d r = absurd d
   reaches_by old new (Begins call) d r = let config = config_of link_config p in
-      subst Reaches (sym d.4) (subst (StaysInReach config) (sym (following.begins config old.end call)) (reaching.calls config old.end call record { queue = is.queue; words = is.words } (permitted_call call d.0)))
+      subst Reaches (sym d.4) (subst (IsPermittedTree config) (sym (following.begins config old.end call)) (reaching.calls config old.end call record { queue = is.queue; words = is.words } (permitted_call call d.0)))
   reaches_by old new (Takes value) d r = let config = config_of link_config p in
       subst Reaches (sym d.3)
       (reaching.step config (remaining config old.place) (remaining config (next_place config old.place value)) (step_at config old.place value) r (following.comes config old.place value d.0)).1
   reaches_by old new Fences d r = subst Reaches (sym d.2) r
-  reaches_by old new (Hears k) d r = subst Reaches (sym d.2) r
+  reaches_by old new (Receives k) d r = subst Reaches (sym d.2) r
   reaches_by old new Resets d r = subst Reaches (sym d.2) tt
 
   pub permitted_at : (place : Place) → Reaches place → IsPermittedAccess (config_of link_config p) (access_at (config_of link_config p) place)
@@ -70,7 +70,7 @@ module _ (link_config : LinkConfig) (is : IsLinkConfig link_config) (p : ℕ) (p
       (λ e. let h = own_test link_config is p p2 old.words old.words w e in let g : ⊥ = cc in g)
       (λ j lt e. let h = owns_section link_config is p p2 old.words old.words w j e lt in let g : ⊥ = cc in g)
   others_by old new Fences d a w apart = ap (λ (m : ℕ → ℕ). m w) d.0
-  others_by old new (Hears k) d a w apart = ap (λ (m : ℕ → ℕ). m w) d.0
+  others_by old new (Receives k) d a w apart = ap (λ (m : ℕ → ℕ). m w) d.0
   others_by old new Resets d a w apart = d.0.neighbour_word w (λ e. let h = own_test link_config is p p2 old.words old.words w e in let g : ⊥ = cc in g)
 
   module _ (past : ℕ → Moment) (now : ℕ) (run : RunsAlone link_config p past now) where
@@ -115,7 +115,7 @@ mark_by link_config p old new (Begins call) d ne h = ap (λ (e : End). e.handsha
 mark_by link_config p old new (Takes value) d ne h = let s = step_at (config_of link_config p) old.place value in
     ap (λ (e : End). e.handshake.mark) d.2 ∙ marks_keep (with_access old.end s.access) s.marks (access_keeps old.end s.access h)
 mark_by link_config p old new Fences d ne h = ap (λ (e : End). e.handshake.mark) d.1 ∙ h
-mark_by link_config p old new (Hears k) d ne h = ap (λ (e : End). e.handshake.mark) d.1 ∙ h
+mark_by link_config p old new (Receives k) d ne h = ap (λ (e : End). e.handshake.mark) d.1 ∙ h
 mark_by link_config p old new Resets d ne h = absurd (ne refl)
 
 module _ (link_config : LinkConfig) (p : ℕ) (past : ℕ → Moment) (now : ℕ) (run : RunsAlone link_config p past now) (a : ℕ) where

@@ -6,7 +6,7 @@ use Rattle.split_ring.specs.declared.steps.Access.{Access}
 use Rattle.split_ring.specs.declared.steps.Access.TheVariants as access
 use Rattle.call_grammar.specs.Ends.{End, fresh, after_reset, end_after}
 use Rattle.call_grammar.specs.Calls.{Call}
-use Rattle.call_grammar.specs.Reach.{IsPermittedAccess, MayRead}
+use Rattle.call_grammar.specs.Permitted.{IsPermittedAccess, MayRead}
 use Rattle.call_grammar.specs.Places.{Place, Closed, first_place, access_at, next_place, step_at, is_open}
 use Rattle.link_invariant.specs.LinkConfig.{LinkConfig, IsLinkConfig, config_of, section_of}
 use Rattle.link_invariant.specs.Steps.{IsUntouched, ReadsMemory, MemoryAfter, BeginsCall, TakesStep, IsReset}
@@ -19,7 +19,7 @@ use Rattle.weak_orders.specs.Orders.{owes}
 use Rattle.weak_orders.specs.Runs.{WeakRuns, starts, IsFirst}
 use Rattle.weak_orders.specs.Stronger.{ComesTo, IsMomentOf, HasWeakRun, SequentialRunsAreWeak}
 use Rattle.weak_orders.proofs.Cuts.{own_test, owns_section, own_stays, their_state, their_word, after_of, put, left_so, one_put, own_after}
-use Rattle.weak_orders.proofs.Main.{held_lem, pick}
+use Rattle.weak_orders.proofs.RunsKeepInvariant.{held_lem, pick}
 use Rattle.weak_orders.proofs.OneEnd.{safe_lem, permitted_at, alone_of}
 use Rattle.weak_orders.proofs.Extend.{go_on}
 

@@ -12,7 +12,7 @@ use Rattle.call_grammar.specs.Places.{Place, WritingState, Refusing, access_at, 
 use Rattle.link_invariant.specs.LinkConfig.{LinkConfig, IsLinkConfig, config_of}
 use Rattle.link_invariant.specs.EndInvariant.{PlaceInvariant}
 use Rattle.link_invariant.specs.Pair.{IsAttached}
-use Rattle.weak_orders.specs.Memory.{Moment, Action, Starts, Begins, Takes, Fences, Hears, Resets, Does, seen}
+use Rattle.weak_orders.specs.Memory.{Moment, Action, Starts, Begins, Takes, Fences, Receives, Resets, Does, seen}
 use Rattle.weak_orders.specs.Sessions.{opens_at, opened}
 use Rattle.weak_orders.proofs.Cuts.{own_state}
 use Rattle.weak_orders.proofs.Advance.{Held}
@@ -31,7 +31,7 @@ lifts : (link_config : LinkConfig) (memory : ℕ → ℕ) (q : ℕ) (m m' : Mome
 lifts link_config memory q m m' Starts d h low high = absurd d
 lifts link_config memory q m m' (Begins call) d h low high = absurd (let e = ap (λ (x : End). state_of x.handshake.phase) d.3 in omega arith)
 lifts link_config memory q m m' Fences d h low high = absurd (let e = ap (λ (x : End). state_of x.handshake.phase) d.1 in omega arith)
-lifts link_config memory q m m' (Hears k) d h low high = absurd (let e = ap (λ (x : End). state_of x.handshake.phase) d.1 in omega arith)
+lifts link_config memory q m m' (Receives k) d h low high = absurd (let e = ap (λ (x : End). state_of x.handshake.phase) d.1 in omega arith)
 lifts link_config memory q m m' Resets d h low high = absurd (let e = ap (λ (x : End). state_of x.handshake.phase) d.1 in omega arith)
 lifts link_config memory q m m' (Takes v) d h low high = by_place m.place h (ap (λ (x : End). state_of x.handshake.phase) d.2)
   where

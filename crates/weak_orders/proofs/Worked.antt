@@ -10,15 +10,15 @@ use Rattle.call_grammar.specs.Places.{Place, Closed, ReadingAvailIndex, access_a
 use Rattle.call_grammar.proofs.OfferLists.{yes}
 use Rattle.link_invariant.specs.LinkConfig.{config_of, section_of}
 use Rattle.link_invariant.specs.Steps.{ReadsMemory}
-use Rattle.weak_orders.specs.Memory.{Moment, Action, Starts, Begins, Takes, Fences, Hears, Resets, is_own, seen}
+use Rattle.weak_orders.specs.Memory.{Moment, Action, Starts, Begins, Takes, Fences, Receives, Resets, is_own, seen}
 use Rattle.weak_orders.specs.Runs.{WeakRuns}
 use Rattle.weak_orders.specs.Worked.{worked_config, worked_actions, Acts, LoadsNewest, SequentialOrder, starts, goes, IsStale, BothLooksMayBeStale}
 use Rattle.weak_orders.proofs.Cuts.{after_of, their_word}
-use Rattle.weak_orders.proofs.Main.{held_lem, pick}
+use Rattle.weak_orders.proofs.RunsKeepInvariant.{held_lem, pick}
 use Rattle.weak_orders.proofs.Extend.{Further, further}
 use Rattle.weak_orders.proofs.Sequential.{newest, sequential_lem}
-use Rattle.weak_orders.proofs.Reached.{worked_is, idle, Stage, run_run, all_closed, both_run}
-use Rattle.weak_orders.proofs.Plays.{after_action, CanAct, CanActs, HasMoments, plays}
+use Rattle.weak_orders.proofs.HandshakeRun.{worked_is, idle, EndsAt, run_run, all_closed, both_run}
+use Rattle.weak_orders.proofs.RunExtensions.{after_action, CanAct, CanActs, HasMoments, plays}
 
 -- The moments that an end has come to
 
@@ -31,7 +31,7 @@ action_is p words m Starts can = absurd can
 action_is p words m (Begins call) can = refl
 action_is p words m (Takes value) can = refl
 action_is p words m Fences can = absurd can
-action_is p words m (Hears k) can = absurd can
+action_is p words m (Receives k) can = absurd can
 action_is p words m Resets can = absurd can
 
 acts_of : (p : ℕ) (words : ℕ → ℕ) (past : ℕ → Moment) (actions : List Action) (from : ℕ) (m : Moment) → CanActs worked_config p words m actions → HasMoments worked_config p past from m actions → Acts past from actions
@@ -197,7 +197,7 @@ record BothFenced : Type 0 where
 abbrev two : {A : Type 0} → A → A → ℕ → A
 two x y q = if q == 0 then x else y
 
-both_fenced : Stage run_run all_closed → BothFenced
+both_fenced : EndsAt run_run all_closed → BothFenced
 both_fenced r =
     let w = sequential_lem worked_config r.memory r.ends r.places worked_is r.run in let now = w.now in
     let a0 = w.are 0 first_end in let a1 = w.are 1 second_end in let m0 = w.pasts 0 (now 0) in let m1 = w.pasts 1 (now 1) in

@@ -21,7 +21,7 @@ pub data Action : Type 0 where
   Begins : (call : Call) → Action
   Takes : (value : ℕ) → Action
   Fences : Action
-  Hears : (k : ℕ) → Action
+  Receives : (k : ℕ) → Action
   Resets : Action
 
 -- An end after an action: its words as it stored them, the end and its place, its view, and its own
@@ -80,13 +80,13 @@ LoadsBy link_config p old new base theirs now value _ = Unit {0}
 
 -- ARM: a store-release is observed after all that comes before it in program order, a store to a
 -- device as any other. Here: an end that receives a doorbell has the view come to it.
-abbrev pub Heard : LinkConfig → ℕ → (new : Moment) → (theirs : ℕ → Moment) → ℕ → Type 0
-Heard link_config p new theirs k = (access_of link_config (1 - p) (theirs k).place (theirs (suc k)).action ≡ access.Ring p link_config.vector) ×
+abbrev pub Received : LinkConfig → ℕ → (new : Moment) → (theirs : ℕ → Moment) → ℕ → Type 0
+Received link_config p new theirs k = (access_of link_config (1 - p) (theirs k).place (theirs (suc k)).action ≡ access.Ring p link_config.vector) ×
     (is_release (theirs k).place (theirs (suc k)).action ≡ true → suc k ≤ new.view)
 
 abbrev pub Loads : LinkConfig → ℕ → (old new : Moment) → (base : ℕ) → (theirs : ℕ → Moment) → (now : ℕ) → Action → Type 0
 Loads link_config p old new base theirs now (Takes value) = LoadsBy link_config p old new base theirs now value (access_at (config_of link_config p) old.place)
-Loads link_config p old new base theirs now (Hears k) = (k < now) × Heard link_config p new theirs k
+Loads link_config p old new base theirs now (Receives k) = (k < now) × Received link_config p new theirs k
 Loads link_config p old new base theirs now _ = Unit {0}
 
 -- C11: sequentially consistent fences are in one order, and a load after the later fence gives a
@@ -119,5 +119,5 @@ Does link_config p old new (Takes value) =
     (new.end ≡ end_after old.end (step_at (config_of link_config p) old.place value)) × (new.place ≡ next_place (config_of link_config p) old.place value) ×
     (old.owed ≡ false) × (new.owed ≡ owes old.place new.place)
 Does link_config p old new Fences = (new.words ≡ old.words) × (new.end ≡ old.end) × (new.place ≡ old.place) × (new.owed ≡ false)
-Does link_config p old new (Hears k) = (new.words ≡ old.words) × (new.end ≡ old.end) × (new.place ≡ old.place) × (new.owed ≡ old.owed)
+Does link_config p old new (Receives k) = (new.words ≡ old.words) × (new.end ≡ old.end) × (new.place ≡ old.place) × (new.owed ≡ old.owed)
 Does link_config p old new Resets = Stored old.words new.words p 0 × (new.end ≡ after_reset old.end) × (new.place ≡ Closed) × (new.owed ≡ true)

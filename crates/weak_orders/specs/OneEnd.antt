@@ -1,7 +1,7 @@
 -- One honest end next to a peer that stores any value in any of its words at any time. A load may
 -- give any value here, so nothing rests on the order of any access.
 use Rattle.std.specs.Prelude.{ℕ, suc, ◌≡◌, ◌≢◌, ◌<◌, ◌≤◌, true, false}
-use Rattle.call_grammar.specs.Reach.{IsPermittedAccess}
+use Rattle.call_grammar.specs.Permitted.{IsPermittedAccess}
 use Rattle.call_grammar.specs.Places.{access_at}
 use Rattle.link_invariant.specs.LinkConfig.{LinkConfig, IsLinkConfig, config_of}
 use Rattle.link_invariant.specs.EndInvariant.{EndInvariant}

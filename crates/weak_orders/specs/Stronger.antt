@@ -8,7 +8,7 @@ use Rattle.call_grammar.specs.Places.{Place, access_at}
 use Rattle.link_invariant.specs.LinkConfig.{LinkConfig, IsLinkConfig, config_of}
 use Rattle.link_invariant.specs.Steps.{ReadsMemory}
 use Rattle.link_invariant.specs.Runs.{HonestRuns}
-use Rattle.weak_orders.specs.Memory.{Moment, Action, Takes, Fences, Hears, Does, access_of, is_own, seen}
+use Rattle.weak_orders.specs.Memory.{Moment, Action, Takes, Fences, Receives, Does, access_of, is_own, seen}
 use Rattle.weak_orders.specs.Runs.{WeakRuns, IsFirst}
 
 -- The moment has this end and this place, and its own words are those of memory.
@@ -35,7 +35,7 @@ SequentialRunsAreWeak = (link_config : LinkConfig) (memory : ℕ → ℕ) (ends 
 pub record IsBuffered (link_config : LinkConfig) (p : ℕ) (old new : Moment) (theirs : ℕ → Moment) (out : ℕ) : Type 0 where
   pub view : new.view ≡ out
   pub loads : (value : ℕ) → new.action ≡ Takes value → ReadsMemory (seen link_config p old.words (theirs out).words) (access_at (config_of link_config p) old.place) value
-  pub hears : (k : ℕ) → new.action ≡ Hears k → (k < out) × (access_of link_config (1 - p) (theirs k).place (theirs (suc k)).action ≡ access.Ring p link_config.vector)
+  pub receives : (k : ℕ) → new.action ≡ Receives k → (k < out) × (access_of link_config (1 - p) (theirs k).place (theirs (suc k)).action ≡ access.Ring p link_config.vector)
 
 -- A full fence empties the end's own buffer.
 abbrev pub IsFenced : (old new : Moment) → (at out : ℕ) → Action → Type 0

@@ -1,4 +1,4 @@
-use Rattle.call_grammar.proofs.Lists.{lists}
+use Rattle.call_grammar.proofs.CallsAreLists.{lists}
 use Rattle.call_grammar.proofs.calls_are_lists.Goals as goal
 
 pub returns : goal.returns

@@ -1,4 +1,4 @@
-use Rattle.call_grammar.proofs.Bounding.{bounding, others_bounding}
+use Rattle.call_grammar.proofs.CallsMeetBounds.{bounding, others_bounding}
 use Rattle.call_grammar.proofs.calls_meet_bounds.Goals as goal
 
 pub returns-clause-calls : goal.returns-clause-calls

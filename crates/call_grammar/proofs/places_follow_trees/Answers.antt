@@ -1,4 +1,4 @@
-use Rattle.call_grammar.proofs.Following.{following}
+use Rattle.call_grammar.proofs.PlacesFollowTrees.{following}
 use Rattle.call_grammar.proofs.places_follow_trees.Goals as goal
 
 pub returns : goal.returns

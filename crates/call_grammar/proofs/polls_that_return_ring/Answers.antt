@@ -1,4 +1,4 @@
-use Rattle.call_grammar.proofs.Returning.{returning}
+use Rattle.call_grammar.proofs.PollEnds.{returning}
 use Rattle.call_grammar.proofs.polls_that_return_ring.Goals as goal
 
 pub returns : goal.returns

@@ -1,4 +1,4 @@
-use Rattle.history_laws.proofs.Along.{rows_lem}
+use Rattle.history_laws.proofs.PlacesAlong.{rows_lem}
 use Rattle.history_laws.proofs.histories_run_the_machine.Goals as goal
 
 pub returns : goal.returns

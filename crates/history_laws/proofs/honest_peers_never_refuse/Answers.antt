@@ -1,4 +1,4 @@
-use Rattle.history_laws.proofs.Refusing.{never_lem}
+use Rattle.history_laws.proofs.RefusalRows.{never_lem}
 use Rattle.history_laws.proofs.honest_peers_never_refuse.Goals as goal
 
 pub returns : goal.returns

@@ -1,4 +1,4 @@
-use Rattle.history_laws.proofs.Marking.{numbered_lem}
+use Rattle.history_laws.proofs.SessionMarks.{numbered_lem}
 use Rattle.history_laws.proofs.sessions_are_numbered.Goals as goal
 
 pub returns : goal.returns

@@ -1,4 +1,4 @@
-use Rattle.history_laws.proofs.Waking.{wake_lem}
+use Rattle.history_laws.proofs.NextFrameRings.{wake_lem}
 use Rattle.history_laws.proofs.wakes_are_rung.Goals as goal
 
 pub returns : goal.returns

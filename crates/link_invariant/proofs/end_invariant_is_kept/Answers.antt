@@ -1,4 +1,4 @@
-use Rattle.link_invariant.proofs.AloneKept.{alone_kept}
+use Rattle.link_invariant.proofs.EndInvariantKept.{alone_kept}
 use Rattle.link_invariant.proofs.end_invariant_is_kept.Goals as goal
 
 pub returns : goal.returns

@@ -1,4 +1,4 @@
-use Rattle.link_invariant.proofs.WholeKept.{spelled_lem}
+use Rattle.link_invariant.proofs.LinkInvariantKept.{spelled_lem}
 use Rattle.link_invariant.proofs.frames_are_spelled.Goals as goal
 
 pub returns : goal.returns

@@ -1,4 +1,4 @@
-use Rattle.link_invariant.proofs.WholeKept.{whole_kept}
+use Rattle.link_invariant.proofs.LinkInvariantKept.{whole_kept}
 use Rattle.link_invariant.proofs.link_invariant_is_kept.Goals as goal
 
 pub returns : goal.returns

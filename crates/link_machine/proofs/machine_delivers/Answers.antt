@@ -1,4 +1,4 @@
-use Rattle.link_machine.proofs.MachineLaws.{machine}
+use Rattle.link_machine.proofs.DeliversInOrder.{machine}
 use Rattle.link_machine.proofs.machine_delivers.Goals as goal
 
 pub returns : goal.returns

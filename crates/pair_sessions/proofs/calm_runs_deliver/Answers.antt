@@ -1,4 +1,4 @@
-use Rattle.pair_sessions.proofs.Calm.{deliver_lem}
+use Rattle.pair_sessions.proofs.CalmRuns.{deliver_lem}
 use Rattle.pair_sessions.proofs.calm_runs_deliver.Goals as goal
 
 pub returns : goal.returns

@@ -1,4 +1,4 @@
-use Rattle.pair_sessions.proofs.Paired.{paired_lem}
+use Rattle.pair_sessions.proofs.SessionsArePaired.{paired_lem}
 use Rattle.pair_sessions.proofs.sessions_are_paired.Goals as goal
 
 pub returns : goal.returns

@@ -1,4 +1,4 @@
-use Rattle.record_sizes.proofs.Whole.{bound_lem, limit_lem}
+use Rattle.record_sizes.proofs.RecordIsShort.{bound_lem, limit_lem}
 use Rattle.record_sizes.proofs.records_are_short.Goals as goal
 
 pub returns-clause-bound : goal.returns-clause-bound

@@ -9,8 +9,8 @@ use Rattle.lawful_history.specs.Lawful.{IsLawful}
 use Rattle.lawful_history.specs.History as history
 use Rattle.lawful_history.specs.History.{run, initial_state}
 use Rattle.reference_history.specs.Reading.{Reads}
-use Rattle.reference_history.specs.Moments.{IsMoment, GoesOn}
-use Rattle.reference_history.proofs.Running.{act_at, one_act, turns_more, turns_few, not_schedule, not_lawful, whole, all_read, all_acts}
+use Rattle.reference_history.specs.ReferenceStates.{RefinesState, GoesOn}
+use Rattle.reference_history.proofs.WholeSchedule.{act_at, one_act, turns_more, turns_few, not_schedule, not_lawful, whole, all_read, all_acts}
 use Rattle.reference_history.proofs.is_history.Goals as goal
 
 pub read_act-requires-clause-act : goal.read_act-requires-clause-act
@@ -58,8 +58,8 @@ loop-act-preserved c =
     let yes : c.in_ok-goes_on.goes_on ≡ true = search rules in
     let next = subst (λ (b : Bool). GoesOn world lines (turns_of (take i world.acts) + cost c.act-item.result) (run world (events_of c.act-item.result) before) c.read_act.new.moment b) yes
     (c.in_ok-goes_on.ensures (turns_of (take i world.acts)) before c.loop-act.invariant) in
-    subst (λ n. IsMoment world lines n (run world (schedule (take (i + 1) world.acts)) (initial_state world)) c.read_act.new.moment) (sym (turns_more world.acts i c.act-item.result inside at))
-    (subst (λ (m : history.HistoryState). IsMoment world lines (turns_of (take i world.acts) + cost c.act-item.result) m c.read_act.new.moment) (sym (one_act world world.acts i c.act-item.result (initial_state world) inside at)) next)
+    subst (λ n. RefinesState world lines n (run world (schedule (take (i + 1) world.acts)) (initial_state world)) c.read_act.new.moment) (sym (turns_more world.acts i c.act-item.result inside at))
+    (subst (λ (m : history.HistoryState). RefinesState world lines (turns_of (take i world.acts) + cost c.act-item.result) m c.read_act.new.moment) (sym (one_act world world.acts i c.act-item.result (initial_state world) inside at)) next)
 
 pub returns : goal.returns
 returns c =

@@ -6,16 +6,16 @@ use Rattle.lawful_history.specs.Sides.{world_of}
 use Rattle.lawful_history.specs.History as history
 use Rattle.lawful_history.specs.History.{run, after_event}
 use Rattle.reference_history.specs.Reading.{Reads}
-use Rattle.reference_history.specs.Events.{event_seen}
-use Rattle.reference_history.specs.Moments.{IsMoment, GoesOn}
-use Rattle.reference_history.proofs.Running.{can_now, one_event, not_act, all_events}
+use Rattle.reference_history.specs.Events.{event_view}
+use Rattle.reference_history.specs.ReferenceStates.{RefinesState, GoesOn}
+use Rattle.reference_history.proofs.WholeSchedule.{can_now, one_event, not_act, all_events}
 use Rattle.reference_history.proofs.read_act.Goals as goal
 
 pub read-requires-clause-can : goal.read-requires-clause-can
 read-requires-clause-can c =
     let most = c.cost-k-end.ensures in
     let inside : c.loop-k._k < cost c.args.act.now = omega arith in
-    can_now (world_of c.args.scenario.now) c.args.act.now (event_seen c.in_ok-event.event) c.loop-k._k c.args.scenario.now.world c.requires.act c.in_ok-event.ensures inside
+    can_now (world_of c.args.scenario.now) c.args.act.now (event_view c.in_ok-event.event) c.loop-k._k c.args.scenario.now.world c.requires.act c.in_ok-event.ensures inside
 
 pub read-requires-clause-here : goal.read-requires-clause-here
 read-requires-clause-here c =
@@ -30,7 +30,7 @@ returns-then-not-goes_on c = λ count at is.
     let lines = c.args.lines.now in
     let act = c.args.act.now in
     let k = c.loop-k._k in
-    let e = event_seen c.in_ok-event.event in
+    let e = event_view c.in_ok-event.event in
     let most = c.cost-k-end.ensures in
     let inside : k < cost act = omega arith in
     let before = run world (take k (events_of act)) at in
@@ -44,7 +44,7 @@ loop-k-preserved c =
     let lines = c.args.lines.now in
     let act = c.args.act.now in
     let k = c.loop-k._k in
-    let e = event_seen c.in_ok-event.event in
+    let e = event_view c.in_ok-event.event in
     let most = c.cost-k-end.ensures in
     let inside : k < cost act = omega arith in
     let yes : c.in_ok-goes_on.goes_on ≡ true = search rules in
@@ -54,8 +54,8 @@ loop-k-preserved c =
           let before = run world (take k (events_of act)) at in
           let next = subst (λ (b : Bool). GoesOn world lines (count + k + 1) (after_event world before e) c.read.new.self b) yes (c.in_ok-goes_on.ensures (count + k) before (c.loop-k.invariant.here count at is)) in
           let same : count + k + 1 ≡ count + (k + 1) = omega arith in
-          subst (λ (m : history.HistoryState). IsMoment world lines (count + (k + 1)) m c.read.new.self) (sym (one_event world act e k at c.in_ok-event.ensures inside))
-          (subst (λ n. IsMoment world lines n (after_event world before e) c.read.new.self) same next);
+          subst (λ (m : history.HistoryState). RefinesState world lines (count + (k + 1)) m c.read.new.self) (sym (one_event world act e k at c.in_ok-event.ensures inside))
+          (subst (λ n. RefinesState world lines n (after_event world before e) c.read.new.self) same next);
     }
 
 pub returns : goal.returns
@@ -65,5 +65,5 @@ returns c = λ count at is.
     let most = c.cost-k-end.ensures in
     let all : c.loop-k._k ≡ cost act = let within = c.loop-k.invariant.within in omega arith in
     let here = c.loop-k.invariant.here count at is in
-    subst (λ n. IsMoment world c.args.lines.now (count + n) (run world (events_of act) at) c.loop-k.moment) all
-    (subst (λ es. IsMoment world c.args.lines.now (count + c.loop-k._k) (run world es at) c.loop-k.moment) (all_events act c.loop-k._k all) here)
+    subst (λ n. RefinesState world c.args.lines.now (count + n) (run world (events_of act) at) c.loop-k.moment) all
+    (subst (λ es. RefinesState world c.args.lines.now (count + c.loop-k._k) (run world es at) c.loop-k.moment) (all_events act c.loop-k._k all) here)

@@ -1,4 +1,4 @@
-use Rattle.trace_replay.proofs.Besides.{nothing_read}
+use Rattle.trace_replay.proofs.TextAndHistory.{nothing_read}
 use Rattle.trace_replay.proofs.replay_text.Goals as goal
 
 pub pass_alike-requires : goal.pass_alike-requires

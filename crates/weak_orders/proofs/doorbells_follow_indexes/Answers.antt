@@ -1,4 +1,4 @@
-use Rattle.weak_orders.proofs.Bell.{bell_lem}
+use Rattle.weak_orders.proofs.DoorbellsFind.{bell_lem}
 use Rattle.weak_orders.proofs.doorbells_follow_indexes.Goals as goal
 
 pub returns : goal.returns

@@ -1,4 +1,4 @@
-use Rattle.line_format.proofs.TextLaws.{fault_is_first}
+use Rattle.line_format.proofs.LawsOfTexts.{fault_is_first}
 use Rattle.bridge_text.specs.Judge.{machine, sense}
 use Rattle.bridge_text.proofs.laws.fault_is_first.Goals as goal
 

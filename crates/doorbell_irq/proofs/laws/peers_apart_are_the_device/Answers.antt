@@ -1,7 +1,7 @@
 use Rattle.std.proofs.Common.{sym, ◌∙◌, ap}
 use Rattle.doorbell_irq.specs.Events.{RegisterWritten}
 use Rattle.doorbell_irq.specs.DeviceRules.{register_vector, delivery_by, is_connected, bytes_after}
-use Rattle.doorbell_irq.proofs.Same.{state_same, delivery_same}
+use Rattle.doorbell_irq.proofs.RegistersOfPeer.{state_same, delivery_same}
 use Rattle.doorbell_irq.proofs.Steps.{peer_taken}
 use Rattle.doorbell_irq.proofs.EventKinds.{register_spares}
 use Rattle.doorbell_irq.proofs.laws.peers_apart_are_the_device.Goals as goal

@@ -5,7 +5,7 @@ use Rattle.doorbell_irq.specs.DeviceView.{DeviceView}
 use Rattle.doorbell_irq.specs.Refinement.{Refines, among}
 use Rattle.doorbell_irq.specs.Events.{Config}
 use Rattle.doorbell_irq.specs.DeviceRules.{bytes_after}
-use Rattle.doorbell_irq.proofs.Same.{number_from-same}
+use Rattle.doorbell_irq.proofs.RegistersOfPeer.{number_from-same}
 use Rattle.doorbell_irq.proofs.Devices.{peer_read}
 use Rattle.doorbell_irq.proofs.peers.config_read.Goals as goal
 

@@ -3,7 +3,7 @@ use Rattle.doorbell_irq.specs.DeviceView.{DeviceView}
 use Rattle.doorbell_irq.specs.Refinement.{Refines, among}
 use Rattle.doorbell_irq.specs.Events.{vector_count}
 use Rattle.doorbell_irq.specs.DeviceRules.{bytes_after, msix_at}
-use Rattle.doorbell_irq.proofs.Same.{msix_same}
+use Rattle.doorbell_irq.proofs.RegistersOfPeer.{msix_same}
 use Rattle.doorbell_irq.proofs.Devices.{peer_read}
 use Rattle.doorbell_irq.proofs.peers.msix_read.Goals as goal
 

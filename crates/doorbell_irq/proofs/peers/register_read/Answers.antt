@@ -1,7 +1,7 @@
 use Rattle.std.proofs.Common.{◌<◌, ◌∙◌}
 use Rattle.doorbell_irq.specs.DeviceView.{DeviceView}
 use Rattle.doorbell_irq.specs.Refinement.{Refines, among}
-use Rattle.doorbell_irq.proofs.Same.{register_same}
+use Rattle.doorbell_irq.proofs.RegistersOfPeer.{register_same}
 use Rattle.doorbell_irq.proofs.Devices.{peer_read}
 use Rattle.doorbell_irq.proofs.peers.register_read.Goals as goal
 

@@ -7,7 +7,7 @@ use Rattle.doorbell_irq.specs.Events.{RegisterWritten}
 use Rattle.doorbell_irq.specs.DeviceRules.{register_vector}
 use Rattle.doorbell_irq.proofs.EventKinds.{register_spares, register_written}
 use Rattle.doorbell_irq.specs.declared.effect.Delivery.{Delivery}
-use Rattle.doorbell_irq.proofs.Same.{state_same}
+use Rattle.doorbell_irq.proofs.RegistersOfPeer.{state_same}
 use Rattle.doorbell_irq.proofs.Devices.{peer_at, led, came}
 use Rattle.doorbell_irq.proofs.peers.register_write.Goals as goal
 

@@ -5,7 +5,7 @@ use Rattle.doorbell_irq.specs.Refinement.{Refines, among}
 use Rattle.doorbell_irq.specs.DeviceRules.{vector_by, reset_event, state_of}
 use Rattle.doorbell_irq.proofs.EventKinds.{reset_spares, was_reset, reset_quiet, reset_triggers}
 use Rattle.doorbell_irq.specs.declared.effect.Delivery.{Delivery}
-use Rattle.doorbell_irq.proofs.Same.{state_same}
+use Rattle.doorbell_irq.proofs.RegistersOfPeer.{state_same}
 use Rattle.doorbell_irq.proofs.Devices.{peer_at, led, came}
 use Rattle.doorbell_irq.proofs.peers.reset_by.Goals as goal
 

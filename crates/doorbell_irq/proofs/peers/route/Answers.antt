@@ -3,8 +3,8 @@ use Rattle.doorbell_irq.specs.DeviceView.{DeviceView}
 use Rattle.doorbell_irq.specs.Refinement.{Refines, among}
 use Rattle.doorbell_irq.specs.Events.{vector_count}
 use Rattle.doorbell_irq.specs.DeviceRules.{is_connected, bytes_after}
-use Rattle.doorbell_irq.specs.Routes.{would_come, is_intx}
-use Rattle.doorbell_irq.proofs.Same.{enabled_same, one_shot_same}
+use Rattle.doorbell_irq.specs.Routes.{would_be_delivered, is_intx}
+use Rattle.doorbell_irq.proofs.RegistersOfPeer.{enabled_same, one_shot_same}
 use Rattle.doorbell_irq.proofs.RouteRules.{comes_same}
 use Rattle.doorbell_irq.proofs.Devices.{peer_read}
 use Rattle.doorbell_irq.proofs.peers.route.Goals as goal
@@ -17,7 +17,7 @@ returns g c w events refines =
     let is = peer_read w events d was c.args.peer _ below c.index-registers-peer.is in
     record {
       vectors = λ n within. c.route.ensures.vectors n within ∙ comes_same w events c.args.peer _ is d.wiring (subst (λ wiring. vector_count wiring ≤ length c.index-registers-peer.result.entries) (sym was.wiring) is.count) n
-          ∙ ap (λ wiring. would_come wiring (is_connected events c.args.peer) (bytes_after w events c.args.peer) n) was.wiring;
+          ∙ ap (λ wiring. would_be_delivered wiring (is_connected events c.args.peer) (bytes_after w events c.args.peer) n) was.wiring;
       intx = c.route.ensures.intx ∙ ap is_intx was.wiring;
       one_shot = c.route.ensures.one_shot ∙ one_shot_same w events c.args.peer _ is;
       enabled = c.route.ensures.enabled ∙ enabled_same w events c.args.peer _ is;

@@ -5,8 +5,8 @@ use Rattle.arrayvec.specs.ArrayVec.{ArrayVec, array_vec_len}
 use Rattle.doorbell_irq.specs.declared.effect.Delivery.{Delivery}
 use Rattle.doorbell_irq.specs.DeviceRules.{delivery_to}
 use Rattle.doorbell_irq.specs.Triggers.{delivery_among}
-use Rattle.doorbell_irq.proofs.Quiet.{quiet, no_more, stays}
-use Rattle.doorbell_irq.proofs.Rounds.{taken_more, left_more, came_more}
+use Rattle.doorbell_irq.proofs.NoDelivery.{quiet, no_more, stays}
+use Rattle.doorbell_irq.proofs.NextPeer.{taken_more, left_more, came_more}
 use Rattle.doorbell_irq.proofs.trigger.deliver.Goals as goal
 use Rattle.doorbell_irq.proofs.trigger.deliver.Goals.{in-Some, in_default}
 

@@ -5,7 +5,7 @@ use Rattle.frame_bridge.specs.Run.{World, started, schedule, ran}
 use Rattle.frame_bridge.specs.Output.{IsOutput, output_of}
 use Rattle.frame_bridge.specs.Refinement.{IsThere}
 use Rattle.frame_bridge.proofs.Worlds.{started_going}
-use Rattle.frame_bridge.proofs.Telling.{is_output}
+use Rattle.frame_bridge.proofs.OutputByParts.{is_output}
 use Rattle.frame_bridge.proofs.bridging.output.Goals as goal
 
 pub rounds-requires : goal.rounds-requires

@@ -1,5 +1,5 @@
 use Rattle.std.proofs.Common.{arith, length-append, ◌∷◌, [], ap, length}
-use Rattle.frame_bridge.proofs.Starting.{pushed_each}
+use Rattle.frame_bridge.proofs.InitialRun.{pushed_each}
 use Rattle.frame_bridge.proofs.bridging.ports_at_start.Goals as goal
 
 pub loop-number-preserved : goal.loop-number-preserved

@@ -3,8 +3,8 @@ use Rattle.std.specs.List.{flat_map}
 use Rattle.line_format.specs.Rows.{text_of}
 use Rattle.frame_bridge.specs.Forwarding.{first_ports}
 use Rattle.frame_bridge.specs.Output.{pieces_of, port_rows}
-use Rattle.frame_bridge.proofs.There.{get_at}
-use Rattle.frame_bridge.proofs.Telling.{port_more}
+use Rattle.frame_bridge.proofs.RunAfterTurn.{get_at}
+use Rattle.frame_bridge.proofs.OutputByParts.{port_more}
 use Rattle.frame_bridge.proofs.bridging.put_ports.Goals as goal
 
 pub loop-number-preserved : goal.loop-number-preserved

@@ -1,4 +1,4 @@
-use Rattle.frame_bridge.proofs.Starting.{no_fault}
+use Rattle.frame_bridge.proofs.InitialRun.{no_fault}
 use Rattle.frame_bridge.proofs.bridging.section.Goals as goal
 
 pub unreachable-requires : goal.unreachable-requires

@@ -3,7 +3,7 @@ use Rattle.scenario_text.specs.declared.limits.TheConstants.{MOST_ACTS}
 use Rattle.scenario_text.specs.Scenario.{IsWorld}
 use Rattle.frame_capture.specs.declared.packets.Packet.{Packet}
 use Rattle.frame_capture.specs.Feed.{offered_frames, act_count, feed_acts, feed_world, IsTooLarge}
-use Rattle.frame_capture.proofs.FeedLaws.{feed_is_world, made_of, too_many, not_too_large}
+use Rattle.frame_capture.proofs.FeedIsScenario.{feed_is_world, made_of, too_many, not_too_large}
 use Rattle.frame_capture.proofs.feeding.scenario_of.Goals as goal
 
 pub returns-in_default-clause-large : goal.returns-in_default-clause-large

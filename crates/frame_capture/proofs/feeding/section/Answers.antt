@@ -1,7 +1,7 @@
 use Rattle.std.proofs.Common.{◌≡◌, true, false, sym, ap, ◌∙◌, arith}
 use Rattle.std.specs.Result.{is_ok}
-use Rattle.scenario_text.proofs.SizeLaws.{queue_is}
-use Rattle.frame_capture.proofs.FeedLaws.{least_queue}
+use Rattle.scenario_text.proofs.SizeTests.{queue_is}
+use Rattle.frame_capture.proofs.FeedIsScenario.{least_queue}
 use Rattle.frame_capture.proofs.feeding.section.Goals as goal
 
 pub unreachable-requires : goal.unreachable-requires

@@ -3,7 +3,7 @@ use Rattle.std.specs.Prelude.{All}
 use Rattle.frame_capture.specs.declared.order.Order.TheVariants.{Little}
 use Rattle.frame_capture.specs.declared.packets.Packet.{Packet}
 use Rattle.frame_capture.specs.CaptureFile.{header_bytes, packets_bytes, IsPacket}
-use Rattle.frame_capture.proofs.Puts.{printed_file}
+use Rattle.frame_capture.proofs.WrittenParts.{printed_file}
 use Rattle.frame_capture.proofs.printing.print.Goals as goal
 
 pub returns-clause-file : goal.returns-clause-file

@@ -1,5 +1,5 @@
 use Rattle.std.proofs.lemmas.Result.{on_ok_weaker}
-use Rattle.frame_capture.proofs.Puts.{seven}
+use Rattle.frame_capture.proofs.WrittenParts.{seven}
 use Rattle.frame_capture.proofs.printing.put_header.Goals as goal
 
 pub returns-clause-put : goal.returns-clause-put

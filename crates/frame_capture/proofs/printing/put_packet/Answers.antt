@@ -2,7 +2,7 @@ use Rattle.std.proofs.Common.{ℕ, List, ◌++◌, length, ap, ◌∙◌}
 use Rattle.std.proofs.lemmas.Result.{on_ok_weaker}
 use Rattle.frame_capture.specs.declared.order.Order.TheVariants.{Little}
 use Rattle.frame_capture.specs.CaptureFile.{bytes_of}
-use Rattle.frame_capture.proofs.Puts.{five, put_well}
+use Rattle.frame_capture.proofs.WrittenParts.{five, put_well}
 use Rattle.frame_capture.proofs.printing.put_packet.Goals as goal
 
 pub returns-clause-put : goal.returns-clause-put

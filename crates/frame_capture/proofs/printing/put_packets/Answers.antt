@@ -1,4 +1,4 @@
-use Rattle.frame_capture.proofs.Puts.{packets-put, packets-fit}
+use Rattle.frame_capture.proofs.WrittenParts.{packets-put, packets-fit}
 use Rattle.frame_capture.proofs.printing.put_packets.Goals as goal
 
 pub loop-packet-preserved : goal.loop-packet-preserved

@@ -1,7 +1,7 @@
 use Rattle.std.proofs.Common.{◌≡◌, length, sym, ◌∙◌, arith}
 use Rattle.std.proofs.lemmas.Bool.{le-ltb}
 use Rattle.std.proofs.lemmas.List.{length-take}
-use Rattle.ivshm_c.proofs.Answering.{told_bursts}
+use Rattle.ivshm_c.proofs.AnswerCauses.{told_bursts}
 use Rattle.ivshm_c.proofs.calls.bursts.Goals as goal
 
 pub returns-clause-words : goal.returns-clause-words

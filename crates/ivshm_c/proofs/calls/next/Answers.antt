@@ -2,7 +2,7 @@ use Rattle.std.proofs.Common.{ap, sym, ◌∙◌, subst}
 use Rattle.call_grammar.specs.Bursts.{ReadsBurst}
 use Rattle.link_endpoint.specs.Engine.{reads_ahead}
 use Rattle.ivshm_c.specs.Crossing.{access_crossed}
-use Rattle.ivshm_c.proofs.Answering.{told_next}
+use Rattle.ivshm_c.proofs.AnswerCauses.{told_next}
 use Rattle.ivshm_c.proofs.calls.next.Goals as goal
 
 pub returns-clause-access : goal.returns-clause-access

@@ -1,6 +1,6 @@
 use Rattle.ivshm_c.specs.Sizes.{refused}
 use Rattle.ivshm_c.specs.declared.status.Status.TheVariants.{Done}
-use Rattle.ivshm_c.proofs.Answering.{words_told}
+use Rattle.ivshm_c.proofs.AnswerCauses.{words_told}
 use Rattle.ivshm_c.proofs.tables.ivshm_layout.Goals as goal
 
 pub returns-in-Ok : goal.returns-in-Ok

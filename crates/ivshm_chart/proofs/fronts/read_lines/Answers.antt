@@ -1,5 +1,5 @@
 use Rattle.std.proofs.Common.{◌++◌, length, ap, arith, length-append}
-use Rattle.ivshm_chart.proofs.Keeping.{keeps_on, passed_on}
+use Rattle.ivshm_chart.proofs.KeptLines.{keeps_on, passed_on}
 use Rattle.ivshm_chart.proofs.fronts.read_lines.Goals as goal
 
 pub loop-lines-preserved : goal.loop-lines-preserved

@@ -1,7 +1,7 @@
 use Rattle.std.proofs.Common.{ℕ, List, [], length}
 use Rattle.scenario_text.specs.Scenario.{World}
 use Rattle.record_text.specs.Readers.{IsReading}
-use Rattle.ivshm_chart.proofs.Keeping.{Keeps}
+use Rattle.ivshm_chart.proofs.KeptLines.{Keeps}
 use Rattle.ivshm_chart.proofs.fronts.read_lines.Given as goal
 
 abbrev pub invariant-loop-lines : goal.invariant-loop-lines

@@ -1,4 +1,4 @@
-use Rattle.ivshm_cli.proofs.Rereading.{rereads}
+use Rattle.ivshm_cli.proofs.ReplayReadsRecord.{rereads}
 use Rattle.ivshm_cli.proofs.laws.written_records_replay_as_same.Goals as goal
 
 pub returns : goal.returns

@@ -2,7 +2,7 @@ use Rattle.std.proofs.Common.{ℕ, List, ◌≡◌, ◌∙◌, ap, refl}
 use Rattle.scenario_text.specs.Scenario.{World}
 use Rattle.scenario_text.specs.Spelling.{world_of}
 use Rattle.scenario_text.specs.Loads.{load_world}
-use Rattle.scenario_text.proofs.LoadLaws.{load_is_world}
+use Rattle.scenario_text.proofs.LoadIsScenario.{load_is_world}
 use Rattle.lawful_history.specs.declared.line.Line.{Line}
 use Rattle.lawful_history.specs.Sessions.{recorded_in}
 use Rattle.lawful_history.specs.History.{history}
@@ -23,6 +23,6 @@ returns c =
     let none = c.none-counts.ensures ∙ ap (λ (w : World). none_of w) c.in_ok-least.ensures ∙ same_word 1 count in
     record {
       history = lines;
-      lawful = c.records_tell_one_history.ensures.told world 2 (load_is_world count c.requires.few);
+      lawful = c.records_hold_one_history.ensures.recorded world 2 (load_is_world count c.requires.few);
       printed = c.in_ok-summary.ensures ∙ counted count world c.none-counts.result c.play_load.new.listener lines none c.in-Ok.ensures.received;
     }

@@ -19,18 +19,18 @@ returns-in-Same-clause-verdict c =
     let trace = c.in_ok-trace.trace in
     let text = c.in_ok-simulate_text-in-Same.field-0.items in
     let world = world_of trace.scenario in
-    let told : IsLawfulIn world trace.version trace.lines = subst (λ (v : Verdict). IsVerdict world trace.version trace.lines v) c.in-Same.is c.in_ok-replay.ensures in
+    let recorded : IsLawfulIn world trace.version trace.lines = subst (λ (v : Verdict). IsVerdict world trace.version trace.lines v) c.in-Same.is c.in_ok-replay.ensures in
     let again : IsLawfulIn world 2 (lawful_record 2 world).lines = c.in_ok-simulate_text-in-Same.ensures.lawful in
-    let lines : (lawful_record 2 world).lines ≡ recorded_in world 2 told.0 =
-    again.2 ∙ ap (recorded_in world 2) (sym (c.one_history.ensures world told.0 again.0 told.1 again.1)) in
-    let is : lawful_record 2 world ≡ record { version = 2; world = world; lines = recorded_in world 2 told.0 } =
+    let lines : (lawful_record 2 world).lines ≡ recorded_in world 2 recorded.0 =
+    again.2 ∙ ap (recorded_in world 2) (sym (c.one_history.ensures world recorded.0 again.0 recorded.1 again.1)) in
+    let is : lawful_record 2 world ≡ record { version = 2; world = world; lines = recorded_in world 2 recorded.0 } =
     ap (λ (ls : List Line). record { version = 2; world = world; lines = ls }) lines in
     let renewed : IsRenewed bytes text = record {
       world = world;
       version = trace.version;
-      history = told.0;
-      spelled = subst (λ (ls : List Line). Spells bytes world trace.version ls) told.2 c.in_ok-trace.ensures.spelled;
-      lawful = told.1;
+      history = recorded.0;
+      spelled = subst (λ (ls : List Line). Spells bytes world trace.version ls) recorded.2 c.in_ok-trace.ensures.spelled;
+      lawful = recorded.1;
       printed = c.in_ok-simulate_text-in-Same.ensures.spelled.1 ∙ ap spelling is;
       again = c.in_ok-simulate_text-in-Same.ensures.again ∙ ap (λ (r : Record). Ok r) is;
     } in

@@ -1,5 +1,5 @@
 use Rattle.std.proofs.Common.{ap}
-use Rattle.record_text.proofs.ForwardLaws.{is_answered}
+use Rattle.record_text.proofs.SpelledIsRead.{is_answered}
 use Rattle.ivshm_cli.specs.Forms.{record_fault}
 use Rattle.ivshm_cli.proofs.replies.replayed.Goals as goal
 

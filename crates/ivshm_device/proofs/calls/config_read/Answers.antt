@@ -1,6 +1,6 @@
 use Rattle.std.proofs.Common.{rules}
 use Rattle.ivshm_device.specs.Answers.{access_answer}
-use Rattle.ivshm_device.proofs.Answering.{done}
+use Rattle.ivshm_device.proofs.AnswerCauses.{done}
 use Rattle.ivshm_device.proofs.calls.config_read.Goals as goal
 
 pub returns-in-Ok-clause-value : goal.returns-in-Ok-clause-value

@@ -1,6 +1,6 @@
 use Rattle.std.proofs.Common.{rules}
 use Rattle.ivshm_device.specs.Answers.{access_answer}
-use Rattle.ivshm_device.proofs.Answering.{done}
+use Rattle.ivshm_device.proofs.AnswerCauses.{done}
 use Rattle.ivshm_device.proofs.calls.config_write.Goals as goal
 
 pub returns-in-Ok-clause-step : goal.returns-in-Ok-clause-step

@@ -1,7 +1,7 @@
 use Rattle.std.proofs.Common.{rules, subst}
 use Rattle.ivshm_device.specs.Crossing.{CrossesEffect}
 use Rattle.ivshm_device.specs.Answers.{peer_answer}
-use Rattle.ivshm_device.proofs.Answering.{done}
+use Rattle.ivshm_device.proofs.AnswerCauses.{done}
 use Rattle.ivshm_device.proofs.calls.reset.Goals as goal
 
 pub returns-clause-step : goal.returns-clause-step

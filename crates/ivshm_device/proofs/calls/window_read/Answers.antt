@@ -2,7 +2,7 @@ use Rattle.std.proofs.Common.{rules, ap, ◌∙◌, ℕ}
 use Rattle.doorbell_irq.specs.DeviceRules.{bytes_after}
 use Rattle.ivshm_device.specs.Windows.{read_at}
 use Rattle.ivshm_device.specs.Answers.{window_answer}
-use Rattle.ivshm_device.proofs.Answering.{done}
+use Rattle.ivshm_device.proofs.AnswerCauses.{done}
 use Rattle.ivshm_device.proofs.calls.window_read.Goals as goal
 
 pub returns-clause-value : goal.returns-clause-value

@@ -3,7 +3,7 @@ use Rattle.doorbell_irq.specs.Refinement.{Refines}
 use Rattle.ivshm_device.specs.Crossing.{CrossesEffect}
 use Rattle.ivshm_device.specs.Windows.{events_of, effect_at}
 use Rattle.ivshm_device.specs.Answers.{window_answer}
-use Rattle.ivshm_device.proofs.Answering.{done}
+use Rattle.ivshm_device.proofs.AnswerCauses.{done}
 use Rattle.ivshm_device.proofs.calls.window_write.Goals as goal
 
 pub returns-clause-step : goal.returns-clause-step

@@ -1,6 +1,6 @@
 use Rattle.std.proofs.Common.{sym, ◌∙◌}
 use Rattle.ivshm_device.specs.declared.status.Status.TheVariants.{Done, HasDevice}
-use Rattle.ivshm_device.proofs.Answering.{holds_one, new_one, none_made}
+use Rattle.ivshm_device.proofs.AnswerCauses.{holds_one, new_one, none_made}
 use Rattle.ivshm_device.proofs.exports.ivshm_device_new_at.Goals as goal
 
 pub returns-in-Some : goal.returns-in-Some

@@ -4,7 +4,7 @@ use Rattle.lawful_history.specs.declared.line.Line.{Line}
 use Rattle.lawful_history.specs.Schedule.{schedule}
 use Rattle.lawful_history.specs.Lawful.{IsLawfulIn}
 use Rattle.simulator.specs.Log.{no_output}
-use Rattle.simulator.proofs.Runs.{one_act, act_at, losses_few, whole_history}
+use Rattle.simulator.proofs.OneMoreEvent.{one_act, act_at, losses_few, whole_history}
 use Rattle.ivshm_explain.proofs.differences.lawful_lines.Goals as goal
 
 pub act-requires : goal.act-requires
@@ -35,4 +35,4 @@ returns c =
     let world = world_of c.args.scenario.now in
     let version = c.args.version in
     let lines = c.into_lines.ensures ∙ whole_history world version c.loop-act.act-index c.loop-act.simulator (omega (arith, ap length c.items-act-items.ensures)) c.loop-act.invariant in
-    subst (λ (ls : List Line). IsLawfulIn world version ls) (sym lines) (c.records_tell_one_history.ensures.told world version c.args.scenario.now.world)
+    subst (λ (ls : List Line). IsLawfulIn world version ls) (sym lines) (c.records_hold_one_history.ensures.recorded world version c.args.scenario.now.world)

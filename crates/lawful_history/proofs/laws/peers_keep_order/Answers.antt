@@ -1,4 +1,4 @@
-use Rattle.lawful_history.proofs.InOrder.{keeps_order}
+use Rattle.lawful_history.proofs.PeersKeepOrder.{keeps_order}
 use Rattle.lawful_history.proofs.laws.peers_keep_order.Goals as goal
 
 pub returns : goal.returns

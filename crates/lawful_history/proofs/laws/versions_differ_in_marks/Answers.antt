@@ -1,5 +1,5 @@
-use Rattle.lawful_history.proofs.Marks.{one_lem, two_lem, told_lem}
+use Rattle.lawful_history.proofs.SessionMarks.{one_lem, two_lem, recorded_lem}
 use Rattle.lawful_history.proofs.laws.versions_differ_in_marks.Goals as goal
 
 pub returns : goal.returns
-returns c = record { first = one_lem; second = two_lem; each = told_lem }
+returns c = record { first = one_lem; second = two_lem; each = recorded_lem }

@@ -1,4 +1,4 @@
-use Rattle.line_format.proofs.CutLaws.{cut_none, cut_at}
+use Rattle.line_format.proofs.CutBytes.{cut_none, cut_at}
 use Rattle.line_format.proofs.cuts.cut.Goals as goal
 
 pub returns-in-None-clause-cuts : goal.returns-in-None-clause-cuts

@@ -2,7 +2,7 @@ use Rattle.std.proofs.Common.{◌≤◌, length, sym, arith}
 use Rattle.std.proofs.lemmas.Bool.{eqb-true}
 use Rattle.std.proofs.lemmas.List.{length-map}
 use Rattle.line_format.specs.Forms.{texts}
-use Rattle.line_format.proofs.CutLaws.{more_than}
+use Rattle.line_format.proofs.CutBytes.{more_than}
 use Rattle.line_format.proofs.forms.fields.Goals as goal
 
 pub returns-then-is_full : goal.returns-then-is_full

@@ -1,5 +1,5 @@
 use Rattle.line_format.specs.Forms.{pieces, texts, numbers_of}
-use Rattle.line_format.proofs.FormLaws.{numbers_in_range, all_read}
+use Rattle.line_format.proofs.FormNumbers.{numbers_in_range, all_read}
 use Rattle.line_format.proofs.forms.numbers_in.Goals as goal
 
 pub returns-clause-limits : goal.returns-clause-limits

@@ -1,7 +1,7 @@
 use Rattle.std.proofs.Common.{sym, refl}
 use Rattle.line_format.specs.Forms.{fields_of}
 use Rattle.line_format.specs.Grammar.{step}
-use Rattle.line_format.proofs.TableLaws.{no_form_of_few}
+use Rattle.line_format.proofs.FormsOfRows.{no_form_of_few}
 use Rattle.line_format.proofs.grammar.take_line.Goals as goal
 
 pub returns-in_default : goal.returns-in_default

@@ -1,7 +1,7 @@
 use Rattle.std.proofs.Common.{◌≡◌, ◌∙◌, arith, rules}
 use Rattle.std.proofs.lemmas.Grind.{common_steps}
 use Rattle.hex.specs.Hex.{encode_lower}
-use Rattle.line_format.proofs.HexLaws.{encode_piece, encode_done}
+use Rattle.line_format.proofs.HexDigits.{encode_piece, encode_done}
 use Rattle.line_format.proofs.hex_digits.put_hex.Goals as goal
 
 pub loop-rest-preserved : goal.loop-rest-preserved

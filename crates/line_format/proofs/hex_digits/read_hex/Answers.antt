@@ -1,7 +1,7 @@
 use Rattle.std.proofs.Common.{◌≡◌, ◌/◌, Some, length, sym, ap, ◌∙◌, arith}
 use Rattle.std.proofs.lemmas.Grind.{common_steps}
 use Rattle.std.proofs.lemmas.List.{take_at}
-use Rattle.line_format.proofs.HexLaws.{not_lower, decoded, ok_from, err_from}
+use Rattle.line_format.proofs.HexDigits.{not_lower, decoded, ok_from, err_from}
 use Rattle.line_format.proofs.hex_digits.read_hex.Goals as goal
 
 pub returns-then-not-are_lower_digits : goal.returns-then-not-are_lower_digits

@@ -5,7 +5,7 @@ use Rattle.std.specs.Str.Parse.{digits_value, AllDigits}
 use Rattle.line_format.specs.Numbers.{number_of}
 use Rattle.std.proofs.lemmas.List.{nil_from_length, take_all}
 use Rattle.line_format.proofs.numbers.number.Goals.{else-field-eq48-via-then-field-eq48+else-field-gt1, else-field-eq48-via-else-field-eq48}
-use Rattle.line_format.proofs.NumberLaws.{empty_is_none, zero_first, other_byte, one_more, too_large_at, is_number}
+use Rattle.line_format.proofs.DecimalFields.{empty_is_none, zero_first, other_byte, one_more, too_large_at, is_number}
 use Rattle.line_format.proofs.numbers.number.Goals as goal
 
 pub returns-then-is_empty : goal.returns-then-is_empty

@@ -6,7 +6,7 @@ use Rattle.line_format.proofs.reading.read_text.Given as goal
 -- The rest gives what the text gives.
 abbrev pub invariant-loop-line : goal.invariant-loop-line
 invariant-loop-line g l =
-    (read_pieces g.D.TakeLines.machine (g.D.TakeLines.so_far l.draft) l.number (cuts 10 l.rest) ≡ read g.D.TakeLines.machine (g.D.TakeLines.so_far l.fn.draft) l.bytes)
+    (read_pieces g.D.TakeLines.machine (g.D.TakeLines.draft_view l.draft) l.number (cuts 10 l.rest) ≡ read g.D.TakeLines.machine (g.D.TakeLines.draft_view l.fn.draft) l.bytes)
     × (l.number + length l.rest ≤ length l.bytes)
 
 abbrev pub decreases-loop-line : goal.decreases-loop-line

@@ -1,6 +1,6 @@
 use Rattle.std.proofs.Common.{refl}
 use Rattle.line_format.specs.Forms.{pieces, spell}
-use Rattle.line_format.proofs.WritingLaws.{spaced_first}
+use Rattle.line_format.proofs.WrittenFields.{spaced_first}
 use Rattle.line_format.proofs.writing.put_line.Goals as goal
 
 pub returns : goal.returns

@@ -1,7 +1,7 @@
 use Rattle.std.proofs.Common.{sym, ap, ◌∙◌}
 use Rattle.peer_runner.specs.declared.doorbell_paths.DoorbellPath.TheVariants.{Direct, Guarded}
 use Rattle.peer_runner.specs.DoorbellPaths.{is_guarded}
-use Rattle.peer_runner.proofs.Belling.{way_fits, never_one_shot, is_one_shot_at, set_found}
+use Rattle.peer_runner.proofs.DoorbellTurns.{way_fits, never_one_shot, is_one_shot_at, set_found}
 use Rattle.peer_runner.proofs.bells.ring_turn.Goals as goal
 
 pub ring-requires-clause-target : goal.ring-requires-clause-target

@@ -1,7 +1,7 @@
 use Rattle.std.proofs.Common.{ℕ, sym, ap, ◌∙◌}
 use Rattle.std.specs.Prelude.{Option}
 use Rattle.peer_runner.specs.DoorbellPaths.{doorbell_path_by}
-use Rattle.peer_runner.proofs.Belling.{way_of}
+use Rattle.peer_runner.proofs.DoorbellTurns.{way_of}
 use Rattle.peer_runner.proofs.doorbell_paths.doorbell_path_to.Goals as goal
 
 pub returns-in-None : goal.returns-in-None

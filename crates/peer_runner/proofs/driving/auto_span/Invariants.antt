@@ -3,7 +3,7 @@ use Rattle.link_endpoint.specs.Plan.{Plan}
 use Rattle.peer_runner.specs.Turns.{lines_of_turns}
 use Rattle.peer_runner.specs.Runners.{Runner}
 use Rattle.peer_runner.specs.Trajectories.{IsOnTrajectory}
-use Rattle.peer_runner.proofs.Courses.{IsInSpan}
+use Rattle.peer_runner.proofs.PeerOnTrajectory.{IsInSpan}
 use Rattle.peer_runner.proofs.driving.auto_span.Given as goal
 
 -- The turns so far.

@@ -1,4 +1,4 @@
-use Rattle.peer_runner.proofs.Courses.{IsDue, IsAt}
+use Rattle.peer_runner.proofs.PeerOnTrajectory.{IsDue, IsAt}
 use Rattle.peer_runner.proofs.driving.drive_auto.Given as goal
 
 -- The spans so far.

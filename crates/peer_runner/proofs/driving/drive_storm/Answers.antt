@@ -1,8 +1,8 @@
 use Rattle.std.proofs.Common.{◌+◌, [], refl, sym, ap, ◌∙◌, subst, arith}
 use Rattle.record_text.specs.OwnLines.{AreOwn}
 use Rattle.step_lines.specs.declared.storm.Storm.{Storm}
-use Rattle.peer_runner.proofs.Runs.{lent}
-use Rattle.peer_runner.proofs.Storming.{LeftAt, LeftIn, left_first, left_next, storm_first, storm_same, storm_seated, storm_draws, storm_hostile, storm_rings, storm_few, storm_steps, storm_restarts, storm_err, storm_ok}
+use Rattle.peer_runner.proofs.TurnsAndLines.{lent}
+use Rattle.peer_runner.proofs.StormTurns.{LeftAt, LeftIn, left_first, left_next, storm_first, storm_same, storm_seated, storm_draws, storm_hostile, storm_rings, storm_few, storm_steps, storm_restarts, storm_err, storm_ok}
 use Rattle.peer_runner.proofs.driving.drive_storm.Goals as goal
 use Rattle.peer_runner.proofs.driving.drive_storm.Goals.{then-k-gt0+in_ok-storm_restart, else-k-gt0}
 
@@ -84,4 +84,4 @@ returns g c = let id = c.args.pass.now.table_id in let key = c.args.words.now.sh
 
 pub invariant_of-result : goal.invariant_of-result
 invariant_of-result g c = let id = c.args.pass.now.table_id in let key = c.args.words.now.shared.key in let routes = c.args.routes.now in let first = c.args.storm in let spans = c.args.spans.now in let k = c.loop-k.k in
-    let at = c.loop-k.invariant in record { own = subst (λ q. AreOwn q c.loop-k.lines) (sym (ap (λ (s : Storm). s.peer) at.storm_is)) (subst (AreOwn first.peer) (sym at.told) at.blown.own) }
+    let at = c.loop-k.invariant in record { own = subst (λ q. AreOwn q c.loop-k.lines) (sym (ap (λ (s : Storm). s.peer) at.storm_is)) (subst (AreOwn first.peer) (sym at.recorded) at.blown.own) }

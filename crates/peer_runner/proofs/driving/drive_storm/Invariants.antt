@@ -1,4 +1,4 @@
-use Rattle.peer_runner.proofs.Storming.{LeftAt, LeftIn, StormAt}
+use Rattle.peer_runner.proofs.StormTurns.{LeftAt, LeftIn, StormAt}
 use Rattle.peer_runner.proofs.driving.drive_storm.Given as goal
 
 -- The spans so far.

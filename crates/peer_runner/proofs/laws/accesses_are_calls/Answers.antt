@@ -1,6 +1,6 @@
 use Rattle.shared_words.specs.Rules.{accesses_by}
-use Rattle.peer_runner.proofs.ListLaws.{calls_lem}
-use Rattle.shared_words.proofs.Happening.{made_in}
+use Rattle.peer_runner.proofs.StatesFromLists.{calls_lem}
+use Rattle.shared_words.proofs.ActionsMakeWords.{made_in}
 use Rattle.peer_runner.proofs.laws.accesses_are_calls.Goals as goal
 
 pub returns : goal.returns

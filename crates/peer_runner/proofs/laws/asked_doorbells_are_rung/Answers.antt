@@ -1,6 +1,6 @@
 use Rattle.shared_words.specs.Rules.{region, accesses_by}
-use Rattle.peer_runner.proofs.PairLaws.{woken_lem}
-use Rattle.shared_words.proofs.Happening.{made_in}
+use Rattle.peer_runner.proofs.PairInvariant.{woken_lem}
+use Rattle.shared_words.proofs.ActionsMakeWords.{made_in}
 use Rattle.peer_runner.proofs.laws.asked_doorbells_are_rung.Goals as goal
 
 pub returns : goal.returns

@@ -1,6 +1,6 @@
 use Rattle.shared_words.specs.Rules.{accesses_by}
-use Rattle.peer_runner.proofs.FlightLaws.{flight_lem}
-use Rattle.shared_words.proofs.Happening.{made_in}
+use Rattle.peer_runner.proofs.FlightIsSpelled.{flight_lem}
+use Rattle.shared_words.proofs.ActionsMakeWords.{made_in}
 use Rattle.peer_runner.proofs.laws.flight_is_spelled.Goals as goal
 
 pub returns : goal.returns

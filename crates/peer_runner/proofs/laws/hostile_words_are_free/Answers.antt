@@ -1,4 +1,4 @@
-use Rattle.peer_runner.proofs.HostileLaws.{hostile_lem}
+use Rattle.peer_runner.proofs.HostileStores.{hostile_lem}
 use Rattle.peer_runner.proofs.laws.hostile_words_are_free.Goals as goal
 
 pub returns : goal.returns

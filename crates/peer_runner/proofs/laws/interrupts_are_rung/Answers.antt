@@ -1,4 +1,4 @@
-use Rattle.shared_words.proofs.Happening.{interrupts_by}
+use Rattle.shared_words.proofs.ActionsMakeWords.{interrupts_by}
 use Rattle.peer_runner.proofs.laws.interrupts_are_rung.Goals as goal
 
 pub returns : goal.returns

@@ -1,6 +1,6 @@
 use Rattle.shared_words.specs.Rules.{accesses_by}
-use Rattle.peer_runner.proofs.OfferLaws.{offers_lem}
-use Rattle.shared_words.proofs.Happening.{made_in}
+use Rattle.peer_runner.proofs.OfferStores.{offers_lem}
+use Rattle.shared_words.proofs.ActionsMakeWords.{made_in}
 use Rattle.peer_runner.proofs.laws.offers_store_apart.Goals as goal
 
 pub returns : goal.returns

@@ -1,6 +1,6 @@
 use Rattle.shared_words.specs.Rules.{accesses_by}
-use Rattle.peer_runner.proofs.PairLaws.{sent_lem}
-use Rattle.shared_words.proofs.Happening.{made_in}
+use Rattle.peer_runner.proofs.PairInvariant.{sent_lem}
+use Rattle.shared_words.proofs.ActionsMakeWords.{made_in}
 use Rattle.peer_runner.proofs.laws.read_values_are_as_sent.Goals as goal
 
 pub returns : goal.returns

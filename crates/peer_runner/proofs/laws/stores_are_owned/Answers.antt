@@ -1,4 +1,4 @@
-use Rattle.peer_runner.proofs.ListLaws.{stores_lem}
+use Rattle.peer_runner.proofs.StatesFromLists.{stores_lem}
 use Rattle.peer_runner.proofs.laws.stores_are_owned.Goals as goal
 
 pub returns : goal.returns

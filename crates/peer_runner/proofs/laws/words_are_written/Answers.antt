@@ -1,6 +1,6 @@
 use Rattle.shared_words.specs.Rules.{accesses_by}
-use Rattle.peer_runner.proofs.ListLaws.{words_lem}
-use Rattle.shared_words.proofs.Happening.{made_in}
+use Rattle.peer_runner.proofs.StatesFromLists.{words_lem}
+use Rattle.shared_words.proofs.ActionsMakeWords.{made_in}
 use Rattle.peer_runner.proofs.laws.words_are_written.Goals as goal
 
 pub returns : goal.returns

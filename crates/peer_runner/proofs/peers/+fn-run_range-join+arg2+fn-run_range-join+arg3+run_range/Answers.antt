@@ -2,7 +2,7 @@ use Rattle.std.proofs.Common.{rules, ◌≡◌, ◌/◌, ◌∷◌, [], ◌++◌
 use Rattle.scenario_text.specs.Spelling.{world_of}
 use Rattle.shared_words.specs.PassView.{PassView}
 use Rattle.shared_words.specs.Passes.{held}
-use Rattle.peer_runner.proofs.Ranging.{lower_of, lower_whole, upper_of, upper_whole, range_none, range_pass, one_ranged, both_ranged, both_pass}
+use Rattle.peer_runner.proofs.RangesRun.{lower_of, lower_whole, upper_of, upper_whole, range_none, range_pass, one_ranged, both_ranged, both_pass}
 use Rattle.peer_runner.proofs.peers.+fn-run_range-join+arg2+fn-run_range-join+arg3+run_range.Goals as goal
 
 pub returns-then-count-eq0 : goal.returns-then-count-eq0

@@ -2,8 +2,8 @@ use Rattle.std.proofs.Common.{◌∷◌, [], ◌++◌, ap, ◌∙◌, subst}
 use Rattle.scenario_text.specs.Spelling.{world_of}
 use Rattle.shared_words.specs.Passes.{held}
 use Rattle.peer_runner.specs.Drives.{IsPlanFor}
-use Rattle.shared_words.proofs.Routing.{routes_made}
-use Rattle.peer_runner.proofs.Ranging.{plan_may, ran_one}
+use Rattle.shared_words.proofs.ScenarioRoutes.{routes_made}
+use Rattle.peer_runner.proofs.RangesRun.{plan_may, ran_one}
 use Rattle.peer_runner.proofs.peers.run_one.Goals as goal
 
 pub drive-requires-clause-drives : goal.drive-requires-clause-drives

@@ -1,6 +1,6 @@
 use Rattle.std.proofs.Common.{rules}
 use Rattle.scenario_text.specs.Spelling.{world_of}
-use Rattle.peer_runner.proofs.Planning.{auto_driver, storm_driver}
+use Rattle.peer_runner.proofs.PlansFromActs.{auto_driver, storm_driver}
 use Rattle.peer_runner.proofs.plans.driver_for.Goals as goal
 
 pub returns-then-not-is_link : goal.returns-then-not-is_link

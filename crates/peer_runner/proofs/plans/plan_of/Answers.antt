@@ -1,6 +1,6 @@
 use Rattle.std.proofs.Common.{refl, sym, ◌∙◌}
 use Rattle.scenario_text.specs.Spelling.{world_of}
-use Rattle.peer_runner.proofs.Planning.{some_turns, no_turns, few_turns}
+use Rattle.peer_runner.proofs.PlansFromActs.{some_turns, no_turns, few_turns}
 use Rattle.peer_runner.proofs.plans.plan_of.Goals as goal
 
 pub returns-then-is_empty : goal.returns-then-is_empty

@@ -3,7 +3,7 @@ use Rattle.std.proofs.lemmas.List.{take_all}
 use Rattle.scenario_text.specs.declared.acts.Act.{Act}
 use Rattle.scenario_text.specs.Spelling.{world_of}
 use Rattle.peer_runner.specs.Drives.{Seeds}
-use Rattle.peer_runner.proofs.Planning.{seeds_none, seeds_at, taken_more}
+use Rattle.peer_runner.proofs.PlansFromActs.{seeds_none, seeds_at, taken_more}
 use Rattle.peer_runner.proofs.plans.seed_for.Goals as goal
 
 pub loop-act-init : goal.loop-act-init

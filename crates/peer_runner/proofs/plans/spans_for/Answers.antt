@@ -2,7 +2,7 @@ use Rattle.std.proofs.Common.{◌≡◌, rules, List, ◌++◌, ap, ◌∙◌, s
 use Rattle.std.proofs.lemmas.List.{take_all}
 use Rattle.scenario_text.specs.declared.acts.Act.{Act}
 use Rattle.peer_runner.specs.OwnRecord.{span_in, spans_of}
-use Rattle.peer_runner.proofs.Planning.{spans_none, spans_at}
+use Rattle.peer_runner.proofs.PlansFromActs.{spans_none, spans_at}
 use Rattle.peer_runner.proofs.plans.spans_for.Goals as goal
 
 pub loop-act-init : goal.loop-act-init

@@ -6,7 +6,7 @@ use Rattle.shared_words.specs.RunSetups.{world_in}
 use Rattle.peer_runner.specs.DoorbellPaths.{is_guarded, doorbell_path_in}
 use Rattle.shared_words.specs.Rules.{front}
 use Rattle.peer_runner.specs.Runners.{done_of, IsDone, MayRingBy, made}
-use Rattle.peer_runner.proofs.Storming.{drawn_access, drawn_told, storm_after_turn}
+use Rattle.peer_runner.proofs.StormTurns.{drawn_access, drawn_recorded, storm_after_turn}
 use Rattle.peer_runner.proofs.storms.take_step.Goals as goal
 
 pub make-done-requires-clause-drawn : goal.make-done-requires-clause-drawn
@@ -25,5 +25,5 @@ returns c = let draws = c.step-access.ensures.step (world_in c.args.words.now.sh
   storm_after_turn c.args.storm.now c.step-access.new.self c.after.result c.make-done.result c.step-access.ensures.after c.after.ensures,
   c.awaits_ring.ensures,
   (λ held. subst (λ (a : Access). MayRingBy routes a (front c.make-done.new.pass.lists)) same (c.make-done.ensures.rings held)),
-  subst (λ (ls : List Line). OnOk c.record_storm_write.result (c.record_storm_write.new.lines ≡ c.args.lines.now ++ ls)) (drawn_told _ _ c.step-access.result c.make-done.result draws.is) c.record_storm_write.ensures,
+  subst (λ (ls : List Line). OnOk c.record_storm_write.result (c.record_storm_write.new.lines ≡ c.args.lines.now ++ ls)) (drawn_recorded _ _ c.step-access.result c.make-done.result draws.is) c.record_storm_write.ensures,
 )

@@ -3,7 +3,7 @@ use Rattle.std.specs.Prelude.{Option, Some, None, OnOk}
 use Rattle.split_ring.specs.declared.steps.Access.{Access}
 use Rattle.doorbell_irq.specs.declared.route.Route.{Route}
 use Rattle.lawful_history.specs.declared.line.Line.{Line}
-use Rattle.step_lines.proofs.Marks.{busy_is, plan_counted}
+use Rattle.step_lines.proofs.NotesAreMarks.{busy_is, plan_counted}
 use Rattle.link_endpoint.specs.declared.auto.Choice.{Choice}
 use Rattle.peer_runner.specs.declared.doorbell_paths.Done.{Done}
 use Rattle.shared_words.specs.PassView.{PassView}
@@ -12,13 +12,13 @@ use Rattle.shared_words.specs.DerivedStates.{derived_state, IsNext}
 use Rattle.shared_words.specs.Actions.{accesses_in}
 use Rattle.shared_words.specs.Rules.{front}
 use Rattle.peer_runner.specs.Contexts.{IsNextOf}
-use Rattle.peer_runner.proofs.Runs.{opened_busy}
+use Rattle.peer_runner.proofs.TurnsAndLines.{opened_busy}
 use Rattle.call_grammar.specs.Calls.{EndConfig}
 use Rattle.link_endpoint.specs.Engine.{is_busy}
 use Rattle.link_endpoint.specs.Refinement.{Takes, marks_between}
 use Rattle.link_endpoint.specs.Plan.{Plan, MayOpenIf, call_chosen_by, Counts}
 use Rattle.peer_runner.specs.Runners.{place_in, chosen, made, done_of, value_done, awaits_ring, MayRingBy}
-use Rattle.peer_runner.proofs.Turning.{Frames, first_is, is_next, held_turn, step_turn, opened_in, may_open_if, done_there, may_come, round_frames, lines_told, lines_held}
+use Rattle.peer_runner.proofs.AutoTurns.{Frames, first_is, is_next, held_turn, step_turn, opened_in, may_open_if, done_there, may_come, round_frames, lines_recorded, lines_held}
 use Rattle.peer_runner.proofs.turns.take_turn.Goals as goal
 
 pub open-requires-clause-fits : goal.open-requires-clause-fits
@@ -66,7 +66,7 @@ returns-clause-turned c = λ r t. let pass = pass_taken c.args.context.now.route
     (record { driven = c.took-taken.new.self; looks = Some 0; ringing = c.awaits_ring-peer.result; opened = c.opened_after-peer.result; met = None }) c.took-taken.new.self.end c.took-taken.result.items
     c.requires.honest.1 (sym (busy_is c.open.new.self.end config r.end (place_in config r) refines) ∙ opened_busy c.args.choice r c.args.peer.now.driven.auto.frames c.open.new.self.end t.matches t.goes c.open.ensures.open) goes took (λ auto one other is. plan_counted p.driven.auto c.took-taken.new.self.auto auto _ (subst (λ (plan : Plan). Counts plan (marks_between one other c.took-taken.result.items) c.took-taken.new.self.auto) c.open.ensures.auto (c.took-taken.ensures.counts one other)) is) refl c.if-peer.false c.opened_after-peer.ensures refl in
     let first = c.is_some-first.ensures ∙ first_is c.args.choice (is_busy p.driven.end) r t.closes (busy_is p.driven.end config r.end r.place t.there.refines.refines) in
-    let lines = lines_told config r done c.open.new.self.end c.took-taken.new.self.end p.opened p.met c.next-access.result c.took-taken.result.items goes took refines at t.is.opened t.is.met in (
+    let lines = lines_recorded config r done c.open.new.self.end c.took-taken.new.self.end p.opened p.met c.next-access.result c.took-taken.result.items goes took refines at t.is.opened t.is.met in (
       done,
       done_there key me c.args.context.now.routes.now done r c.args.choice c.args.pass.now c.take_for-done.new.pass p c.open.new.self.end c.next-access.result t refines at c.take_for-done.ensures.done pass,
       both.0,

@@ -1,5 +1,5 @@
 use Rattle.std.proofs.Common.{◌∙◌}
-use Rattle.scenario_text.proofs.SizeLaws.{geometry_is}
+use Rattle.scenario_text.proofs.SizeTests.{geometry_is}
 use Rattle.port_text.proofs.judging.is_geometry.Goals as goal
 
 pub returns : goal.returns

@@ -1,9 +1,9 @@
 use Rattle.std.proofs.Common.{refl}
-use Rattle.line_format.proofs.TextLaws.{spelled_is_read}
+use Rattle.line_format.proofs.LawsOfTexts.{spelled_is_read}
 use Rattle.port_text.specs.Spelling.{world_of, IsSpelling}
 use Rattle.port_text.specs.Judge.{machine, sense}
 use Rattle.port_text.specs.Laws.{line_count}
-use Rattle.port_text.proofs.ForwardLaws.{is_forward}
+use Rattle.port_text.proofs.SpelledIsRead.{is_forward}
 use Rattle.port_text.proofs.laws.printed_is_read_again.Goals as goal
 
 pub returns : goal.returns

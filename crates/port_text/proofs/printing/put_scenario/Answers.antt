@@ -1,5 +1,5 @@
 use Rattle.port_text.specs.Spelling.{world_of}
-use Rattle.port_text.proofs.PrintLaws.{parts}
+use Rattle.port_text.proofs.PrintedParts.{parts}
 use Rattle.port_text.proofs.printing.put_scenario.Goals as goal
 
 pub returns : goal.returns

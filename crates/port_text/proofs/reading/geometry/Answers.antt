@@ -1,6 +1,6 @@
 use Rattle.std.proofs.Common.{◌≡◌, true, false, sym, ap, ◌∙◌}
 use Rattle.std.specs.Result.{is_ok}
-use Rattle.scenario_text.proofs.SizeLaws.{geometry_is}
+use Rattle.scenario_text.proofs.SizeTests.{geometry_is}
 use Rattle.port_text.proofs.reading.geometry.Goals as goal
 
 pub unreachable-requires : goal.unreachable-requires

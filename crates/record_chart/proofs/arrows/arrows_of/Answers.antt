@@ -1,7 +1,7 @@
 use Rattle.std.proofs.Common.{◌≡◌, ◌+◌, ◌-◌, ◌++◌, ℕ, Option, List, slice_get, ap, ◌∙◌}
 use Rattle.record_chart.specs.declared.arrows.Arrow.{Arrow}
 use Rattle.record_chart.specs.Arrows.{arrow_to}
-use Rattle.record_chart.proofs.ArrowLaws.{all_arrows, acceptances_more, delivered_more, delivered_few, arrows_more}
+use Rattle.record_chart.proofs.ArrowsByLine.{all_arrows, acceptances_more, delivered_more, delivered_few, arrows_more}
 use Rattle.record_chart.proofs.arrows.arrows_of.Goals as goal
 
 pub loop-at-preserved : goal.loop-at-preserved

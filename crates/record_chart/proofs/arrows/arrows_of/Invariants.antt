@@ -1,6 +1,6 @@
 use Rattle.std.proofs.Common.{◌≡◌, ◌-◌, ◌≤◌}
 use Rattle.record_chart.specs.Arrows.{acceptances, delivery_count, arrows_of}
-use Rattle.record_chart.proofs.ArrowLaws.{past, all_arrows}
+use Rattle.record_chart.proofs.ArrowsByLine.{past, all_arrows}
 use Rattle.record_chart.proofs.arrows.arrows_of.Given as goal
 
 abbrev pub invariant-loop-at : goal.invariant-loop-at

@@ -1,4 +1,4 @@
-use Rattle.record_chart.proofs.OwnLaws.{own_arrows}
+use Rattle.record_chart.proofs.PairArrows.{own_arrows}
 use Rattle.record_chart.proofs.laws.deliveries_have_their_arrows.Goals as goal
 
 pub returns : goal.returns

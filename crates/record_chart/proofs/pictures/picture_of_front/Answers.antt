@@ -1,6 +1,6 @@
 use Rattle.std.proofs.Common.{◌-◌, length, ap, arith, length-take}
 use Rattle.scenario_text.specs.Spelling.{world_of}
-use Rattle.record_chart.proofs.FrontLaws.{more_left_out}
+use Rattle.record_chart.proofs.StablePictures.{more_left_out}
 use Rattle.record_chart.proofs.pictures.picture_of_front.Goals as goal
 
 pub returns : goal.returns

@@ -3,7 +3,7 @@ use Rattle.std.proofs.lemmas.List.{length_push}
 use Rattle.std.proofs.lemmas.List.Sums.{sum_by_push}
 use Rattle.record_chart.specs.declared.rows.Row.{Row}
 use Rattle.record_chart.specs.Rows.{row_of_one}
-use Rattle.record_chart.proofs.RowLaws.{rest_of, goes_more, stops_more, begins, ends, capped, uncapped, some_of}
+use Rattle.record_chart.proofs.GrowingRows.{rest_of, goes_more, stops_more, begins, ends, capped, uncapped, some_of}
 use Rattle.record_chart.proofs.rows.rows_of.Goals as goal
 
 pub loop-at-init : goal.loop-at-init

@@ -1,7 +1,7 @@
 use Rattle.std.proofs.Common.{◌≡◌, ◌+◌, ◌<◌, ◌≤◌, ◌++◌, length, sum_by}
 use Rattle.record_chart.specs.Rows.{rows_of}
 use Rattle.record_chart.specs.declared.rows.Row.{Row}
-use Rattle.record_chart.proofs.RowLaws.{rest_of}
+use Rattle.record_chart.proofs.GrowingRows.{rest_of}
 use Rattle.record_chart.proofs.rows.rows_of.Given as goal
 
 abbrev pub invariant-loop-at : goal.invariant-loop-at

@@ -1,4 +1,4 @@
-use Rattle.record_text.proofs.PrintLaws.{lines-more, all-more}
+use Rattle.record_text.proofs.PrintedHistory.{lines-more, all-more}
 use Rattle.record_text.proofs.growing.put_lines.Goals as goal
 
 pub loop-line-preserved : goal.loop-line-preserved

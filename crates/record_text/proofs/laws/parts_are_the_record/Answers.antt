@@ -1,4 +1,4 @@
-use Rattle.record_text.proofs.GrowingLaws.{parts_are, lines_follow}
+use Rattle.record_text.proofs.TextByParts.{parts_are, lines_follow}
 use Rattle.record_text.proofs.laws.parts_are_the_record.Goals as goal
 
 pub returns-clause-parts : goal.returns-clause-parts

@@ -2,7 +2,7 @@ use Rattle.std.proofs.Common.{◌≡◌, ◌<◌, ◌++◌, length, get_or, take
 use Rattle.std.specs.Prelude.{decimal}
 use Rattle.std.proofs.lemmas.Int.Digits.{digits_more}
 use Rattle.std.proofs.lemmas.List.{take-append-drop, length-take, get_or-take}
-use Rattle.line_format.proofs.NumberLaws.{one_more, is_number, number_of-some}
+use Rattle.line_format.proofs.DecimalFields.{one_more, is_number, number_of-some}
 use Rattle.record_text.proofs.quick.number_in_front.Goals.{else-bytes-eq48-via-then-bytes-eq48+else-at-gt1, else-bytes-eq48-via-else-bytes-eq48}
 use Rattle.record_text.proofs.quick.number_in_front.Goals as goal
 

@@ -1,5 +1,5 @@
 use Rattle.record_text.specs.RunSpelling.{run_of}
-use Rattle.record_text.proofs.RunAgain.{alone}
+use Rattle.record_text.proofs.TextDeterminesRun.{alone}
 use Rattle.record_text.proofs.run_printing.print_run.Goals as goal
 
 pub returns-clause-alone : goal.returns-clause-alone

@@ -1,5 +1,5 @@
-use Rattle.record_text.proofs.PrintLaws.{all-more}
-use Rattle.record_text.proofs.RunPrintLaws.{own_more}
+use Rattle.record_text.proofs.PrintedHistory.{all-more}
+use Rattle.record_text.proofs.PrintedRun.{own_more}
 use Rattle.record_text.proofs.run_printing.put_own_lines.Goals as goal
 
 pub loop-line-preserved : goal.loop-line-preserved

@@ -1,5 +1,5 @@
 use Rattle.std.proofs.Common.{arith, sym, ap, length}
-use Rattle.record_text.proofs.RunPrintLaws.{parts_put, parts_are, parts_count, count_small}
+use Rattle.record_text.proofs.PrintedRun.{parts_put, parts_are, parts_count, count_small}
 use Rattle.record_text.proofs.run_printing.put_parts.Goals as goal
 
 pub overflow_add-count-in-loop-trace : goal.overflow_add-count-in-loop-trace

@@ -1,8 +1,8 @@
 use Rattle.std.proofs.Common.{ap, ◌∙◌}
 use Rattle.record_text.specs.Judge.{history_step}
-use Rattle.record_text.proofs.ForwardLaws.{line_is_told}
+use Rattle.record_text.proofs.SpelledIsRead.{line_is_recorded}
 use Rattle.record_text.proofs.taking.read_line.Goals as goal
 
-pub returns-in-Some-clause-tells : goal.returns-in-Some-clause-tells
-returns-in-Some-clause-tells c = λ before.
-    ap (history_step before) c.in-Some.ensures.text ∙ line_is_told before c.in-Some.found c.in-Some.ensures.fits c.in-Some.ensures.framed
+pub returns-in-Some-clause-has_content : goal.returns-in-Some-clause-has_content
+returns-in-Some-clause-has_content c = λ before.
+    ap (history_step before) c.in-Some.ensures.text ∙ line_is_recorded before c.in-Some.found c.in-Some.ensures.fits c.in-Some.ensures.framed

@@ -3,7 +3,7 @@ use Rattle.std.specs.Prelude.{reverse}
 use Rattle.std.proofs.lemmas.List.{take_all}
 use Rattle.lawful_history.specs.declared.line.Line.{Line}
 use Rattle.lawful_history.specs.Sessions.{opened_in}
-use Rattle.reference_history.proofs.Marking.{opened_bare}
+use Rattle.reference_history.proofs.SessionMarks.{opened_bare}
 use Rattle.reference_history.proofs.marks.opened_in.Goals as goal
 
 pub returns : goal.returns

@@ -1,5 +1,5 @@
 use Rattle.sampling_port.proofs.Exists.{history_lem}
-use Rattle.sampling_port.proofs.Following.{following}
+use Rattle.sampling_port.proofs.PortFollowsCall.{following}
 use Rattle.sampling_port.proofs.laws.history_is_lawful.Goals as goal
 
 pub returns : goal.returns

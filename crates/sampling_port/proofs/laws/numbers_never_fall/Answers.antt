@@ -1,4 +1,4 @@
-use Rattle.sampling_port.proofs.Falling.{numbers_lem}
+use Rattle.sampling_port.proofs.NumbersNeverFall.{numbers_lem}
 use Rattle.sampling_port.proofs.laws.numbers_never_fall.Goals as goal
 
 pub returns : goal.returns

@@ -1,4 +1,4 @@
-use Rattle.sampling_port.proofs.Publishing.{got_lem, looks_lem, zero_lem, nothing_lem, again_lem, refused_lem}
+use Rattle.sampling_port.proofs.SamplesArePublished.{got_lem, looks_lem, zero_lem, nothing_lem, again_lem, refused_lem}
 use Rattle.sampling_port.proofs.laws.samples_are_published.Goals as goal
 
 pub returns-clause-got : goal.returns-clause-got

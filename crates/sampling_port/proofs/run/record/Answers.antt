@@ -1,7 +1,7 @@
 use Rattle.std.proofs.Common.{arith, take}
 use Rattle.port_text.specs.Spelling.{world_of}
 use Rattle.sampling_port.specs.Schedule.{schedule}
-use Rattle.sampling_port.proofs.Runs.{front_of, one_act, act_at, few_so_far}
+use Rattle.sampling_port.proofs.OneMoreEvent.{front_of, one_act, act_at, few_so_far}
 use Rattle.sampling_port.proofs.run.record.Goals as goal
 
 pub act-requires : goal.act-requires

@@ -1,6 +1,6 @@
 use Rattle.std.proofs.Common.{refl}
 use Rattle.scenario_text.specs.Spelling.{world_of}
-use Rattle.scenario_text.proofs.ForwardLaws.{is_answered}
+use Rattle.scenario_text.proofs.SpelledIsRead.{is_answered}
 use Rattle.scenario_text.proofs.laws.printed_is_read_again.Goals as goal
 
 pub returns : goal.returns

@@ -1,6 +1,6 @@
 use Rattle.std.proofs.Common.{◌≡◌, true, [], ◌∷◌, refl, sym, subst}
 use Rattle.scenario_text.specs.Scenario.{IsWorld}
-use Rattle.scenario_text.proofs.LoadLaws.{load_is_world, made_of}
+use Rattle.scenario_text.proofs.LoadIsScenario.{load_is_world, made_of}
 use Rattle.scenario_text.proofs.loads.load.Goals as goal
 
 pub invariant_of-result : goal.invariant_of-result

@@ -1,4 +1,4 @@
-use Rattle.scenario_text.proofs.LoadLaws.{no_offers, offers_more}
+use Rattle.scenario_text.proofs.LoadIsScenario.{no_offers, offers_more}
 use Rattle.scenario_text.proofs.loads.push_offers.Goals as goal
 
 pub loop-number-init : goal.loop-number-init

@@ -1,5 +1,5 @@
 use Rattle.scenario_text.specs.Spelling.{world_of}
-use Rattle.scenario_text.proofs.PrintLaws.{parts}
+use Rattle.scenario_text.proofs.PrintedParts.{parts}
 use Rattle.scenario_text.proofs.printing.put_scenario.Goals as goal
 
 pub returns : goal.returns

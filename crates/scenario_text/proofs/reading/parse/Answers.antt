@@ -5,25 +5,25 @@ use Rattle.scenario_text.specs.Spelling.{world_of, IsSpelling}
 use Rattle.scenario_text.specs.Judge.{machine, sense}
 use Rattle.scenario_text.specs.Laws.{line_count}
 use Rattle.scenario_text.specs.Answers.{is_no_memory}
-use Rattle.scenario_text.specs.Drafts.{so_far}
-use Rattle.scenario_text.proofs.ForwardLaws.{is_forward}
-use Rattle.scenario_text.proofs.WholeLaws.{is_whole, is_spelled, apart}
+use Rattle.scenario_text.specs.Drafts.{draft_view}
+use Rattle.scenario_text.proofs.SpelledIsRead.{is_forward}
+use Rattle.scenario_text.proofs.ReadIffSpelled.{is_whole, is_spelled, apart}
 use Rattle.scenario_text.proofs.reading.parse.Goals as goal
 
 pub finish-requires-clause-ended : goal.finish-requires-clause-ended
-finish-requires-clause-ended c = (is_whole c.args.bytes.now (so_far c.read_text.new.draft) (rw c.new-draft.ensures at c.in_ok-read_text.ensures)).0
+finish-requires-clause-ended c = (is_whole c.args.bytes.now (draft_view c.read_text.new.draft) (rw c.new-draft.ensures at c.in_ok-read_text.ensures)).0
 
 pub finish-requires-clause-world : goal.finish-requires-clause-world
-finish-requires-clause-world c = (is_whole c.args.bytes.now (so_far c.read_text.new.draft) (rw c.new-draft.ensures at c.in_ok-read_text.ensures)).1
+finish-requires-clause-world c = (is_whole c.args.bytes.now (draft_view c.read_text.new.draft) (rw c.new-draft.ensures at c.in_ok-read_text.ensures)).1
 
 pub returns-clause-found : goal.returns-clause-found
-returns-clause-found c = is_spelled c.args.bytes.now (so_far c.read_text.new.draft) _ (rw c.new-draft.ensures at c.in_ok-read_text.ensures) c.finish.ensures
+returns-clause-found c = is_spelled c.args.bytes.now (draft_view c.read_text.new.draft) _ (rw c.new-draft.ensures at c.in_ok-read_text.ensures) c.finish.ensures
 
 pub returns-clause-only : goal.returns-clause-only
-returns-clause-only c = λ w is. only_ok machine sense IsSpelling line_count is_forward c.args.bytes.now (so_far c.read_text.new.draft) _ w (rw c.new-draft.ensures at c.in_ok-read_text.ensures) (ap (λ x. Ok x) (sym c.finish.ensures)) is
+returns-clause-only c = λ w is. only_ok machine sense IsSpelling line_count is_forward c.args.bytes.now (draft_view c.read_text.new.draft) _ w (rw c.new-draft.ensures at c.in_ok-read_text.ensures) (ap (λ x. Ok x) (sym c.finish.ensures)) is
 
 pub returns-in_err-read_text-clause-only : goal.returns-in_err-read_text-clause-only
-returns-in_err-read_text-clause-only c = only_err machine sense IsSpelling line_count is_forward is_no_memory NoMemory apart world_of c.args.bytes.now (so_far c.read_text.new.draft) c.in_err-read_text.field-0.0 c.from_residual.result c.from_residual.ensures.1 (rw c.new-draft.ensures at c.in_err-read_text.ensures)
+returns-in_err-read_text-clause-only c = only_err machine sense IsSpelling line_count is_forward is_no_memory NoMemory apart world_of c.args.bytes.now (draft_view c.read_text.new.draft) c.in_err-read_text.field-0.0 c.from_residual.result c.from_residual.ensures.1 (rw c.new-draft.ensures at c.in_err-read_text.ensures)
 
 pub returns-in_err-read_text-clause-exact : goal.returns-in_err-read_text-clause-exact
-returns-in_err-read_text-clause-exact c = exact_err machine sense is_no_memory NoMemory apart world_of c.args.bytes.now (so_far c.read_text.new.draft) c.in_err-read_text.field-0.0 c.from_residual.result c.from_residual.ensures.1 (rw c.new-draft.ensures at c.in_err-read_text.ensures)
+returns-in_err-read_text-clause-exact c = exact_err machine sense is_no_memory NoMemory apart world_of c.args.bytes.now (draft_view c.read_text.new.draft) c.in_err-read_text.field-0.0 c.from_residual.result c.from_residual.ensures.1 (rw c.new-draft.ensures at c.in_err-read_text.ensures)

@@ -1,5 +1,5 @@
 use Rattle.scenario_text.specs.Spelling.{world_of}
-use Rattle.scenario_text.proofs.RunningLaws.{all_below, below}
+use Rattle.scenario_text.proofs.RunningForm.{all_below, below}
 use Rattle.scenario_text.proofs.running.not_running.Goals as goal
 
 pub of-ends-requires : goal.of-ends-requires

@@ -5,7 +5,7 @@ use Rattle.shared_words.specs.RunSetups.{honest_of}
 use Rattle.shared_words.specs.DerivedStates.{derived_state, IsNext}
 use Rattle.shared_words.specs.Actions.{accesses_in}
 use Rattle.shared_words.specs.Rules.{front}
-use Rattle.shared_words.proofs.Seats.{load_allowed}
+use Rattle.shared_words.proofs.ActionsKeepRule.{load_allowed}
 use Rattle.shared_words.proofs.accesses.load.Goals as goal
 
 pub load-requires : goal.load-requires

@@ -4,11 +4,11 @@ use Rattle.section_map.specs.MayWrite.{MayWrite}
 use Rattle.split_ring.specs.declared.steps.Access.TheVariants as access
 use Rattle.shared_words.specs.PassView.{PassView}
 use Rattle.shared_words.specs.RunSetups.{honest_of}
-use Rattle.shared_words.specs.DerivedStates.{taken, derived_state, IsNext}
+use Rattle.shared_words.specs.DerivedStates.{call_access, derived_state, IsNext}
 use Rattle.shared_words.specs.Actions.{accesses_in}
 use Rattle.shared_words.specs.Rules.{front}
-use Rattle.shared_words.proofs.Keys.{within}
-use Rattle.shared_words.proofs.Seats.{store_allowed}
+use Rattle.shared_words.proofs.LinkOfSetup.{within}
+use Rattle.shared_words.proofs.ActionsKeepRule.{store_allowed}
 use Rattle.shared_words.proofs.accesses.store.Goals as goal
 
 pub store-requires : goal.store-requires
@@ -17,6 +17,6 @@ store-requires g c = let key = c.args.words.now.shared.key in let e = ap (λ h. 
     let own : MayWrite key.geometry c.pass.inside.seat.me.0.from c.args.word = subst (λ p. MayWrite key.geometry p c.args.word) (sym (ap (λ h. h.from) c.pass.view_is)) c.requires.own in (
       search rules,
       omega arith,
-      store_allowed key (taken g.B.Begins.call (access.Write c.args.word c.args.value) 0) _ _ _ _ _ _ _ (omega arith) (inl own) own (search rules) (λ m. tt) (λ m a s. s)
+      store_allowed key (call_access g.B.Begins.call (access.Write c.args.word c.args.value) 0) _ _ _ _ _ _ _ (omega arith) (inl own) own (search rules) (λ m. tt) (λ m a s. s)
           (subst (λ (h : PassView). honest_of key h.from ≡ true → IsNext key h.from (derived_state key h.from (accesses_in (front h.lists))) g.B.Begins.call (access.Write c.args.word c.args.value)) (sym c.pass.view_is) c.requires.next),
     )

@@ -1,5 +1,5 @@
 use Rattle.std.proofs.Common.{rules, length, ap, arith}
-use Rattle.shared_words.proofs.Seats.{look_allowed}
+use Rattle.shared_words.proofs.ActionsKeepRule.{look_allowed}
 use Rattle.shared_words.proofs.interrupts.look.Goals as goal
 
 pub swap-requires : goal.swap-requires

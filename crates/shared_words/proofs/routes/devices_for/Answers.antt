@@ -6,7 +6,7 @@ use Rattle.doorbell_irq.specs.Events.{Event}
 use Rattle.doorbell_irq.specs.Refinement.{Refines}
 use Rattle.lawful_history.specs.Device.{devices_of}
 use Rattle.shared_words.specs.PeerRoutes.{events_of, MaySet}
-use Rattle.shared_words.proofs.Routing.{events_none, sets_at, events_at}
+use Rattle.shared_words.proofs.ScenarioRoutes.{events_none, sets_at, events_at}
 use Rattle.shared_words.proofs.routes.devices_for.Goals as goal
 
 pub loop-act-init : goal.loop-act-init

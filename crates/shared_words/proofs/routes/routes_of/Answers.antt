@@ -4,7 +4,7 @@ use Rattle.doorbell_irq.specs.declared.route.Route.{Route}
 use Rattle.doorbell_irq.specs.Routes.{IsRoute}
 use Rattle.lawful_history.specs.Device.{devices_of}
 use Rattle.shared_words.specs.PeerRoutes.{events_of, route_to}
-use Rattle.shared_words.proofs.Routing.{routed_more}
+use Rattle.shared_words.proofs.ScenarioRoutes.{routed_more}
 use Rattle.shared_words.proofs.routes.routes_of.Goals as goal
 
 pub loop-peer-init : goal.loop-peer-init

@@ -1,5 +1,5 @@
 use Rattle.std.proofs.Common.{rules, arith, refl}
-use Rattle.shared_words.proofs.Routing.{flags_more}
+use Rattle.shared_words.proofs.ScenarioRoutes.{flags_more}
 use Rattle.shared_words.proofs.run_setup.enabled_of.Goals as goal
 
 pub loop-peer-init : goal.loop-peer-init

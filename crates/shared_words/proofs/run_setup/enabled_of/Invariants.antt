@@ -1,4 +1,4 @@
-use Rattle.shared_words.proofs.Routing.{AreFlags}
+use Rattle.shared_words.proofs.ScenarioRoutes.{AreFlags}
 use Rattle.shared_words.proofs.run_setup.enabled_of.Given as goal
 
 -- the flags of the peers so far

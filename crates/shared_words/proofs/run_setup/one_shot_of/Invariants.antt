@@ -1,4 +1,4 @@
-use Rattle.shared_words.proofs.Routing.{AreFlags}
+use Rattle.shared_words.proofs.ScenarioRoutes.{AreFlags}
 use Rattle.shared_words.proofs.run_setup.one_shot_of.Given as goal
 
 -- the flags of the peers so far

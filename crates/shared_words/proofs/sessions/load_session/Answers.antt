@@ -3,8 +3,8 @@ use Rattle.shared_words.specs.PassView.{PassView}
 use Rattle.shared_words.specs.Actions.{accesses_in}
 use Rattle.shared_words.specs.SharedMemory.{MayLoadSession}
 use Rattle.shared_words.specs.Rules.{front}
-use Rattle.shared_words.proofs.Keys.{honest_below}
-use Rattle.shared_words.proofs.Seats.{carry_allowed}
+use Rattle.shared_words.proofs.LinkOfSetup.{honest_below}
+use Rattle.shared_words.proofs.ActionsKeepRule.{carry_allowed}
 use Rattle.shared_words.proofs.sessions.load_session.Goals as goal
 
 pub load-requires : goal.load-requires

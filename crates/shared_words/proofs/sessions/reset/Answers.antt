@@ -1,7 +1,7 @@
 use Rattle.std.proofs.Common.{rules, ◌≡◌, inr, ◌<◌, length, ap, arith, sym, ◌∙◌}
 use Rattle.section_map.specs.Geometry.{word_count}
-use Rattle.shared_words.proofs.Keys.{within}
-use Rattle.shared_words.proofs.Seats.{reset_allowed}
+use Rattle.shared_words.proofs.LinkOfSetup.{within}
+use Rattle.shared_words.proofs.ActionsKeepRule.{reset_allowed}
 use Rattle.shared_words.proofs.sessions.reset.Goals as goal
 
 pub store-requires : goal.store-requires

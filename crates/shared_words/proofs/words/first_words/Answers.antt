@@ -1,6 +1,6 @@
 use Rattle.std.proofs.Common.{rules, ◌≡◌, replicate, ◌∙◌}
 use Rattle.section_map.specs.Geometry.{word_count}
-use Rattle.shared_words.proofs.Starting.{behind_more, behind_start}
+use Rattle.shared_words.proofs.WordsAtStart.{behind_more, behind_start}
 use Rattle.shared_words.proofs.words.first_words.Goals as goal
 
 pub loop-peer-init : goal.loop-peer-init

@@ -1,5 +1,5 @@
 use Rattle.std.proofs.Common.{rules, length, ap, arith}
-use Rattle.shared_words.proofs.Ranges.{join_allowed}
+use Rattle.shared_words.proofs.CutRanges.{join_allowed}
 use Rattle.shared_words.proofs.words.join_pass.Goals as goal
 
 pub join_seat-requires : goal.join_seat-requires

@@ -2,7 +2,7 @@ use Rattle.std.proofs.Common.{rules, length, ap, arith, subst, sym}
 use Rattle.atomic_table.specs.Table.{Splits}
 use Rattle.shared_words.specs.declared.view.View.{View}
 use Rattle.shared_words.specs.Rules.{TableInvariant, lower, upper}
-use Rattle.shared_words.proofs.Ranges.{split_allowed}
+use Rattle.shared_words.proofs.CutRanges.{split_allowed}
 use Rattle.shared_words.proofs.words.split_at.Goals as goal
 
 pub split_seat-requires : goal.split_seat-requires

@@ -5,7 +5,7 @@ use Rattle.shared_words.specs.declared.run_setup.RunSetup.{RunSetup}
 use Rattle.shared_words.specs.Interrupts.{words_at_start}
 use Rattle.shared_words.specs.RunSetups.{IsMadeFor}
 use Rattle.shared_words.specs.Rules.{TableInvariant, initial_view}
-use Rattle.shared_words.proofs.Learns.{starts, opened_of}
+use Rattle.shared_words.proofs.LearnedFacts.{starts, opened_of}
 use Rattle.shared_words.proofs.words.words_for.Goals as goal
 
 pub of_words-requires : goal.of_words-requires

@@ -9,10 +9,10 @@ use Rattle.lawful_history.specs.Sides.{world_of}
 use Rattle.lawful_history.specs.Schedule.{schedule}
 use Rattle.simulator.specs.Log.{no_output}
 use Rattle.simulator.specs.Simulator.{RunsTo}
-use Rattle.simulator.proofs.Runs.{one_act, losses_few}
+use Rattle.simulator.proofs.OneMoreEvent.{one_act, losses_few}
 use Rattle.sim_world.specs.Playing.{output_of}
 use Rattle.sim_world.proofs.LoadActs.{acts_length, acts_of, is_act, starts_alike, load_received, load_stops}
-use Rattle.sim_world.proofs.Stopping.{passed_on, acts_left, none_left}
+use Rattle.sim_world.proofs.StoppedPlays.{passed_on, acts_left, none_left}
 use Rattle.sim_world.proofs.loads.play_load.Goals as goal
 
 pub loop-at-init : goal.loop-at-init

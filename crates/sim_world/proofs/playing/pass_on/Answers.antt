@@ -4,7 +4,7 @@ use Rattle.lawful_history.specs.declared.line.Line.{Line}
 use Rattle.lawful_history.specs.Frames.{HaveFrames}
 use Rattle.simulator.specs.Simulator.{kept_lines}
 use Rattle.sim_world.specs.Playing.{output_of}
-use Rattle.sim_world.proofs.Stopping.{passed_on}
+use Rattle.sim_world.proofs.StoppedPlays.{passed_on}
 use Rattle.sim_world.proofs.playing.pass_on.Goals as goal
 
 pub returns-clause-received : goal.returns-clause-received

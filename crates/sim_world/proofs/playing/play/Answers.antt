@@ -4,10 +4,10 @@ use Rattle.lawful_history.specs.declared.line.Line.{Line}
 use Rattle.lawful_history.specs.Frames.{HaveFrames}
 use Rattle.lawful_history.specs.Sides.{world_of}
 use Rattle.lawful_history.specs.Schedule.{schedule}
-use Rattle.simulator.proofs.Runs.{one_act, act_at, losses_few}
+use Rattle.simulator.proofs.OneMoreEvent.{one_act, act_at, losses_few}
 use Rattle.sim_world.specs.Playing.{output_of}
-use Rattle.sim_world.proofs.Histories.{heard_whole}
-use Rattle.sim_world.proofs.Stopping.{passed_on, by_memory, stops_within, acts_left, none_left}
+use Rattle.sim_world.proofs.DrainedHistories.{received_whole}
+use Rattle.sim_world.proofs.StoppedPlays.{passed_on, by_memory, stops_within, acts_left, none_left}
 use Rattle.sim_world.proofs.playing.play.Goals as goal
 
 pub play_act-requires : goal.play_act-requires
@@ -38,7 +38,7 @@ returns-clause-received g c =
     let world = world_of c.args.scenario.now in
     let received = c.loop-act.invariant in
     let end = rw c.items-act-items.ensures at c.loop-act-test.false in
-    let same = heard_whole world c.args.version received.gone c.loop-act.act-index c.loop-act.simulator end received.runs in
+    let same = received_whole world c.args.version received.gone c.loop-act.act-index c.loop-act.simulator end received.runs in
     subst (λ (lines : List Line). g.L.Listener.received c.args.listener.now c.take_lines.new.self lines) (ap (λ (lines : List Line). received.gone ++ lines) c.lines-last.ensures ∙ same) (c.in_ok-take_lines.ensures.received c.args.listener.now received.gone received.lines (subst (λ (lines : List Line). HaveFrames lines) (sym c.lines-last.ensures) received.runs.after.log.frames))
 
 pub returns-in_err-simulator-clause-stopped : goal.returns-in_err-simulator-clause-stopped

@@ -1,11 +1,11 @@
 use Rattle.sim_world.specs.Playing.{output_of}
-use Rattle.sim_world.proofs.Turns.{act_heard, act_stopped}
-use Rattle.sim_world.proofs.Stopping.{passed_on, by_memory}
+use Rattle.sim_world.proofs.Turns.{act_received, act_stopped}
+use Rattle.sim_world.proofs.StoppedPlays.{passed_on, by_memory}
 use Rattle.sim_world.proofs.playing.play_act.Goals as goal
 
 pub returns-in-Turn-clause-received : goal.returns-in-Turn-clause-received
 returns-in-Turn-clause-received g c =
-    act_heard (λ began. g.L.Listener.received began c.args.listener.now) (λ began. g.L.Listener.received began c.play_turns.new.listener) c.args.act.now c.in-Turn.peer c.in-Turn.steps c.args.simulator.now c.play_turns.new.simulator c.in-Turn.is c.play_turns.result c.play_turns.ensures.received
+    act_received (λ began. g.L.Listener.received began c.args.listener.now) (λ began. g.L.Listener.received began c.play_turns.new.listener) c.args.act.now c.in-Turn.peer c.in-Turn.steps c.args.simulator.now c.play_turns.new.simulator c.in-Turn.is c.play_turns.result c.play_turns.ensures.received
 
 pub returns-in-Turn-clause-stopped : goal.returns-in-Turn-clause-stopped
 returns-in-Turn-clause-stopped g c =

@@ -2,7 +2,7 @@ use Rattle.std.proofs.Common.{◌≡◌, ℕ, ◌+◌, ◌-◌, ◌<◌, List, �
 use Rattle.std.proofs.lemmas.List.{append-nil, replicate-append-replicate}
 use Rattle.lawful_history.specs.Schedule.{TurnTaken}
 use Rattle.sim_world.specs.Playing.{output_of}
-use Rattle.sim_world.proofs.Stopping.{passed_on, by_memory, stops_later, turns_left}
+use Rattle.sim_world.proofs.StoppedPlays.{passed_on, by_memory, stops_later, turns_left}
 use Rattle.sim_world.proofs.playing.play_turns.Goals as goal
 
 pub loop-k-init : goal.loop-k-init

@@ -1,9 +1,9 @@
 use Rattle.std.proofs.Common.{ℕ, List, ◌++◌, refl, ap, ◌∙◌}
 use Rattle.scenario_text.specs.Spelling.{world_of}
 use Rattle.record_text.specs.Growing.{front_text}
-use Rattle.record_text.proofs.ForwardLaws.{is_answered}
+use Rattle.record_text.proofs.SpelledIsRead.{is_answered}
 use Rattle.sim_world.specs.RecordWriting.{lawful_record}
-use Rattle.sim_world.proofs.Histories.{ended}
+use Rattle.sim_world.proofs.DrainedHistories.{ended}
 use Rattle.sim_world.proofs.record_writer.simulate_text.Goals as goal
 
 pub returns-clause-spelled : goal.returns-clause-spelled
@@ -17,4 +17,4 @@ pub returns-clause-again : goal.returns-clause-again
 returns-clause-again c = is_answered (lawful_record 2 (world_of c.args.scenario.now)) c.put_count.new.out.items (returns-clause-spelled c)
 
 pub returns-clause-lawful : goal.returns-clause-lawful
-returns-clause-lawful c = c.records_tell_one_history.ensures.told (world_of c.args.scenario.now) 2 c.args.scenario.now.world
+returns-clause-lawful c = c.records_hold_one_history.ensures.recorded (world_of c.args.scenario.now) 2 c.args.scenario.now.world

@@ -8,8 +8,8 @@ use Rattle.lawful_history.specs.Sides.{config_of}
 use Rattle.lawful_history.specs.EventRecords.{mark_line}
 use Rattle.lawful_history.specs.Frames.{HaveFrames}
 use Rattle.simulator.specs.PeerStates.{DriverIs}
-use Rattle.step_lines.proofs.Marks.{busy_is, busy_next, plan_counted}
-use Rattle.simulator.proofs.Turning.{can, rings_of, frames_now, carried, driver_counts, driver_waits}
+use Rattle.step_lines.proofs.NotesAreMarks.{busy_is, busy_next, plan_counted}
+use Rattle.simulator.proofs.HonestTurns.{can, rings_of, frames_now, carried, driver_counts, driver_waits}
 use Rattle.simulator.proofs.link.carry_on.Goals as goal
 
 pub perform-requires-clause-can : goal.perform-requires-clause-can

@@ -1,5 +1,5 @@
 use Rattle.std.proofs.Common.{refl}
-use Rattle.simulator.proofs.Choosing.{choice_opened, may_open}
+use Rattle.simulator.proofs.ChosenCallOpens.{choice_opened, may_open}
 use Rattle.simulator.proofs.link.choose_next.Goals as goal
 
 pub open-requires-clause-fits : goal.open-requires-clause-fits

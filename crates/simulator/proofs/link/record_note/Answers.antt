@@ -2,7 +2,7 @@ use Rattle.std.proofs.Common.{◌∷◌, subst}
 use Rattle.std.specs.Prelude.{OnOk}
 use Rattle.lawful_history.specs.declared.line.Line.{Line}
 use Rattle.simulator.specs.WorldState.{WorldStateAfter}
-use Rattle.simulator.proofs.Turning.{mark_remark}
+use Rattle.simulator.proofs.HonestTurns.{mark_remark}
 use Rattle.simulator.proofs.link.record_note.Goals as goal
 
 pub record_mark-requires : goal.record_mark-requires

@@ -7,7 +7,7 @@ use Rattle.link_endpoint.specs.Refinement.{marks_between}
 use Rattle.lawful_history.specs.declared.line.Line.{Line}
 use Rattle.lawful_history.specs.EventRecords.{mark_line}
 use Rattle.simulator.specs.WorldState.{WorldStateAfter}
-use Rattle.simulator.proofs.Turning.{frame_at, one_note}
+use Rattle.simulator.proofs.HonestTurns.{frame_at, one_note}
 use Rattle.simulator.proofs.link.record_notes.Goals as goal
 
 pub record_note-requires : goal.record_note-requires

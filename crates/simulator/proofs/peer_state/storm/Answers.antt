@@ -1,6 +1,6 @@
 use Rattle.std.proofs.Common.{ap}
 use Rattle.step_lines.specs.declared.storm.Storm.{Storm}
-use Rattle.simulator.proofs.Turning.{storm_performed}
+use Rattle.simulator.proofs.HonestTurns.{storm_performed}
 use Rattle.simulator.proofs.peer_state.storm.Goals as goal
 
 pub returns-clause-turn : goal.returns-clause-turn

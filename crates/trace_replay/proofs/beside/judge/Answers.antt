@@ -1,7 +1,7 @@
 use Rattle.std.proofs.Common.{ℕ, List, [], ◌∷◌, ◌++◌, ◌≡◌, ◌+◌, length, length-append, ap, ◌∙◌}
 use Rattle.link_model.specs.ExpectedRun.{world_in}
 use Rattle.trace_replay.specs.Beside.{IsBeside}
-use Rattle.trace_replay.proofs.Besides.{both_go_on, leaves, is_short, is_same, passed_on}
+use Rattle.trace_replay.proofs.TextAndHistory.{both_go_on, leaves, is_short, is_same, passed_on}
 use Rattle.trace_replay.proofs.beside.judge.Goals as goal
 
 pub returns-in_err-line-clause-refused : goal.returns-in_err-line-clause-refused

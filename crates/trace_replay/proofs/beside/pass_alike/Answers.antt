@@ -2,7 +2,7 @@ use Rattle.std.proofs.Common.{◌++◌, sym, subst, ℕ, List}
 use Rattle.lawful_history.specs.declared.line.Line.{Line}
 use Rattle.link_model.specs.ExpectedRun.{world_in, GoesOn}
 use Rattle.trace_replay.specs.Beside.{IsBeside}
-use Rattle.trace_replay.proofs.Besides.{went_past, stayed, both_go_on}
+use Rattle.trace_replay.proofs.TextAndHistory.{went_past, stayed, both_go_on}
 use Rattle.trace_replay.proofs.beside.pass_alike.Goals.{then-is_empty-via-then-is_empty, then-is_empty-via-else-is_empty+in_ok-pass+then-not-branch}
 use Rattle.trace_replay.proofs.beside.pass_alike.Goals as goal
 

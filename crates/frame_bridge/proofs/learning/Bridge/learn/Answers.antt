@@ -5,9 +5,9 @@ use Rattle.std.specs.Cmp.Lexicographic.{slice_cmp}
 use Rattle.std.specs.BTreeMap.{is_at}
 use Rattle.frame_bridge.specs.Forwarding.{is_group, source}
 use Rattle.frame_bridge.specs.BridgeView.{View, RefinesArrivals, arrival, port_in}
-use Rattle.frame_bridge.specs.Representation.{seen}
-use Rattle.frame_bridge.proofs.Growing.{unless}
-use Rattle.frame_bridge.proofs.Learned.{stands_group, stands_full, stands_put, HasRoom}
+use Rattle.frame_bridge.specs.Representation.{bridge_view_of}
+use Rattle.frame_bridge.proofs.GrowingLists.{unless}
+use Rattle.frame_bridge.proofs.OneMoreArrival.{stands_group, stands_full, stands_put, HasRoom}
 use Rattle.frame_bridge.proofs.learning.Bridge.learn.Goals as goal
 use Rattle.frame_bridge.proofs.learning.Bridge.learn.Goals.{then-len-lt-MOST-via-then-len-lt-MOST, then-len-lt-MOST-via-else-len-lt-MOST+then-contains_key}
 
@@ -17,7 +17,7 @@ returns-then-is_group-clause-refines c = λ earlier frame refines from.
 
 pub returns-in_ok-insert-clause-refines : goal.returns-in_ok-insert-clause-refines
 returns-in_ok-insert-clause-refines c = λ earlier frame refines from.
-    let old : View = seen c.self.inside in
+    let old : View = bridge_view_of c.self.inside in
     let after : View = record { ports = c.self.inside.ports; table = c.insert.new.self.entries } in
     let before : RefinesArrivals old earlier = subst (λ (v : View). RefinesArrivals v earlier) (sym c.self.view_is) refines in
     let alone : is_group (source frame) ≡ false = ap is_group from ∙ (sym c.is_group.ensures ∙ c.if-is_group.false) in
@@ -34,9 +34,9 @@ returns-in_ok-insert-clause-refines c = λ earlier frame refines from.
 
 pub returns-else-contains_key-clause-refines : goal.returns-else-contains_key-clause-refines
 returns-else-contains_key-clause-refines c = λ earlier frame refines from.
-    let before : RefinesArrivals (seen c.self.inside) earlier = subst (λ (v : View). RefinesArrivals v earlier) (sym c.self.view_is) refines in
+    let before : RefinesArrivals (bridge_view_of c.self.inside) earlier = subst (λ (v : View). RefinesArrivals v earlier) (sym c.self.view_is) refines in
     let alone : is_group (source frame) ≡ false = ap is_group from ∙ (sym c.is_group.ensures ∙ c.if-is_group.false) in
-    let none : is_some (port_in (seen c.self.inside) (source frame)) ≡ false =
-    ap (λ (a : List ℕ). is_some (port_in (seen c.self.inside) a)) from ∙ (sym c.contains_key.ensures ∙ c.if-contains_key.false) in
+    let none : is_some (port_in (bridge_view_of c.self.inside) (source frame)) ≡ false =
+    ap (λ (a : List ℕ). is_some (port_in (bridge_view_of c.self.inside) a)) from ∙ (sym c.contains_key.ensures ∙ c.if-contains_key.false) in
     subst (λ (v : View). RefinesArrivals v (earlier ++ arrival c.args.port frame ∷ [])) c.self.view_is
-    (stands_full (seen c.self.inside) earlier (arrival c.args.port frame) before alone none (omega (arith, c.len.ensures.len)))
+    (stands_full (bridge_view_of c.self.inside) earlier (arrival c.args.port frame) before alone none (omega (arith, c.len.ensures.len)))

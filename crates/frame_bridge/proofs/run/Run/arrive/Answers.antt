@@ -6,8 +6,8 @@ use Rattle.frame_bridge.specs.declared.run.Run.{Run}
 use Rattle.frame_bridge.specs.Forwarding.{ports_for}
 use Rattle.frame_bridge.specs.BridgeView.{RefinesArrivals, arrival}
 use Rattle.frame_bridge.specs.Output.{pieces_of, arrive_row}
-use Rattle.frame_bridge.proofs.There.{get_at}
-use Rattle.frame_bridge.proofs.Copying.{is_among, Copied, copy_step, copied_less, same_some, arrived_run}
+use Rattle.frame_bridge.proofs.RunAfterTurn.{get_at}
+use Rattle.frame_bridge.proofs.ArrivalsAreCopied.{is_among, Copied, copy_step, copied_less, same_some, arrived_run}
 use Rattle.frame_bridge.proofs.run.Run.arrive.Goals as goal
 use Rattle.frame_bridge.proofs.run.Run.arrive.Goals.{then-contains+in_ok-copy+in_ok-take_copy, else-contains}
 

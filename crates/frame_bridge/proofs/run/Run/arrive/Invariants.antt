@@ -2,7 +2,7 @@ use Rattle.std.proofs.Common.{◌≡◌}
 use Rattle.std.specs.Prelude.{Some, slice_get}
 use Rattle.link_endpoint.specs.Engine.{delivered}
 use Rattle.frame_bridge.specs.declared.ports.Port.{Port}
-use Rattle.frame_bridge.proofs.Copying.{Copied}
+use Rattle.frame_bridge.proofs.ArrivalsAreCopied.{Copied}
 use Rattle.frame_bridge.proofs.run.Run.arrive.Given as goal
 
 -- Each port before this one has its copy, if the frame goes there.

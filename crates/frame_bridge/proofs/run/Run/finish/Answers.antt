@@ -7,7 +7,7 @@ use Rattle.frame_bridge.specs.declared.ports.Port.{Port}
 use Rattle.frame_bridge.specs.Forwarding.{first_ports}
 use Rattle.frame_bridge.specs.Output.{pieces_of, port_rows}
 use Rattle.frame_bridge.specs.Refinement.{ArePorts}
-use Rattle.frame_bridge.proofs.Telling.{are_ports, in_order, whole_output}
+use Rattle.frame_bridge.proofs.OutputByParts.{are_ports, in_order, whole_output}
 use Rattle.frame_bridge.proofs.run.Run.finish.Goals as goal
 
 pub put_ports-requires : goal.put_ports-requires

@@ -5,8 +5,8 @@ use Rattle.std.proofs.lemmas.Iterator.Consumers.{YieldsList-turn, YieldsList-end
 use Rattle.bridge_text.specs.declared.scripts.Sent.{Sent}
 use Rattle.frame_bridge.specs.Run.{frames_of, started}
 use Rattle.frame_bridge.specs.Refinement.{RunRefines}
-use Rattle.frame_bridge.proofs.There.{get_at}
-use Rattle.frame_bridge.proofs.Starting.{sent_stands, map_same}
+use Rattle.frame_bridge.proofs.RunAfterTurn.{get_at}
+use Rattle.frame_bridge.proofs.InitialRun.{sent_stands, map_same}
 use Rattle.frame_bridge.proofs.run.Run.send.Goals as goal
 
 pub index_mut-port-requires : goal.index_mut-port-requires

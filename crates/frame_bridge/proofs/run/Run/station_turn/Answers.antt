@@ -1,7 +1,7 @@
 use Rattle.std.proofs.Common.{◌≡◌, ◌<◌, length, refl, arith}
 use Rattle.std.proofs.lemmas.Result.{on_ok_weaker}
 use Rattle.frame_bridge.specs.Forwarding.{forward}
-use Rattle.frame_bridge.proofs.There.{get_at, port_in, offered_in, station_there}
+use Rattle.frame_bridge.proofs.RunAfterTurn.{get_at, port_in, offered_in, station_there}
 use Rattle.frame_bridge.proofs.run.Run.station_turn.Goals as goal
 
 pub station_turn-requires : goal.station_turn-requires

@@ -3,7 +3,7 @@ use Rattle.std.proofs.lemmas.List.{take_all}
 use Rattle.split_ring.specs.declared.steps.Note.{Note}
 use Rattle.link_endpoint.specs.Refinement.{marks_between}
 use Rattle.link_endpoint.specs.Plan.{Counts}
-use Rattle.link_endpoint.proofs.Counting.{counts_none, counts_more}
+use Rattle.link_endpoint.proofs.NoteCounts.{counts_none, counts_more}
 use Rattle.link_endpoint.proofs.auto.Auto.count.Goals as goal
 
 pub loop-note-init : goal.loop-note-init

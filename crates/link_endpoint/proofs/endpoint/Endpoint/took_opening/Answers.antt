@@ -5,13 +5,13 @@ use Rattle.call_grammar.specs.Ends.{end_after}
 use Rattle.call_grammar.specs.Places as places
 use Rattle.link_endpoint.specs.declared.place.Place.TheVariants.{Closed}
 use Rattle.link_endpoint.specs.Engine.{Engine}
-use Rattle.link_endpoint.specs.Representation.{seen}
+use Rattle.link_endpoint.specs.Representation.{engine_of}
 use Rattle.link_endpoint.specs.Refinement.{RefinesAt, Takes}
-use Rattle.link_endpoint.proofs.WritingState.{opens_session}
+use Rattle.link_endpoint.proofs.StateStep.{opens_session}
 use Rattle.link_endpoint.proofs.endpoint.Endpoint.took_opening.Goals as goal
 
-taken : (c : goal.After-push) (value : ℕ) → Takes (seen c.self.inside) value (note.Over ∷ []) (seen (record (c.self.inside) { handshake = c.enter.new.self; place = Closed; tx = c.reset.new.self; rx = c.reset-2.new.self }))
-taken c value = opens_session (seen c.self.inside) _ value c.self.invariant.sections (grind (arith, common_steps)) (grind (arith, common_steps)) c.reset.ensures.refines c.reset-2.ensures.refines (grind (arith, common_steps)) (grind (arith, common_steps))
+taken : (c : goal.After-push) (value : ℕ) → Takes (engine_of c.self.inside) value (note.Over ∷ []) (engine_of (record (c.self.inside) { handshake = c.enter.new.self; place = Closed; tx = c.reset.new.self; rx = c.reset-2.new.self }))
+taken c value = opens_session (engine_of c.self.inside) _ value c.self.invariant.sections (grind (arith, common_steps)) (grind (arith, common_steps)) c.reset.ensures.refines c.reset-2.ensures.refines (grind (arith, common_steps)) (grind (arith, common_steps))
 
 pub returns-clause-steps : goal.returns-clause-steps
 returns-clause-steps c = λ value. rw (← c.self.view_is, c.push.ensures.items, c.requires.empty) (taken c value)
@@ -19,8 +19,8 @@ returns-clause-steps c = λ value. rw (← c.self.view_is, c.push.ensures.items,
 pub invariant_of-self : goal.invariant_of-self
 invariant_of-self c =
     let kept = c.self.invariant in
-    let config = (seen c.self.inside).config in
-    let new : Engine = seen (record (c.self.inside) { handshake = c.enter.new.self; place = Closed; tx = c.reset.new.self; rx = c.reset-2.new.self }) in
+    let config = (engine_of c.self.inside).config in
+    let new : Engine = engine_of (record (c.self.inside) { handshake = c.enter.new.self; place = Closed; tx = c.reset.new.self; rx = c.reset-2.new.self }) in
     let same : config ≡ new.config = grind (arith, common_steps) in
     record {
       sections = grind (arith, common_steps);

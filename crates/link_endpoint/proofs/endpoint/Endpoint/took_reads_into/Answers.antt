@@ -2,14 +2,14 @@ use Rattle.std.proofs.Common.{◌≡◌, ◌*◌, ◌<◌, ℕ, List, length, ta
 use Rattle.std.specs.List.{flat_map}
 use Rattle.call_grammar.specs.Bursts.{StepsThrough}
 use Rattle.call_grammar.specs.Words.{word_bytes}
-use Rattle.call_grammar.proofs.Spelled.{spelled}
+use Rattle.call_grammar.proofs.WordsOfBytes.{spelled}
 use Rattle.link_endpoint.specs.declared.place.Place.{Place}
 use Rattle.link_endpoint.specs.declared.place.Place.TheVariants.{Closed, ReadingOtherState, Clearing, WritingState, Refusing, NotInRun, Offering, Polling}
 use Rattle.link_endpoint.specs.Engine.{Engine, reads_ahead_at, reads_ahead, frame_ahead_at, frame_ahead}
-use Rattle.link_endpoint.specs.Representation.{seen}
+use Rattle.link_endpoint.specs.Representation.{engine_of}
 use Rattle.link_endpoint.specs.Bursts.{IsTaken}
 use Rattle.rx_engine.specs.Receiver.{Receiver}
-use Rattle.link_endpoint.proofs.Stretching.{none_refused, polls_on, kept_polled}
+use Rattle.link_endpoint.proofs.BurstsOfSteps.{none_refused, polls_on, kept_polled}
 use Rattle.link_endpoint.proofs.endpoint.Endpoint.took_reads_into.Goals as goal
 
 polls : (p : Place) (rx : Receiver) → 0 < reads_ahead_at p rx → p ≡ Polling
@@ -28,10 +28,10 @@ here c =
     let ahead : reads_ahead c.args.self.now ≡ reads_ahead_at c.self.inside.place c.self.inside.rx = ap reads_ahead (sym c.self.view_is) in
     polls c.self.inside.place c.self.inside.rx (omega (arith, ahead, c.requires.some, c.requires.within))
 
-steps : (c : goal.After-took_reads_into) (values : List ℕ) → c.args.words.now ≡ flat_map word_bytes values → StepsThrough IsTaken (seen c.self.inside) values c.took_reads_into.new.notes.items (seen (record (c.self.inside) { rx = c.took_reads_into.new.self }))
+steps : (c : goal.After-took_reads_into) (values : List ℕ) → c.args.words.now ≡ flat_map word_bytes values → StepsThrough IsTaken (engine_of c.self.inside) values c.took_reads_into.new.notes.items (engine_of (record (c.self.inside) { rx = c.took_reads_into.new.self }))
 steps c values words_are =
     let kept = c.self.invariant in
-    polls_on (seen c.self.inside) values c.took_reads_into.new.notes.items c.took_reads_into.new.self (seen c.self.inside).config kept.end kept.at (here c) (c.took_reads_into.ensures.steps values words_are) kept.refines (none_refused _ c.took_reads_into.ensures.notes)
+    polls_on (engine_of c.self.inside) values c.took_reads_into.new.notes.items c.took_reads_into.new.self (engine_of c.self.inside).config kept.end kept.at (here c) (c.took_reads_into.ensures.steps values words_are) kept.refines (none_refused _ c.took_reads_into.ensures.notes)
 
 pub returns-clause-steps : goal.returns-clause-steps
 returns-clause-steps c = λ values words_are. rw (← c.self.view_is) (steps c values words_are)

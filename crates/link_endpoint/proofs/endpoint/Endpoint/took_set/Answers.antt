@@ -4,13 +4,13 @@ use Rattle.split_ring.specs.declared.steps.Note.TheVariants as note
 use Rattle.call_grammar.specs.Ends.{end_after}
 use Rattle.call_grammar.specs.Places as places
 use Rattle.link_endpoint.specs.declared.place.Place.TheVariants.{Closed}
-use Rattle.link_endpoint.specs.Representation.{seen}
+use Rattle.link_endpoint.specs.Representation.{engine_of}
 use Rattle.link_endpoint.specs.Refinement.{Takes}
-use Rattle.link_endpoint.proofs.WritingState.{sets_other}
+use Rattle.link_endpoint.proofs.StateStep.{sets_other}
 use Rattle.link_endpoint.proofs.endpoint.Endpoint.took_set.Goals as goal
 
-taken : (c : goal.After-push) (value : ℕ) → Takes (seen c.self.inside) value (note.Over ∷ []) (record (seen c.self.inside) { phase = c.enter.new.self.phase; place = Closed })
-taken c value = sets_other (seen c.self.inside) _ c.args.state value (grind (arith, common_steps)) (grind (arith, common_steps)) (grind (arith, common_steps))
+taken : (c : goal.After-push) (value : ℕ) → Takes (engine_of c.self.inside) value (note.Over ∷ []) (record (engine_of c.self.inside) { phase = c.enter.new.self.phase; place = Closed })
+taken c value = sets_other (engine_of c.self.inside) _ c.args.state value (grind (arith, common_steps)) (grind (arith, common_steps)) (grind (arith, common_steps))
 
 pub returns-clause-steps : goal.returns-clause-steps
 returns-clause-steps c = λ value. rw (← c.self.view_is, c.push.ensures.items, c.requires.empty) (taken c value)
@@ -18,7 +18,7 @@ returns-clause-steps c = λ value. rw (← c.self.view_is, c.push.ensures.items,
 pub invariant_of-self : goal.invariant_of-self
 invariant_of-self c =
     let kept = c.self.invariant in
-    let config = (seen c.self.inside).config in
+    let config = (engine_of c.self.inside).config in
     record {
       sections = kept.sections;
       own_room = kept.own_room;

@@ -3,7 +3,7 @@ use Rattle.scenario_text.specs.Scenario.{World}
 use Rattle.simulator.specs.Log.{no_output}
 use Rattle.simulator.specs.Simulator.{RunsTo}
 use Rattle.link_model.specs.ScenarioParts.{world_of_parts}
-use Rattle.link_model.proofs.Playing.{at_first}
+use Rattle.link_model.proofs.PlayedActs.{at_first}
 use Rattle.link_model.proofs.expected_run.ExpectedRun.new.Goals as goal
 
 pub returns : goal.returns

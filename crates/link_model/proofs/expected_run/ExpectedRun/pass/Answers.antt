@@ -1,6 +1,6 @@
 use Rattle.std.proofs.Common.{◌++◌, drop}
 use Rattle.simulator.specs.Simulator.{kept_lines}
-use Rattle.link_model.proofs.Expecting.{all_taken}
+use Rattle.link_model.proofs.HistoryContinues.{all_taken}
 use Rattle.link_model.proofs.expected_run.ExpectedRun.pass.Goals as goal
 
 pub play_part-requires-clause-along : goal.play_part-requires-clause-along

@@ -2,9 +2,9 @@ use Rattle.std.proofs.Common.{◌≡◌, get_or, take, subst, refl, arith, List}
 use Rattle.scenario_text.specs.declared.acts.Act.{Act}
 use Rattle.lawful_history.specs.Schedule.{Event, TurnTaken, schedule}
 use Rattle.simulator.specs.Simulator.{RunsTo}
-use Rattle.simulator.proofs.Runs.{act_at, losses_few}
+use Rattle.simulator.proofs.OneMoreEvent.{act_at, losses_few}
 use Rattle.link_model.specs.ExpectedRun.{world_in}
-use Rattle.link_model.proofs.Playing.{no_turns, act_played, turns_noted, one_act_less}
+use Rattle.link_model.proofs.PlayedActs.{no_turns, act_played, turns_noted, one_act_less}
 use Rattle.link_model.proofs.expected_run.ExpectedRun.play_act.Goals as goal
 
 pub act-requires : goal.act-requires

@@ -1,4 +1,4 @@
-use Rattle.link_model.proofs.Playing.{turn_played}
+use Rattle.link_model.proofs.PlayedActs.{turn_played}
 use Rattle.link_model.proofs.expected_run.ExpectedRun.play_next.Goals as goal
 
 pub returns-then-self-gt0-clause-played : goal.returns-then-self-gt0-clause-played

@@ -1,5 +1,5 @@
 use Rattle.std.proofs.Common.{◌∙◌, ap, refl, arith, length, inl, inr}
-use Rattle.link_model.proofs.Playing.{played_on}
+use Rattle.link_model.proofs.PlayedActs.{played_on}
 use Rattle.link_model.proofs.expected_run.ExpectedRun.play_part.Goals as goal
 
 pub loop-self-init : goal.loop-self-init

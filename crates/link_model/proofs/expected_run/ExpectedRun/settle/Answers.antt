@@ -1,5 +1,5 @@
 use Rattle.std.proofs.Common.{◌∙◌, ap, arith, length, inl, inr}
-use Rattle.link_model.proofs.Playing.{played_on}
+use Rattle.link_model.proofs.PlayedActs.{played_on}
 use Rattle.link_model.proofs.expected_run.ExpectedRun.settle.Goals as goal
 
 pub play_next-requires : goal.play_next-requires

@@ -1,7 +1,7 @@
 use Rattle.std.proofs.Common.{◌≡◌, ◌-◌, length, take, drop, arith, length-drop}
 use Rattle.std.proofs.lemmas.List.{take_all}
 use Rattle.simulator.specs.Simulator.{kept_lines}
-use Rattle.link_model.proofs.Expecting.{frames_wait}
+use Rattle.link_model.proofs.HistoryContinues.{frames_wait}
 use Rattle.link_model.proofs.expected_run.ExpectedRun.waiting.Goals as goal
 
 pub returns-clause-frames : goal.returns-clause-frames

@@ -6,7 +6,7 @@ use Rattle.lawful_history.specs.Lawful.{IsLawfulIn}
 use Rattle.link_model.specs.declared.fault.StepFault.{StepFault}
 use Rattle.link_model.specs.Difference.{Differs}
 use Rattle.link_model.specs.ExpectedRun.{IsGoing, world_in}
-use Rattle.link_model.proofs.Viewing.{seen_as, ok_part, err_part}
+use Rattle.link_model.proofs.RunViews.{seen_as, ok_part, err_part}
 use Rattle.link_model.proofs.run.Run.close.Goals as goal
 
 pub returns-in-None-clause-whole : goal.returns-in-None-clause-whole

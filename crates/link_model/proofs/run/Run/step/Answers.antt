@@ -4,7 +4,7 @@ use Rattle.lawful_history.specs.declared.line.Line.{Line}
 use Rattle.link_model.specs.declared.fault.StepFault.{StepFault}
 use Rattle.link_model.specs.ScenarioParts.{world_of_parts}
 use Rattle.link_model.specs.ExpectedRun.{IsGoing}
-use Rattle.link_model.proofs.Viewing.{one_more, seen_begins, seen_cause}
+use Rattle.link_model.proofs.RunViews.{one_more, seen_begins, seen_cause}
 use Rattle.link_model.proofs.run.Run.step.Goals as goal
 
 -- The number of the line after one more.
@@ -26,7 +26,7 @@ returns-in-Ok-clause-taken c =
 pub returns-in-Ok-clause-lawful : goal.returns-in-Ok-clause-lawful
 returns-in-Ok-clause-lawful c =
     let going = subst (λ (o : Option StepFault). IsGoing o c.self.inside.next c.self.inside.expected_run) c.in_default.is c.self.invariant in
-    seen_begins c.records_tell_one_history.ensures.one c.records_tell_one_history.ensures.told c.take.new.self c.in-Some-checked_add.after (going.0 ++ c.args.line.now ∷ []) (c.in-Ok.ensures.on going.0 going.1)
+    seen_begins c.records_hold_one_history.ensures.one c.records_hold_one_history.ensures.recorded c.take.new.self c.in-Some-checked_add.after (going.0 ++ c.args.line.now ∷ []) (c.in-Ok.ensures.on going.0 going.1)
     (one_counted going.0 c.args.line.now c.self.inside.next c.in-Some-checked_add.after going.2 c.in-Some-checked_add.ensures.1)
 
 pub returns-in-Err-clause-cause : goal.returns-in-Err-clause-cause

@@ -1,4 +1,4 @@
-use Rattle.scenario_text.proofs.SizeLaws.{has_region, small_section}
+use Rattle.scenario_text.proofs.SizeTests.{has_region, small_section}
 use Rattle.port_text.proofs.drafts.Draft.add_head.Goals as goal
 
 pub invariant_of-self-in-Out-clause-section : goal.invariant_of-self-in-Out-clause-section

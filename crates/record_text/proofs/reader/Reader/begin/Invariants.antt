@@ -2,17 +2,17 @@ use Rattle.std.proofs.Common.{◌≡◌, ◌+◌, ◌≤◌, [], length, false}
 use Rattle.line_format.specs.Forms.{cuts}
 use Rattle.line_format.specs.Machine.{read_pieces}
 use Rattle.record_text.specs.Judge.{is_whole, machine, reading}
-use Rattle.record_text.specs.Drafts.{part_so_far}
-use Rattle.record_text.proofs.BackLaws.{GoodPart}
+use Rattle.record_text.specs.Drafts.{part_view}
+use Rattle.record_text.proofs.ReadIsSpelled.{GoodPart}
 use Rattle.record_text.proofs.reader.Reader.begin.Given as goal
 
 -- What is still to come gives what the text gives, and no line of the history was read.
 abbrev pub invariant-loop-rest : goal.invariant-loop-rest
 invariant-loop-rest l = record {
-  comes : read_pieces machine (part_so_far l.draft) l.number (cuts 10 l.rest) ≡ reading l.bytes;
+  comes : read_pieces machine (part_view l.draft) l.number (cuts 10 l.rest) ≡ reading l.bytes;
   within : l.number + length l.rest ≤ length l.bytes;
-  good : GoodPart (part_so_far l.draft);
-  goes_on : is_whole (part_so_far l.draft) ≡ false;
+  good : GoodPart (part_view l.draft);
+  goes_on : is_whole (part_view l.draft) ≡ false;
   none : l.draft.lines ≡ [];
 }
 

@@ -1,6 +1,6 @@
 use Rattle.std.proofs.Common.{ℕ, List, ◌++◌, length, ap, refl, sym, ◌∙◌, arith, length-append}
 use Rattle.record_text.specs.Growing.{history_text}
-use Rattle.record_text.proofs.ReaderLaws.{are_few, passed}
+use Rattle.record_text.proofs.ReaderContinues.{are_few, passed}
 use Rattle.record_text.proofs.reader.Reader.pass.Goals as goal
 
 pub overflow_add-self : goal.overflow_add-self

@@ -1,5 +1,5 @@
 use Rattle.std.proofs.Common.{◌≡◌, drop}
-use Rattle.reference_calls.specs.Seen.{stored}
+use Rattle.reference_calls.specs.Views.{stored}
 use Rattle.reference_calls.proofs.ends.End.written.Given as goal
 
 abbrev pub invariant-loop-store : goal.invariant-loop-store

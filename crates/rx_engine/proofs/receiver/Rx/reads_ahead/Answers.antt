@@ -1,6 +1,6 @@
 use Rattle.std.proofs.Common.{arith}
 use Rattle.std.proofs.lemmas.Grind.{common_steps}
-use Rattle.rx_engine.proofs.Stretching.{reads_on}
+use Rattle.rx_engine.proofs.FrameBursts.{reads_on}
 use Rattle.rx_engine.proofs.receiver.Rx.reads_ahead.Goals as goal
 
 pub returns-in-ReadingFrameWord-clause-reads : goal.returns-in-ReadingFrameWord-clause-reads

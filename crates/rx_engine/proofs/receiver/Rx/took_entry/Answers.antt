@@ -3,7 +3,7 @@ use Rattle.std.proofs.lemmas.Grind.{common_steps}
 use Rattle.split_ring.specs.Layout.{size_of}
 use Rattle.rx_engine.specs.Receiver.{is_open_at}
 use Rattle.rx_engine.specs.Refinement.{CountsMatch}
-use Rattle.rx_engine.proofs.Numbers.{ring_parity}
+use Rattle.rx_engine.proofs.ModularNumbers.{ring_parity}
 use Rattle.rx_engine.proofs.receiver.Rx.took_entry.Goals as goal
 
 pub returns-in-Err-clause-steps : goal.returns-in-Err-clause-steps

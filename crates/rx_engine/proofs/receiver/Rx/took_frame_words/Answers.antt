@@ -6,8 +6,8 @@ use Rattle.split_ring.specs.declared.steps.Note.{Note}
 use Rattle.split_ring.specs.declared.steps.Note.TheVariants.{Deliver}
 use Rattle.call_grammar.specs.Words.{word_bytes}
 use Rattle.rx_engine.specs.Receiver.{words_read}
-use Rattle.rx_engine.proofs.Gathering.{length-words}
-use Rattle.rx_engine.proofs.Stretching.{words_go, words_deliver}
+use Rattle.rx_engine.proofs.GatheredFrame.{length-words}
+use Rattle.rx_engine.proofs.FrameBursts.{words_go, words_deliver}
 use Rattle.rx_engine.proofs.receiver.Rx.took_frame_words.Goals as goal
 
 pub returns-then-last-clause-steps : goal.returns-then-last-clause-steps

@@ -1,7 +1,7 @@
 use Rattle.std.proofs.Common.{◌≤◌, length, ap, subst, sym, ◌∙◌, arith}
 use Rattle.call_grammar.specs.Bursts.{WritesBurst}
 use Rattle.rx_engine.specs.Receiver.{Receiver, writes_ahead}
-use Rattle.rx_engine.proofs.Stretching.{gives_on}
+use Rattle.rx_engine.proofs.FrameBursts.{gives_on}
 use Rattle.rx_engine.proofs.receiver.Rx.words.Goals as goal
 
 pub returns-in-WritingUsedId-clause-writes : goal.returns-in-WritingUsedId-clause-writes

@@ -2,7 +2,7 @@ use Rattle.std.proofs.Common.{◌*◌, ◌≤◌, length, take, drop, arith, ap,
 use Rattle.std.proofs.lemmas.List.{length-take}
 use Rattle.ivs_base.specs.Numbers.{word_of}
 use Rattle.sampling_port.specs.Views.{PortView}
-use Rattle.sampling_port.proofs.Hands.{four_bytes}
+use Rattle.sampling_port.proofs.MessageInHand.{four_bytes}
 use Rattle.sampling_port.proofs.port.Port.hand_word.Goals as goal
 
 pub returns : goal.returns

@@ -5,8 +5,8 @@ use Rattle.call_grammar.specs.Words.{word_bytes}
 use Rattle.sampling_port.specs.Views.{PortView, IsPlace}
 use Rattle.sampling_port.specs.declared.place.Place.{Place}
 use Rattle.sampling_port.specs.declared.place.Place.TheVariants.{AtWord}
-use Rattle.sampling_port.specs.Representation.{seen}
-use Rattle.sampling_port.proofs.Hands.{first_bytes}
+use Rattle.sampling_port.specs.Representation.{port_view_of}
+use Rattle.sampling_port.proofs.MessageInHand.{first_bytes}
 use Rattle.sampling_port.proofs.port.Port.took_word.Goals as goal
 
 pub returns-clause-value : goal.returns-clause-value
@@ -14,8 +14,8 @@ returns-clause-value c =
     let a = c.args in
     let t = c.self.inside in
     let at_word : t.place ≡ AtWord a.from a.sequence a.bytes a.at a.more = ap (λ (v : PortView). v.place) c.self.view_is ∙ c.requires in
-    let P : Place → Type 0 = λ p. IsPlace (seen t) p in
-    let there : IsPlace (seen t) (AtWord a.from a.sequence a.bytes a.at a.more) = subst P at_word c.self.invariant.port.place in
+    let P : Place → Type 0 = λ p. IsPlace (port_view_of t) p in
+    let there : IsPlace (port_view_of t) (AtWord a.from a.sequence a.bytes a.at a.more) = subst P at_word c.self.invariant.port.place in
     let sized = length-take t.filled t.hand.items in
     let filled : t.filled ≡ 4 * a.at = omega (arith, there.2, sized, c.self.invariant.filled, c.self.invariant.hand) in
     let old_is : take (4 * a.at) c.deref_mut.result.now ≡ take t.filled t.hand.items = cc in

@@ -4,7 +4,7 @@ use Rattle.std.proofs.lemmas.List.{map-append}
 use Rattle.std.proofs.lemmas.Option.{slice_get-get_or}
 use Rattle.sampling_port.specs.Schedule.{CallQueued}
 use Rattle.sampling_port.specs.Simulator.{call_of}
-use Rattle.sampling_port.proofs.Runs.{happened}
+use Rattle.sampling_port.proofs.OneMoreEvent.{happened}
 use Rattle.sampling_port.proofs.simulator.Simulator.ask.Goals as goal
 
 pub returns : goal.returns

@@ -1,5 +1,5 @@
 use Rattle.std.proofs.Common.{refl, arith}
-use Rattle.sampling_port.proofs.Runs.{room_of, poke_happens}
+use Rattle.sampling_port.proofs.OneMoreEvent.{room_of, poke_happens}
 use Rattle.sampling_port.proofs.simulator.Simulator.poke.Goals as goal
 
 pub poke-requires-clause-room : goal.poke-requires-clause-room

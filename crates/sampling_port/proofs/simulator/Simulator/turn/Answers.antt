@@ -2,7 +2,7 @@ use Rattle.std.proofs.Common.{refl, sym, ◌∙◌, ap, arith}
 use Rattle.std.specs.Prelude.{Some}
 use Rattle.std.proofs.lemmas.Option.{slice_get-get_or}
 use Rattle.sampling_port.specs.Schedule.{TurnTaken}
-use Rattle.sampling_port.proofs.Runs.{ready_at, room_of, seat_happens}
+use Rattle.sampling_port.proofs.OneMoreEvent.{ready_at, room_of, peer_state_happens}
 use Rattle.sampling_port.proofs.simulator.Simulator.turn.Goals as goal
 
 pub turn-requires-clause-ready : goal.turn-requires-clause-ready
@@ -25,4 +25,4 @@ returns c =
     let below = c.requires.4 in
     let count = runs.count in
     let here = slice_get-get_or c.args.self.now.peer_states.items c.args.peer _ (omega arith) ∙ ap Some (sym c.index_mut.ensures.value) in
-    seat_happens c.turn.result (TurnTaken c.args.peer) c.args.self.now _ _ c.turn.new.peer_state here refl c.turn.ensures.shape c.turn.ensures.after
+    peer_state_happens c.turn.result (TurnTaken c.args.peer) c.args.self.now _ _ c.turn.new.peer_state here refl c.turn.ensures.shape c.turn.ensures.after

@@ -1,7 +1,7 @@
 use Rattle.std.proofs.Common.{◌≡◌, arith, replicate}
 use Rattle.std.proofs.lemmas.List.{append-nil, length-append, length-replicate}
 use Rattle.sampling_port.specs.Schedule.{TurnTaken}
-use Rattle.sampling_port.proofs.Runs.{turn_more}
+use Rattle.sampling_port.proofs.OneMoreEvent.{turn_more}
 use Rattle.sampling_port.proofs.simulator.Simulator.turns.Goals as goal
 
 pub loop-k-init : goal.loop-k-init

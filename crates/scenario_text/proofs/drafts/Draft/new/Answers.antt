@@ -1,5 +1,5 @@
 use Rattle.std.proofs.Common.{sym, ◌∙◌}
-use Rattle.scenario_text.proofs.ActLaws.{no_flags, no_autos, no_storms, no_calls}
+use Rattle.scenario_text.proofs.OneMoreAct.{no_flags, no_autos, no_storms, no_calls}
 use Rattle.scenario_text.proofs.drafts.Draft.new.Goals as goal
 
 pub invariant_of-result-clause-autos_of : goal.invariant_of-result-clause-autos_of

@@ -1,4 +1,4 @@
-use Rattle.scenario_text.proofs.ActLaws.{turns_added, auto_added, storm_added, call_added}
+use Rattle.scenario_text.proofs.OneMoreAct.{turns_added, auto_added, storm_added, call_added}
 use Rattle.scenario_text.proofs.drafts.Draft.push_act.Goals as goal
 
 pub invariant_of-self-2-clause-autos_of : goal.invariant_of-self-2-clause-autos_of

@@ -1,4 +1,4 @@
-use Rattle.scenario_text.proofs.EndLaws.{turn_ended, reset_ended, other_ended}
+use Rattle.scenario_text.proofs.LastActs.{turn_ended, reset_ended, other_ended}
 use Rattle.scenario_text.proofs.ends.Ends.add.Goals as goal
 
 pub returns : goal.returns

@@ -1,4 +1,4 @@
-use Rattle.scenario_text.proofs.EndLaws.{turns_behind, resets_behind, others_behind}
+use Rattle.scenario_text.proofs.LastActs.{turns_behind, resets_behind, others_behind}
 use Rattle.scenario_text.proofs.ends.Ends.nothing.Goals as goal
 
 pub returns : goal.returns

@@ -1,6 +1,6 @@
 use Rattle.std.proofs.Common.{ap, not}
-use Rattle.scenario_text.proofs.ActLaws.{auto_added, storm_added}
-use Rattle.scenario_text.proofs.RunningLaws.{turn_added, reset_added, setting_added}
+use Rattle.scenario_text.proofs.OneMoreAct.{auto_added, storm_added}
+use Rattle.scenario_text.proofs.RunningForm.{turn_added, reset_added, setting_added}
 use Rattle.scenario_text.proofs.running.Before.add.Goals as goal
 
 pub returns : goal.returns

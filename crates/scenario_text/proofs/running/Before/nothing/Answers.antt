@@ -1,7 +1,7 @@
 use Rattle.std.proofs.Common.{sym, ◌∙◌}
-use Rattle.scenario_text.proofs.ActLaws.{no_flags, no_autos, no_storms}
-use Rattle.scenario_text.proofs.EndLaws.{no_turns}
-use Rattle.scenario_text.proofs.RunningLaws.{none_last, no_settings}
+use Rattle.scenario_text.proofs.OneMoreAct.{no_flags, no_autos, no_storms}
+use Rattle.scenario_text.proofs.LastActs.{no_turns}
+use Rattle.scenario_text.proofs.RunningForm.{none_last, no_settings}
 use Rattle.scenario_text.proofs.running.Before.nothing.Goals as goal
 
 pub returns : goal.returns

@@ -3,7 +3,7 @@ use Rattle.lawful_history.specs.Peers.{with_call}
 use Rattle.simulator.specs.PeerStates.{call_of, LinkRefines}
 use Rattle.simulator.specs.declared.link.Waiting.{Waiting}
 use Rattle.simulator.specs.declared.link.Link.{Link}
-use Rattle.simulator.proofs.Turning.{frame_added}
+use Rattle.simulator.proofs.HonestTurns.{frame_added}
 use Rattle.simulator.proofs.link.Link.ask.Goals as goal
 
 pub returns-in_ok-add-in-Some-Offer : goal.returns-in_ok-add-in-Some-Offer

@@ -3,7 +3,7 @@ use Rattle.std.specs.Prelude.{slice_index}
 use Rattle.std.proofs.lemmas.Result.{on_ok_weaker}
 use Rattle.simulator.specs.Log.{Counts, is_entering}
 use Rattle.simulator.specs.declared.log.Log.{Log}
-use Rattle.simulator.proofs.Logging.{pushed}
+use Rattle.simulator.proofs.LogLines.{pushed}
 use Rattle.simulator.proofs.log.Log.push.Goals as goal
 
 pub returns : goal.returns

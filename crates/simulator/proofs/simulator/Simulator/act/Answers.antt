@@ -5,7 +5,7 @@ use Rattle.split_ring.specs.declared.steps.Access.TheVariants as access
 use Rattle.call_grammar.specs.Calls as calls
 use Rattle.lawful_history.specs.Schedule.{CallQueued, AutoStarted, RegionAccessed, DeviceReset, DeviceAccessed, InterruptDropped, InterruptRepeated, ReadsConfig, WritesConfig, ReadsRegister, ReadsMsix, WritesMsix, register_event, events_of}
 use Rattle.simulator.specs.Simulator.{RunsTo, IsAct}
-use Rattle.simulator.proofs.Runs.{call_linked, hostile_unlinked, act_fits, played_on, played, played_turns}
+use Rattle.simulator.proofs.OneMoreEvent.{call_linked, hostile_unlinked, act_fits, played_on, played, played_turns}
 use Rattle.simulator.proofs.simulator.Simulator.act.Goals as goal
 
 pub ask-requires : goal.ask-requires

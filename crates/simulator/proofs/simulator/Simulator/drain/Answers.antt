@@ -1,5 +1,5 @@
 use Rattle.std.proofs.Common.{refl}
-use Rattle.simulator.proofs.Runs.{drained_on}
+use Rattle.simulator.proofs.OneMoreEvent.{drained_on}
 use Rattle.simulator.proofs.simulator.Simulator.drain.Goals as goal
 
 pub returns-clause-on : goal.returns-clause-on

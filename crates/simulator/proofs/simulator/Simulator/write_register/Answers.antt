@@ -3,7 +3,7 @@ use Rattle.std.specs.Prelude.{OnOk}
 use Rattle.split_ring.specs.declared.steps.Access.TheVariants.{Ring}
 use Rattle.lawful_history.specs.Schedule.{Event, RegionAccessed}
 use Rattle.simulator.specs.Simulator.{Happens}
-use Rattle.simulator.proofs.Runs.{is_reached, is_set, is_rung}
+use Rattle.simulator.proofs.OneMoreEvent.{is_reached, is_set, is_rung}
 use Rattle.simulator.proofs.simulator.Simulator.write_register.Goals as goal
 
 pub returns-else-offset-eq-REGISTER_DOORBELL : goal.returns-else-offset-eq-REGISTER_DOORBELL

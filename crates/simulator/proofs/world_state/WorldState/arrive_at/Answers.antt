@@ -1,7 +1,7 @@
 use Rattle.std.proofs.Common.{refl, arith}
 use Rattle.std.proofs.lemmas.List.{get_or_past}
 use Rattle.std.proofs.lemmas.Result.{on_ok_weaker}
-use Rattle.simulator.proofs.Arriving.{comes, is_lost}
+use Rattle.simulator.proofs.InterruptLines.{comes, is_lost}
 use Rattle.simulator.proofs.world_state.WorldState.arrive_at.Goals.{else-peer-lt8-via-then-peer-lt8+else-self-peer-gt0, else-peer-lt8-via-else-peer-lt8}
 use Rattle.simulator.proofs.world_state.WorldState.arrive_at.Goals as goal
 

@@ -1,5 +1,5 @@
 use Rattle.std.proofs.Common.{refl}
-use Rattle.simulator.proofs.Arriving.{read_after}
+use Rattle.simulator.proofs.InterruptLines.{read_after}
 use Rattle.simulator.proofs.world_state.WorldState.read.Goals as goal
 
 pub returns-clause-after : goal.returns-clause-after

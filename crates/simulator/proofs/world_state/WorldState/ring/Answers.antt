@@ -7,7 +7,7 @@ use Rattle.lawful_history.specs.declared.line.Line.{Line}
 use Rattle.lawful_history.specs.declared.line.Line.TheVariants.{Doorbell}
 use Rattle.lawful_history.specs.Device.{devices_of, device_events, device_event_of}
 use Rattle.simulator.specs.WorldState.{WorldStateAfter, BringsBy, with_state}
-use Rattle.simulator.proofs.Arriving.{told_after, come_after}
+use Rattle.simulator.proofs.InterruptLines.{recorded_after, come_after}
 use Rattle.simulator.proofs.world_state.WorldState.ring.Goals as goal
 
 pub returns-clause-after : goal.returns-clause-after
@@ -19,11 +19,11 @@ returns-clause-after c = λ world output past losses after.
     let refines = subst (λ word. Refines (devices_of world) (RegisterWritten c.args.me doorbell_register word ∷ events) c.register_write-effect.new.self)
     c.doorbell_word-word.ensures (c.register_write-effect.ensures.refines (devices_of world) events after.devices) in
     let region = c.record_line.ensures.region ∙ ap (λ e. with_state c.args.self.now.region c.args.me e.state) effect in
-    let told = told_after world output past losses c.args.self.now c.record_line.new.self line _ after refl (λ p. refl) refl
+    let recorded = recorded_after world output past losses c.args.self.now c.record_line.new.self line _ after refl (λ p. refl) refl
     (rw region after.words)
     (ap (λ r. r.shape) region) (rw c.record_line.ensures.device refines)
     c.record_line.ensures.unspent c.in_ok-deliveries.ensures.log in
     let brings : BringsBy world past (device_event_of line) c.as_slice.result.now =
     c.as_slice.ensures.value ∙ ap (λ ds. ds.items) c.in_ok-deliveries.ensures.deliveries ∙ ap (λ e. e.deliveries.items) effect in
     come_after (λ (ls : List Line). OnOk c.arrive.result (WorldStateAfter world output ls losses c.arrive.new.self)) world past losses line (device_event_of line) c.as_slice.result.now brings
-    (c.arrive.ensures.after world output (line ∷ past) losses told)
+    (c.arrive.ensures.after world output (line ∷ past) losses recorded)

@@ -1,12 +1,12 @@
 use Rattle.std.proofs.Common.{refl}
 use Rattle.lawful_history.specs.Device.{devices_of, device_events}
 use Rattle.lawful_history.specs.declared.line.Line.TheVariants.{ConfigWrite}
-use Rattle.simulator.proofs.Arriving.{told_after}
+use Rattle.simulator.proofs.InterruptLines.{recorded_after}
 use Rattle.std.proofs.lemmas.Result.{on_ok_weaker}
 use Rattle.simulator.proofs.world_state.WorldState.write_config.Goals as goal
 
 pub returns-clause-after : goal.returns-clause-after
 returns-clause-after c = λ world output past losses after.
-    on_ok_weaker c.push.result (λ put. told_after world output past losses c.args.self.now _ (ConfigWrite c.args.me c.args.offset c.args.width c.args.value) _ after refl (λ p. refl) refl after.words refl
+    on_ok_weaker c.push.result (λ put. recorded_after world output past losses c.args.self.now _ (ConfigWrite c.args.me c.args.offset c.args.width c.args.value) _ after refl (λ p. refl) refl after.words refl
     (c.in-Ok.ensures.written (devices_of world) (device_events past) after.devices) refl put)
     c.push.ensures

@@ -1,5 +1,5 @@
 use Rattle.std.proofs.Common.{refl}
-use Rattle.step_lines.proofs.Draws.{draws}
+use Rattle.step_lines.proofs.DrawnAccess.{draws}
 use Rattle.step_lines.proofs.storm.Storm.step.Goals as goal
 
 pub returns-clause-step : goal.returns-clause-step

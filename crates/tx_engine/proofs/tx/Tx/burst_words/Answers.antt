@@ -8,7 +8,7 @@ use Rattle.tx_engine.specs.Ahead.{bursts_at, bursts_of, words_of, listed, Writes
 use Rattle.tx_engine.specs.Representation.{sender_of}
 use Rattle.tx_engine.specs.Refinement.{RefinesAt}
 use Rattle.tx_engine.proofs.Fields.{place_holds, length_is}
-use Rattle.tx_engine.proofs.Stretching.{descriptor_bytes}
+use Rattle.tx_engine.proofs.FrameBursts.{descriptor_bytes}
 use Rattle.tx_engine.proofs.Padding.{padded_word}
 use Rattle.tx_engine.proofs.Together.{writes_all}
 use Rattle.tx_engine.proofs.tx.Tx.burst_words.Goals as goal

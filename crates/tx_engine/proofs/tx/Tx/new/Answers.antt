@@ -3,7 +3,7 @@ use Rattle.split_ring.specs.Layout.{size_of, limit_of}
 use Rattle.tx_engine.specs.Sender.{Sender, IsSender}
 use Rattle.tx_engine.specs.Refinement.{RefinesAt, IsMadeFor, IsFreshSession}
 use Rattle.call_grammar.specs.Places as laws
-use Rattle.tx_engine.proofs.Keeping.{begun_is, fresh_is, fresh_stands}
+use Rattle.tx_engine.proofs.InvariantAfterRead.{begun_is, fresh_is, fresh_stands}
 use Rattle.tx_engine.proofs.tx.Tx.new.Goals as goal
 
 pub invariant_of-result : goal.invariant_of-result

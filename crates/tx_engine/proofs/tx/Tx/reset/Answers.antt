@@ -4,7 +4,7 @@ use Rattle.frame_slots.specs.Allocator.{initial_allocator}
 use Rattle.tx_engine.specs.Sender.{Sender, IsSender}
 use Rattle.tx_engine.specs.Refinement.{RefinesAt, IsMadeFor}
 use Rattle.call_grammar.specs.Places as laws
-use Rattle.tx_engine.proofs.Keeping.{begun_is, fresh_is, fresh_stands}
+use Rattle.tx_engine.proofs.InvariantAfterRead.{begun_is, fresh_is, fresh_stands}
 use Rattle.tx_engine.proofs.tx.Tx.reset.Goals as goal
 
 pub invariant_of-self : goal.invariant_of-self

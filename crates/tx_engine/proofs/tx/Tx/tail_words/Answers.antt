@@ -6,7 +6,7 @@ use Rattle.tx_engine.specs.Ahead.{bursts_at, bursts_of, listed, last_words, Writ
 use Rattle.tx_engine.specs.Representation.{sender_of}
 use Rattle.tx_engine.specs.Refinement.{RefinesAt}
 use Rattle.tx_engine.proofs.Fields.{place_holds, length_is}
-use Rattle.tx_engine.proofs.Stretching.{descriptor_bytes}
+use Rattle.tx_engine.proofs.FrameBursts.{descriptor_bytes}
 use Rattle.tx_engine.proofs.Padding.{last_sized, last_word}
 use Rattle.tx_engine.proofs.Together.{writes_all}
 use Rattle.tx_engine.proofs.tx.Tx.tail_words.Goals as goal

@@ -7,7 +7,7 @@ use Rattle.tx_engine.specs.Sender.{Sender, allocator_of}
 use Rattle.tx_engine.specs.Representation.{sender_of}
 use Rattle.tx_engine.specs.Continuations.{GoesOn, full_notes}
 use Rattle.tx_engine.proofs.Flights.{oldest_is_kept}
-use Rattle.tx_engine.proofs.Keeping.{oldest_read, seen_written, id_kept}
+use Rattle.tx_engine.proofs.InvariantAfterRead.{oldest_read, seen_written, id_kept}
 use Rattle.tx_engine.specs.Refinement.{TakesStep}
 use Rattle.tx_engine.proofs.Fields.{place_holds, turn_is, id_step, id_refusal}
 use Rattle.tx_engine.proofs.tx.Tx.took_id.Goals as goal

@@ -6,7 +6,7 @@ use Rattle.split_ring.specs.declared.steps.Note.TheVariants.{Reclaim}
 use Rattle.tx_engine.specs.Sender.{Sender}
 use Rattle.tx_engine.specs.Continuations.{GoesOn, full_notes}
 use Rattle.tx_engine.specs.Refinement.{TakesStep}
-use Rattle.tx_engine.proofs.Keeping.{seen_written, index_kept}
+use Rattle.tx_engine.proofs.InvariantAfterRead.{seen_written, index_kept}
 use Rattle.tx_engine.proofs.Fields.{index_step}
 use Rattle.tx_engine.proofs.tx.Tx.took_index.Goals as goal
 

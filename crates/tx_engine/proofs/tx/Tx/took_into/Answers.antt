@@ -1,8 +1,8 @@
 use Rattle.std.proofs.Common.{◌≡◌, refl, ap, sym, ◌∙◌, subst}
 use Rattle.tx_engine.specs.Sender.{Sender, IsSender}
 use Rattle.tx_engine.specs.declared.place.Place.TheVariants.{WritingDescAddressLow, WritingDescAddressHigh, WritingDescLength, WritingDescFlags}
-use Rattle.tx_engine.proofs.WritingFrameWord.{word_written, quiet}
-use Rattle.tx_engine.proofs.Writing.{writes_low, writes_high, writes_length, writes_flags}
+use Rattle.tx_engine.proofs.AfterFrameWord.{word_written, quiet}
+use Rattle.tx_engine.proofs.AfterWrites.{writes_low, writes_high, writes_length, writes_flags}
 use Rattle.tx_engine.proofs.tx.Tx.took_into.Goals as goal
 
 pub returns-in-WritingFrameWord : goal.returns-in-WritingFrameWord

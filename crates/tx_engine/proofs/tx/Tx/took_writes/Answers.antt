@@ -7,7 +7,7 @@ use Rattle.tx_engine.specs.Sender.{Sender, writes_ahead}
 use Rattle.tx_engine.specs.Continuations.{descriptor_place_of}
 use Rattle.tx_engine.specs.Representation.{sender_of}
 use Rattle.tx_engine.specs.Refinement.{StaysOpen}
-use Rattle.tx_engine.proofs.Stretching.{fills, fill_at, describes}
+use Rattle.tx_engine.proofs.FrameBursts.{fills, fill_at, describes}
 use Rattle.tx_engine.proofs.Fields.{place_holds}
 use Rattle.tx_engine.proofs.tx.Tx.took_writes.Goals as goal
 

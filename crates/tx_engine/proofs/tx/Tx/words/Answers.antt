@@ -5,7 +5,7 @@ use Rattle.call_grammar.specs.Bursts.{WritesBurst}
 use Rattle.tx_engine.specs.Sender.{Sender, writes_ahead}
 use Rattle.tx_engine.specs.declared.place.Place.TheVariants.{WritingFrameWord, WritingDescAddressLow}
 use Rattle.tx_engine.proofs.Fields.{place_holds, length_is}
-use Rattle.tx_engine.proofs.Stretching.{writes_on, describes_on, descriptor_bytes}
+use Rattle.tx_engine.proofs.FrameBursts.{writes_on, describes_on, descriptor_bytes}
 use Rattle.tx_engine.proofs.Padding.{padded_word}
 use Rattle.tx_engine.proofs.tx.Tx.words.Goals as goal
 

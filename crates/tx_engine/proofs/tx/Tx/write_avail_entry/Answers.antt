@@ -1,6 +1,6 @@
 use Rattle.std.proofs.Common.{ap, ◌∙◌}
 use Rattle.tx_engine.specs.Sender.{Sender}
-use Rattle.tx_engine.proofs.Entering.{entry_left}
+use Rattle.tx_engine.proofs.AfterEntry.{entry_left}
 use Rattle.tx_engine.proofs.tx.Tx.write_avail_entry.Goals as goal
 
 pub returns : goal.returns

@@ -5,7 +5,7 @@ use Rattle.tx_engine.specs.declared.place.Place.{Place}
 use Rattle.tx_engine.specs.Sender.{Sender}
 use Rattle.tx_engine.specs.Representation.{sender_of}
 use Rattle.tx_engine.specs.Refinement.{TakesStep}
-use Rattle.tx_engine.proofs.Writing.{index_written}
+use Rattle.tx_engine.proofs.AfterWrites.{index_written}
 use Rattle.tx_engine.proofs.tx.Tx.wrote_index.Goals as goal
 
 pub returns : goal.returns

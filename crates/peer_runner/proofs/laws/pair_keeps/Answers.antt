@@ -1,7 +1,0 @@
-use Rattle.shared_words.specs.Rules.{accesses_by}
-use Rattle.peer_runner.proofs.PairLaws.{pair_lem}
-use Rattle.shared_words.proofs.Happening.{made_in}
-use Rattle.peer_runner.proofs.laws.pair_keeps.Goals as goal
-
-pub returns : goal.returns
-returns c = λ key s kept p a b p2. pair_lem key kept.fit a b _ _ (accesses_by kept.acc) (made_in key s kept) p p2

@@ -1,0 +1,67 @@
+-- Rows of acts: each act form's row is an act's, and an act is allowed exactly if its row can
+-- follow.
+use Rattle.std.proofs.Common.{◌≡◌, ℕ, ◌+◌, ◌≤◌, true, false, List, [], get_or, Some, refl, sym, ap}
+use Rattle.line_format.specs.Forms.{Fit, FitBytes}
+use Rattle.line_format.specs.Rows.{row, fields_of_row}
+use Rattle.line_format.proofs.NumbersFit.{counted, list_1, list_2, list_3, same_row}
+use Rattle.line_format.proofs.PartLaws.{no_rule}
+use Rattle.port_text.specs.declared.acts.Act.{Act}
+use Rattle.port_text.specs.declared.acts.Act.TheVariants as acts
+use Rattle.port_text.specs.declared.forms.Form.{Form}
+use Rattle.port_text.specs.declared.forms.Form.TheVariants.{Publish, Sample, Turn, Poke}
+use Rattle.port_text.specs.declared.positions.Position.TheVariants.{AtActs}
+use Rattle.port_text.specs.declared.limits.TheConstants.{MOST_TURNS}
+use Rattle.port_text.specs.Acts.{cost, turns_of}
+use Rattle.port_text.specs.Table.{pieces_of}
+use Rattle.port_text.specs.ActRows.{row_of_act}
+use Rattle.port_text.specs.Scenario.{IsAllowed}
+use Rattle.port_text.specs.Judge.{DraftView, world_of_draft, is_out_of_order, act_of, is_act, fits_sizes}
+use Rattle.port_text.proofs.RowTests.{CanFollow}
+
+-- ---- the act of a row
+
+pub record ActRow (form : Form) (ns bytes : List ℕ) : Type 0 where
+  pub act : Act
+  pub is_act_of : act_of form ns bytes ≡ Some act
+  pub row_is : row_of_act act ≡ row form ns bytes
+
+pub act_row : (form : Form) (ns bytes : List ℕ) → is_act form ≡ true → Fit (pieces_of form) ns → FitBytes (pieces_of form) bytes → ActRow form ns bytes
+act_row Publish ns bytes is fit none = record { act = acts.Publish (get_or ns 0 0) bytes; is_act_of = refl; row_is = ap (λ (ms : List ℕ). row Publish ms bytes) (list_1 ns (counted (pieces_of Publish) ns fit)) }
+act_row Sample ns bytes is fit none = record { act = acts.Sample (get_or ns 0 0) (get_or ns 1 0); is_act_of = refl; row_is = same_row Sample _ ns bytes (list_2 ns (counted (pieces_of Sample) ns fit)) (sym none) }
+act_row Turn ns bytes is fit none = record { act = acts.Turn (get_or ns 0 0) (get_or ns 1 0); is_act_of = refl; row_is = same_row Turn _ ns bytes (list_2 ns (counted (pieces_of Turn) ns fit)) (sym none) }
+act_row Poke ns bytes is fit none = record { act = acts.Poke (get_or ns 0 0) (get_or ns 1 0) (get_or ns 2 0); is_act_of = refl; row_is = same_row Poke _ ns bytes (list_3 ns (counted (pieces_of Poke) ns fit)) (sym none) }
+act_row _ ns bytes is fit none = absurd cc
+
+pub act_of-row : (a : Act) → act_of (row_of_act a).form (row_of_act a).numbers (row_of_act a).frame ≡ Some a
+act_of-row (acts.Publish p message) = refl
+act_of-row (acts.Sample p from) = refl
+act_of-row (acts.Turn p k) = refl
+act_of-row (acts.Poke p word value) = refl
+
+sizes_fit : (d : DraftView) (a : Act) → fits_sizes d (row_of_act a).form (row_of_act a).numbers ≡ true
+sizes_fit d (acts.Publish p message) = refl
+sizes_fit d (acts.Sample p from) = refl
+sizes_fit d (acts.Turn p k) = refl
+sizes_fit d (acts.Poke p word value) = refl
+
+-- At the acts each act is in order.
+order_is : (d : DraftView) (a : Act) → d.position ≡ AtActs → is_out_of_order d (row_of_act a).form (fields_of_row pieces_of (row_of_act a)) ≡ false
+order_is d (acts.Publish p message) at = rw at (no_rule _)
+order_is d (acts.Sample p from) at = rw at (no_rule _)
+order_is d (acts.Turn p k) at = rw at (no_rule _)
+order_is d (acts.Poke p word value) at = rw at (no_rule _)
+
+pub allowed_act : (d : DraftView) (a : Act) → CanFollow d (row_of_act a) → IsAllowed (world_of_draft d) a
+allowed_act d a can = record { values = can.values; bytes = can.bytes; range = can.range; peer = can.peer; message = can.message }
+
+pub follows_act : (d : DraftView) (a : Act) → d.position ≡ AtActs → IsAllowed (world_of_draft d) a → turns_of d.acts + cost a ≤ MOST_TURNS → CanFollow d (row_of_act a)
+follows_act d a at is few = record {
+  values = is.values;
+  bytes = is.bytes;
+  order = order_is d a at;
+  range = is.range;
+  peer = is.peer;
+  message = is.message;
+  sizes = sizes_fit d a;
+  turns = rw (act_of-row a) few;
+}

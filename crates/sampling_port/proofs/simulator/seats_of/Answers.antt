@@ -1,8 +1,0 @@
-use Rattle.std.proofs.Common.{refl}
-use Rattle.port_text.specs.Spelling.{world_of}
-use Rattle.sampling_port.proofs.Runs.{one_seat}
-use Rattle.sampling_port.proofs.simulator.seats_of.Goals as goal
-
-pub loop-peer-preserved : goal.loop-peer-preserved
-loop-peer-preserved c =
-    rw c.in_ok-push.ensures.items (one_seat (world_of c.args.scenario.now) c.loop-peer.peer c.loop-peer.peer_states.items _ c.loop-peer.invariant (rw (c.in-Ok.ensures.value, c.new-waiting.ensures.items) refl))

@@ -6,7 +6,7 @@ use Rattle.program_edge.specs.declared.words.Command.{Command}
 use Rattle.program_edge.specs.declared.exit.Status.{Status}
 use Rattle.program_edge.specs.declared.exit.Status.TheVariants.{Done, Differs, Usage, Refused, ReadFault, WriteFault, NoMemory}
 use Rattle.program_edge.specs.Exit.{has_reply}
-use Rattle.ivshm_explain.specs.Explained.{IsReply, IsRead, Replies, HasCause}
+use Rattle.ivshm_explain.specs.Explained.{IsReply, IsRead, HasCause}
 
 -- the status of a reply is one with a text
 pub written : (form : Command) (bytes text : List ℕ) (status : Status) → IsReply form bytes status text → IsTrue (has_reply status)

@@ -1,5 +1,5 @@
 -- What the forms that read a record answer to it.
-use Rattle.std.specs.Prelude.{ℕ, ◌≡◌, List, Option, Some, Err}
+use Rattle.std.specs.Prelude.{ℕ, ◌≡◌, List, Some, Err}
 use Rattle.scenario_text.specs.Spelling.{world_of}
 use Rattle.lawful_history.specs.Lawful.{IsLawfulIn}
 use Rattle.record_text.specs.declared.faults.RecordFault.{RecordFault}

@@ -1,5 +1,5 @@
 -- What an explanation says for certain; the words after that are free.
-use Rattle.std.specs.Prelude.{ℕ, ◌≡◌, ◌+◌, ◌⊎◌, ⊤, List, [], ◌++◌, codes, Option, Some, None}
+use Rattle.std.specs.Prelude.{ℕ, ◌≡◌, ◌+◌, ◌⊎◌, List, [], ◌++◌, codes, Option, Some, None}
 use Rattle.ivs_base.specs.SourceAndSink.{Input, Output, Gave, GaveMany, HasEnded, Took, SourceFailed, SinkFailed}
 use Rattle.ivshm_explain.specs.declared.differences.Difference.{Difference}
 use Rattle.ivshm_explain.specs.DifferenceText.{IsDifferenceText}

@@ -156,9 +156,9 @@ impl End {
         true
     }
 
-    /// Makes the accesses of the open call, which offers this frame, or none. `told` gets each
+    /// Makes the accesses of the open call, which offers this frame, or none. `noted` gets each
     /// note, and the frame at a delivery.
-    fn finish(&mut self, region: &mut impl Region, offered: &[u8], told: &mut impl FnMut(&Note, &[u8])) {
+    fn finish(&mut self, region: &mut impl Region, offered: &[u8], noted: &mut impl FnMut(&Note, &[u8])) {
         let (mut access, mut notes) = (Access::default(), Notes::default());
         while unsafe { ivshm_end_next(&mut self.0, &mut access) } == 0 {
             if !offered.is_empty() && access.count > 1 && self.write_frame(region, offered) {
@@ -174,7 +174,7 @@ impl End {
             }
             unsafe { ivshm_end_took(&mut self.0, value, &mut notes) };
             for note in &notes.note[..notes.count as usize] {
-                told(note, &if note.kind == 6 { self.frame() } else { Vec::new() });
+                noted(note, &if note.kind == 6 { self.frame() } else { Vec::new() });
             }
         }
     }

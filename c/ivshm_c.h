@@ -202,8 +202,8 @@ typedef struct ivshm_limit_values {
     uint32_t largest_region;
 } ivshm_limit_values;
 
-/* Writes the highest version and the bounds to *told. */
-void ivshm_limits(ivshm_limit_values *told);
+/* Writes the highest version and the bounds to *limits. */
+void ivshm_limits(ivshm_limit_values *limits);
 
 /* ---- the device and the region ---- */
 

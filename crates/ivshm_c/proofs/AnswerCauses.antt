@@ -25,16 +25,16 @@ use Rattle.ivshm_c.specs.Sizes.{shape_found, sizes_found, layout_of, LaysOut, la
 use Rattle.ivshm_c.specs.Answers.{IsNew, MayMake, RefusesNew, MakesAnswered, GivesNext, GivesBursts, GivesTail, Where, room_answer, bursts_answer, took_tail_answer, tail_answer, made, has_end, refused}
 
 -- The words of the sizes that were found.
-pub words_told : (found : Found) (peers mtu : ℕ) (before after : Layout) (shape : Shape) (queue : Sizes) → shape ≡ shape_found found peers → IsShape shape
+pub words_are_those : (found : Found) (peers mtu : ℕ) (before after : Layout) (shape : Shape) (queue : Sizes) → shape ≡ shape_found found peers → IsShape shape
     → queue ≡ sizes_found found 1 mtu → IsQueue queue → after ≡ layout_of shape queue → LaysOut found peers mtu before Done after
-words_told found peers mtu before after shape queue s shaped q queued is =
+words_are_those found peers mtu before after shape queue s shaped q queued is =
     subst (LaysOut found peers mtu before Done) (sym (is ∙ ap (λ (x : Shape). layout_of x queue) s ∙ ap (layout_of (shape_found found peers)) q))
     (laid_out (subst IsShape s shaped) (subst IsQueue q queued))
 
 -- The access of an open call is written, with the burst that it begins.
-pub told_next : (port : EndState) (before after : Access) (next : steps.Access) (order : Ordering) → is_busy port.endpoint ≡ true → IsNext port.endpoint next → IsAhead port.endpoint order →
+pub next_is_reported : (port : EndState) (before after : Access) (next : steps.Access) (order : Ordering) → is_busy port.endpoint ≡ true → IsNext port.endpoint next → IsAhead port.endpoint order →
     after ≡ access_crossed next (reads_ahead port.endpoint) (writes_ahead port.endpoint) order → GivesNext port before after
-told_next port before after next order busy is_next ahead crossed =
+next_is_reported port before after next order busy is_next ahead crossed =
     subst (λ b. Where (if b then Done else NoCall)
     ((next : steps.Access) × (order : Ordering) × IsNext port.endpoint next × IsAhead port.endpoint order ×
     (after ≡ access_crossed next (reads_ahead port.endpoint) (writes_ahead port.endpoint) order))
@@ -42,11 +42,11 @@ told_next port before after next order busy is_next ahead crossed =
 
 -- The words of the bursts before the index are written if they fit, and the bytes after them in
 -- `room` stay.
-pub told_bursts : (port : EndState) (before after : crossed.Bursts) (room front : List ℕ) (bursts : Bursts) (bytes : ℕ) → is_busy port.endpoint ≡ true → bursts_of port.endpoint ≡ Some bursts →
+pub bursts_are_reported : (port : EndState) (before after : crossed.Bursts) (room front : List ℕ) (bursts : Bursts) (bytes : ℕ) → is_busy port.endpoint ≡ true → bursts_of port.endpoint ≡ Some bursts →
     bytes ≡ 4 * words_of (Some bursts) → nat_lt (length room) bytes ≡ false → length front ≡ bytes → after ≡ bursts_crossed bursts →
     ((config : EndConfig) (end : End) (place : places.Place) → RefinesAt port.endpoint config end place → IfSome (bursts_of port.endpoint) (λ s. WritesAll config place (listed s) front)) →
     GivesBursts port before after room (front ++ drop bytes room)
-told_bursts port before after room front bursts bytes busy some bytes_is fits sized crossed_is writes =
+bursts_are_reported port before after room front bursts bytes busy some bytes_is fits sized crossed_is writes =
     let n = 4 * words_of (Some bursts) in
     let filled = front ++ drop bytes room in
     let done : bursts_answer (length room) port ≡ Done =
@@ -56,18 +56,18 @@ told_bursts port before after room front bursts bytes busy some bytes_is fits si
     let front_is : take n filled ≡ front = ap (λ k. take k filled) size_is ∙ take-append_seam front (drop bytes room) in
     let rest_is : drop n filled ≡ drop n room = ap (λ k. drop k filled) size_is ∙ drop-append_seam front (drop bytes room) ∙ ap (λ k. drop k room) bytes_is in
     let written : AreBursts port.endpoint bursts filled =
-    λ config end place refines. subst (WritesAll config place (listed bursts)) (sym front_is) (subst (λ s. IfSome s (λ told. WritesAll config place (listed told) front)) some (writes config end place refines)) in
+    λ config end place refines. subst (WritesAll config place (listed bursts)) (sym front_is) (subst (λ s. IfSome s (λ reported. WritesAll config place (listed reported) front)) some (writes config end place refines)) in
     subst (λ status. Where status
-    ((told : Bursts) × (bursts_of port.endpoint ≡ Some told) × (after ≡ bursts_crossed told) × AreBursts port.endpoint told filled ×
-    (drop (4 * words_of (Some told)) filled ≡ drop (4 * words_of (Some told)) room))
+    ((reported : Bursts) × (bursts_of port.endpoint ≡ Some reported) × (after ≡ bursts_crossed reported) × AreBursts port.endpoint reported filled ×
+    (drop (4 * words_of (Some reported)) filled ≡ drop (4 * words_of (Some reported)) room))
     ((after ≡ before) × (filled ≡ room))) (sym done) (bursts, some, crossed_is, written, rest_is)
 
 -- The same for the words after the frame.
-pub told_tail : (port : EndState) (before after : crossed.Bursts) (room front : List ℕ) (bursts : Bursts) → is_busy port.endpoint ≡ true → bursts_of port.endpoint ≡ Some bursts →
+pub tail_is_reported : (port : EndState) (before after : crossed.Bursts) (room front : List ℕ) (bursts : Bursts) → is_busy port.endpoint ≡ true → bursts_of port.endpoint ≡ Some bursts →
     nat_lt (length room) 20 ≡ false → length front ≡ 20 → after ≡ bursts_crossed bursts →
     ((config : EndConfig) (end : End) (place : places.Place) → RefinesAt port.endpoint config end place → IfSome (bursts_of port.endpoint) (λ s. WritesAll config place (listed s) (last_words (offered port.endpoint) s.frame.count ++ front))) →
     GivesTail port before after room (front ++ drop 20 room)
-told_tail port before after room front bursts busy some fits sized crossed_is writes =
+tail_is_reported port before after room front bursts busy some fits sized crossed_is writes =
     let frame = offered port.endpoint in
     let filled = front ++ drop 20 room in
     let done : tail_answer (length room) port ≡ Done =
@@ -77,9 +77,9 @@ told_tail port before after room front bursts busy some fits sized crossed_is wr
     let rest_is : drop 20 filled ≡ drop 20 room = ap (λ k. drop k filled) (sym sized) ∙ drop-append_seam front (drop 20 room) in
     let written : AreBurstTail port.endpoint bursts filled =
     λ config end place refines. subst (λ b. WritesAll config place (listed bursts) (last_words frame bursts.frame.count ++ b)) (sym front_is)
-    (subst (λ s. IfSome s (λ told. WritesAll config place (listed told) (last_words frame told.frame.count ++ front))) some (writes config end place refines)) in
+    (subst (λ s. IfSome s (λ reported. WritesAll config place (listed reported) (last_words frame reported.frame.count ++ front))) some (writes config end place refines)) in
     subst (λ status. Where status
-    ((told : Bursts) × (bursts_of port.endpoint ≡ Some told) × (after ≡ bursts_crossed told) × AreBurstTail port.endpoint told filled ×
+    ((reported : Bursts) × (bursts_of port.endpoint ≡ Some reported) × (after ≡ bursts_crossed reported) × AreBurstTail port.endpoint reported filled ×
     (drop 20 filled ≡ drop 20 room))
     ((after ≡ before) × (filled ≡ room))) (sym done) (bursts, some, crossed_is, written, rest_is)
 

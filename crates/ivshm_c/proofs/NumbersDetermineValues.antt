@@ -109,8 +109,8 @@ note_is_back note.Done = refl
 note_is_back note.Down = refl
 note_is_back (note.Refuse refused) = ap (λ (f : FieldName). note.Refuse (record { field = f; value = refused.value })) (field_is_back refused.field)
 
-pub crossings_told : CrossingsHaveContracts
-crossings_told = record {
+pub crossings_hold : CrossingsHaveContracts
+crossings_hold = record {
   accesses = λ a b reads writes others more at by e. sym (access_is_back a reads writes at) ∙ ap access_back e ∙ access_is_back b others more by;
   orders = λ a b reads writes others more at by e. sym (ordering_is_back a reads writes at) ∙ ap ordering_back e ∙ ordering_is_back b others more by;
   notes = λ a b e. sym (note_is_back a) ∙ ap note_back e ∙ note_is_back b;

@@ -53,10 +53,10 @@ pub record IsNext (engine : Engine) (next : Access) : Type 0 where
   pub leaves : is_refusing engine ≡ true → next ≡ State 0
 
 -- The bursts that begin with the access, and the order that it needs.
-pub record IsAhead (engine : Engine) (told : Ordering) : Type 0 where
+pub record IsAhead (engine : Engine) (reported : Ordering) : Type 0 where
   pub reads : (config : EndConfig) (end : End) (place : places.Place) (word : ℕ) → RefinesAt engine config end place →
       places.access_at config place ≡ Read word → ReadsBurst config place word (reads_ahead engine)
-  pub order : (config : EndConfig) (end : End) (place : places.Place) → RefinesAt engine config end place → told ≡ order_at place
+  pub order : (config : EndConfig) (end : End) (place : places.Place) → RefinesAt engine config end place → reported ≡ order_at place
 
 -- These bytes are the values of the next writes, in order.
 abbrev pub AreWritten : Engine → List ℕ → Type 0

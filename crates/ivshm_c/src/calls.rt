@@ -125,9 +125,9 @@ pub(crate) fn took(port: &mut EndState, value: u32, notes: &mut Notes) -> Status
     if !port.endpoint.busy() {
         return Status::NoCall;
     }
-    let mut told = steps::Notes::new();
-    port.took(value, &mut told);
-    *notes = notes_crossed(told.as_slice());
+    let mut reported = steps::Notes::new();
+    port.took(value, &mut reported);
+    *notes = notes_crossed(reported.as_slice());
     Status::Done
 }
 
@@ -169,9 +169,9 @@ pub(crate) fn took_reads(port: &mut EndState, words: &[u8], notes: &mut Notes) -
     }
     let status = measured(port.endpoint.reads_ahead(), words.len());
     if let Status::Done = status {
-        let mut told = steps::Notes::new();
-        port.took_reads(words, &mut told);
-        *notes = notes_crossed(told.as_slice());
+        let mut reported = steps::Notes::new();
+        port.took_reads(words, &mut reported);
+        *notes = notes_crossed(reported.as_slice());
     }
     status
 }
@@ -207,11 +207,11 @@ pub(crate) fn took_writes(port: &mut EndState, count: u32) -> Status
     status
 }
 
-/// Writes the bursts of an offer before its index into `told`, and their words into the front of
-/// `room`.
-pub(crate) fn bursts(port: &EndState, told: &mut Bursts, room: &mut [u8]) -> Status
+/// Writes the bursts of an offer before its index into `reported`, and their words into the front
+/// of `room`.
+pub(crate) fn bursts(port: &EndState, reported: &mut Bursts, room: &mut [u8]) -> Status
     ensures answer { result ≡ bursts_answer (length room.old) port.now }
-    ensures words { GivesBursts port.now told.old told.new room.old room.new }
+    ensures words { GivesBursts port.now reported.old reported.new room.old room.new }
 {
     if !port.endpoint.busy() {
         return Status::NoCall;
@@ -224,7 +224,7 @@ pub(crate) fn bursts(port: &EndState, told: &mut Bursts, room: &mut [u8]) -> Sta
         return Status::ShortRoom;
     }
     port.endpoint.burst_words(&mut room[..bytes]);
-    *told = bursts_crossed(bursts);
+    *reported = bursts_crossed(bursts);
     Status::Done
 }
 
@@ -236,10 +236,11 @@ fn bytes_of(bursts: &link_endpoint::Bursts) -> usize
     4 * (frame + bursts.descriptor.count as usize + bursts.entry.count as usize)
 }
 
-/// Writes the same bursts into `told`, and only the words after the frame into the front of `room`.
-pub(crate) fn tail(port: &EndState, told: &mut Bursts, room: &mut [u8]) -> Status
+/// Writes the same bursts into `reported`, and only the words after the frame into the front of
+/// `room`.
+pub(crate) fn tail(port: &EndState, reported: &mut Bursts, room: &mut [u8]) -> Status
     ensures answer { result ≡ tail_answer (length room.old) port.now }
-    ensures words { GivesTail port.now told.old told.new room.old room.new }
+    ensures words { GivesTail port.now reported.old reported.new room.old room.new }
 {
     if !port.endpoint.busy() {
         return Status::NoCall;
@@ -251,7 +252,7 @@ pub(crate) fn tail(port: &EndState, told: &mut Bursts, room: &mut [u8]) -> Statu
         return Status::ShortRoom;
     }
     port.endpoint.tail_words(&mut room[..20]);
-    *told = bursts_crossed(bursts);
+    *reported = bursts_crossed(bursts);
     Status::Done
 }
 

@@ -290,7 +290,7 @@ pub(crate) fn view_of(port: &EndState) -> View
 /// determine its order.
 // claim: The numbers of an access, and those of a note, distinguish it from every other; those of
 //    an access include its order.
-#[tactic(auto, using(crate::proofs::NumbersDetermineValues::crossings_told))]
+#[tactic(auto, using(crate::proofs::NumbersDetermineValues::crossings_hold))]
 pub fn crossings_have_contracts()
     ensures { CrossingsHaveContracts }
 {}

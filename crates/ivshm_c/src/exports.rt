@@ -231,9 +231,9 @@ pub extern "C" fn ivshm_end_took_writes(alloc: Global, end: &mut End, count: u32
     status.number()
 }
 
-/// Writes the three bursts of an offer before its index, from the next word on, into `told`. They
-/// are the words of the frame, of the descriptor and of the available entry. Writes their words
-/// into the front of `room`, in this order, four bytes each, the lowest byte first.
+/// Writes the three bursts of an offer before its index, from the next word on, into `reported`.
+/// They are the words of the frame, of the descriptor and of the available entry. Writes their
+/// words into the front of `room`, in this order, four bytes each, the lowest byte first.
 // claim answer, words with ivshm_end_took_bursts.answer, ivshm_end_took_bursts.step: The bursts are
 //    all that an offer writes before its index, exactly if a word of its frame is next and the room
 //    has enough bytes; the rest of the room stays. Completing them equals as many single steps.
@@ -242,23 +242,23 @@ pub extern "C" fn ivshm_end_took_writes(alloc: Global, end: &mut End, count: u32
 pub extern "C" fn ivshm_end_bursts(
     alloc: Global,
     end: &mut End,
-    told: &mut Bursts,
+    reported: &mut Bursts,
     room: &mut [u8],
 ) -> u32
     ensures answer { result ≡ number_of (answer_at end.old.port (bursts_answer (length room.old))) }
-    ensures words { IfSome end.old.port (λ port. GivesBursts port told.old told.new room.old room.new) }
-    ensures untouched { end.old.port ≡ None → (told.new ≡ told.old) × (room.new ≡ room.old) }
+    ensures words { IfSome end.old.port (λ port. GivesBursts port reported.old reported.new room.old room.new) }
+    ensures untouched { end.old.port ≡ None → (reported.new ≡ reported.old) × (room.new ≡ room.old) }
     ensures kept { end.new.port ≡ end.old.port }
 {
     let Some(port) = end.take(alloc) else {
         return Status::NoEnd.number();
     };
-    let status = bursts(&port, told, room);
+    let status = bursts(&port, reported, room);
     end.put(port);
     status.number()
 }
 
-/// Writes the same three bursts into `told`. Writes only the words of the descriptor and of the
+/// Writes the same three bursts into `reported`. Writes only the words of the descriptor and of the
 /// available entry into the front of `room`, in 20 bytes. The words of the frame are the last words
 /// of the offered frame, with 0 after its last byte.
 // claim answer, words: The tail is the five words after the frame, exactly if a word of the frame
@@ -268,18 +268,18 @@ pub extern "C" fn ivshm_end_bursts(
 pub extern "C" fn ivshm_end_tail(
     alloc: Global,
     end: &mut End,
-    told: &mut Bursts,
+    reported: &mut Bursts,
     room: &mut [u8],
 ) -> u32
     ensures answer { result ≡ number_of (answer_at end.old.port (tail_answer (length room.old))) }
-    ensures words { IfSome end.old.port (λ port. GivesTail port told.old told.new room.old room.new) }
-    ensures untouched { end.old.port ≡ None → (told.new ≡ told.old) × (room.new ≡ room.old) }
+    ensures words { IfSome end.old.port (λ port. GivesTail port reported.old reported.new room.old room.new) }
+    ensures untouched { end.old.port ≡ None → (reported.new ≡ reported.old) × (room.new ≡ room.old) }
     ensures kept { end.new.port ≡ end.old.port }
 {
     let Some(port) = end.take(alloc) else {
         return Status::NoEnd.number();
     };
-    let status = tail(&port, told, room);
+    let status = tail(&port, reported, room);
     end.put(port);
     status.number()
 }

@@ -55,10 +55,10 @@ pub extern "C" fn ivshm_layout(found: &Found, peers: u32, mtu: u32, layout: &mut
 
 /// Writes the highest version of the link and the bounds of its numbers.
 #[unsafe(no_mangle)]
-pub extern "C" fn ivshm_limits(told: &mut Limits)
-    ensures { told.new ≡ limits }
+pub extern "C" fn ivshm_limits(reported: &mut Limits)
+    ensures { reported.new ≡ limits }
 {
-    *told = Limits {
+    *reported = Limits {
         version: 3,
         least_mtu: LEAST_MTU,
         most_mtu: MOST_MTU,

@@ -26,8 +26,8 @@
 //! - Each range is a fact and a test in `specs/Ranges`. The grammar of calls, the reference
 //!   programs and the proofs of the crates above cite these, so a range is changed there and in its
 //!   check.
-//! - `specs/Spelling` defines the frame that the words of a foreign section hold at a position. It
-//!   serves other crates; no function of this one cites it.
+//! - `specs/Spelling` defines the frame that the words of a foreign section hold at a position, and
+//!   the fields in the halves of a word, which the functions of `halves` return.
 #![tactic(auto)]
 
 mod faults;

@@ -161,7 +161,7 @@ static inline void ivshm_link_copy_out(uint32_t *to, const uint32_t *from, uint3
 #else
     uint32_t i = 0;
     if (IVSHM_LINK_PAIRS) {
-        if (count > 0 && (uintptr_t)from % 8 != 0) to[i++] = __atomic_load_n(from, __ATOMIC_RELAXED);
+        if (count > 0 && (size_t)from % 8 != 0) to[i++] = __atomic_load_n(from, __ATOMIC_RELAXED);
         for (; count - i >= 2; i += 2) {
             uint64_t pair = __atomic_load_n((const ivshm_link_pair *)(const void *)&from[i], __ATOMIC_RELAXED);
             __builtin_memcpy(&to[i], &pair, 8);
@@ -179,7 +179,7 @@ static inline void ivshm_link_copy_in(uint32_t *to, const uint8_t *from, uint32_
     uint32_t i = 0, word;
     if (IVSHM_LINK_PAIRS) {
         uint64_t pair;
-        if (count > 0 && (uintptr_t)to % 8 != 0) {
+        if (count > 0 && (size_t)to % 8 != 0) {
             __builtin_memcpy(&word, from, 4);
             __atomic_store_n(&to[i++], word, __ATOMIC_RELAXED);
         }

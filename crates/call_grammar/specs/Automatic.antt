@@ -47,14 +47,14 @@ abbrev pub first_or_poll : List (List ℕ) → Choice
 first_or_poll [] = ChoosesPoll
 first_or_poll (frame ∷ frames) = ChoosesOffer frame
 
--- The choice of an end in phase `phase`. It depends on the call that the end chose before, the
--- frames that aren't accepted yet, and the numbers of frames delivered in the whole run and
--- expected. The first of five rules that applies decides:
+-- The choice of an end in phase `phase`. It depends on the call that the end chose before, and on
+-- the frames that aren't accepted yet. It also depends on the numbers of frames delivered in the
+-- whole run and expected. The first of five rules that applies decides:
 -- - no frame is left, and the number delivered is at least the number expected: the end is
 --   finished;
 -- - the end isn't in RUN: a Tick;
--- - there was no call before, or it was a Tick, began outside RUN or was cut: an Offer if a frame
---   is left, else a Poll;
+-- - no call was before, or it was a Tick, began outside RUN or was cut: an Offer if a frame is
+--   left, else a Poll;
 -- - the call before was an Offer: a Poll;
 -- - the call before was a Poll: a Tick.
 abbrev pub choice_by_rule : Phase → Option Chosen → List (List ℕ) → (delivered expected : ℕ) → Choice
@@ -88,9 +88,10 @@ in_phase Init round frames = ChoosesTick
 in_phase Ready round frames = ChoosesTick
 in_phase Run round frames = in_round round frames
 
--- The choice of an end in phase `phase`. It depends on the position in the round, the frames that
--- aren't accepted yet, and the numbers of frames delivered in the whole run and expected. The end
--- is finished if no frame is left and the number delivered is at least the number expected.
+-- The choice of an end in phase `phase`. It depends on the position in the round, and on the frames
+-- that aren't accepted yet. It also depends on the numbers of frames delivered in the whole run and
+-- expected. The end is finished if no frame is left and the number delivered is at least the number
+-- expected.
 abbrev pub choice_of : Phase → Round → List (List ℕ) → (delivered expected : ℕ) → Choice
 choice_of phase round [] delivered expected = if nat_le expected delivered then IsFinished else in_phase phase round []
 choice_of phase round (frame ∷ frames) delivered expected = in_phase phase round (frame ∷ frames)

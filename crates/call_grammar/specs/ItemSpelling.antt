@@ -1,4 +1,4 @@
--- The frames that a poll delivers, in terms of the words of the other's section: the values read
+-- The frames that a poll delivers, in terms of the words of the other's section. The values read
 -- for an item hold a frame as the words of a section do.
 use Rattle.std.specs.Prelude.{ℕ, ◌≡◌, ◌-◌, List, [], ◌∷◌}
 use Rattle.split_ring.specs.declared.steps.Access.{Access}
@@ -23,8 +23,8 @@ AllMatchWords config words [] = Unit {0}
 AllMatchWords config words (step ∷ steps) = MatchesWords config words step.access step.value × AllMatchWords config words steps
 
 -- Every section that holds the values read for a valid item holds the delivered frame at its
--- position. So the fields and the bytes of a frame are the same in values that were read one after
--- another as in the words of a section.
+-- position. So the fields and the bytes of a frame are the same in values read one after another as
+-- in a section's words.
 abbrev pub ReadItemsAreSpelled : Type 0
 ReadItemsAreSpelled = (config : EndConfig) (number : ℕ) (read : Item) (words : ℕ → ℕ) → IsValidItem config number read →
     AllMatchWords config words (item_steps config number read) → Spells config.sizes words number (item_entry config number read) (frame_in read.bytes read.words)

@@ -1,7 +1,7 @@
 -- An offer in RUN, as a tree and as a table of lists: a peer frees the frames that were returned,
 -- and publishes a frame.
 --
--- Source: VIRTIO 1.1, section 2.6.13 (supplying buffers to the device); profile for the order of
+-- Source: VIRTIO 1.1, section 2.6.13 (supplying buffers to the device). Profile: the order of
 -- accesses, one each step, and the limit of frames in flight.
 use Rattle.std.specs.Prelude.{ℕ, zero, suc, ◌≡◌, ◌+◌, ◌-◌, ◌/◌, ◌%◌, ◌<◌, ◌==◌, Bool, true, false, ◌⊎◌, if◌then◌else◌, List, [], ◌∷◌, ◌++◌, length}
 use Rattle.ivs_base.specs.Numbers.{distance}
@@ -17,8 +17,9 @@ use Rattle.call_grammar.specs.Trees.{CallTree, Ended, Does, Reads}
 use Rattle.call_grammar.specs.Ticks.{EndConfig, set_state, state_step}
 use Rattle.call_grammar.specs.Words.{index_word, with_entry, words_for, frame_word}
 
--- A pending offer: the frame and its number in the session; the lengths of the session's frames up
--- to it, by their numbers; and the last value that the end wrote to the word of the frame's entry.
+-- A pending offer: the frame and its number in the session, and the lengths of the session's frames
+-- up to it, by their numbers. The last field is the last value that the end wrote to the word of
+-- the frame's entry.
 pub record PendingOffer : Type 0 where
   pub frame : List ℕ
   pub number : ℕ
@@ -209,8 +210,8 @@ notify_steps config number value =
     then avail_event_read_step config number value ∷ (if wants_doorbell (low_half value) number then doorbell_step config (Over ∷ []) ∷ [] else [])
     else doorbell_step config (Over ∷ []) ∷ []
 
--- The reads of an offer: the used index, and then the ids of the returned frames in order, with
--- `full` on the last read if the frame doesn't fit then.
+-- The reads of an offer: the used index, and then the ids of the returned frames in order. The last
+-- read has the mark `full` if the frame doesn't fit then.
 abbrev pub reclaim_steps : EndConfig → PendingOffer → ℕ → ℕ → List Step
 reclaim_steps config pending freed value =
     used_index_step config value (reclaim_marks config pending freed (returned_by freed value)) ∷

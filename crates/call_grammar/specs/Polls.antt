@@ -1,4 +1,4 @@
--- A poll in RUN, as a tree and as a table of lists: a peer delivers each frame that the other
+-- A poll in RUN, as a tree and as a table of lists. A peer delivers each frame that the other
 -- published, once, and returns it.
 --
 -- Source: VIRTIO 1.1, section 2.6.8 (the used ring); profile for the order of accesses, one each
@@ -141,7 +141,7 @@ poll config taken false = read_avail_index config taken false (write_avail_event
 -- The table of finished polls
 
 -- The values read for one item: the words of the entry, of the address (low and high), of the
--- length and of the flags, and the words of the frame.
+-- length, of the flags and of the frame.
 pub record Item : Type 0 where
   pub entry_word : ℕ
   pub low : ℕ

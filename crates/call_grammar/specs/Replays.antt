@@ -6,7 +6,7 @@ use Rattle.call_grammar.specs.Ticks.{EndConfig}
 use Rattle.call_grammar.specs.Calls.{Call, IsCall}
 use Rattle.call_grammar.specs.Places.{Place, Closed, first_place, next_place, step_at, is_open}
 
--- The steps replay the call from this place to its end: each is the step at its place for the value
+-- The steps replay the call from this place to its end. Each is the step at its place for the value
 -- that it met, and after the last one no call is open.
 abbrev pub IsReplayed : EndConfig → Place → List Step → Type 0
 IsReplayed config place [] = place ≡ Closed

@@ -17,9 +17,9 @@ ReturnsNone step = AllByRecursion (λ mark. mark ≢ Return) step.marks
 abbrev pub EndsWith : Step → List Step → Type 0
 EndsWith step steps = (before : List Step) × (steps ≡ before ++ step ∷ [])
 
--- A finished poll returns no frame, or its last step is the doorbell of the other peer, or its last
--- step is the State 0 of a refusal. `taken` is the number of frames delivered before the poll, and
--- `last` says whether a first look without a frame ends it.
+-- A finished poll returns no frame, or its last step is the doorbell of the other peer or the State
+-- 0 of a refusal. `taken` is the number of frames delivered before the poll, and `last` says
+-- whether a first look without a frame ends it.
 abbrev pub PollsThatReturnRing : Type 0
 PollsThatReturnRing = (config : EndConfig) (taken : ℕ) (last : Bool) (steps : List Step) → IsPoll config taken last steps →
     AllByRecursion ReturnsNone steps ⊎ (EndsWith (doorbell_step config (Done ∷ [])) steps ⊎ EndsWith (state_step 0) steps)

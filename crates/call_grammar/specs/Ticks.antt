@@ -10,8 +10,9 @@ use Rattle.call_grammar.specs.Steps.{Mark, Saw, Over, Step, step_of}
 use Rattle.call_grammar.specs.Trees.{CallTree, Ended, Does, Reads}
 use Rattle.call_grammar.specs.Ends.{End}
 
--- The configuration of an end: the peer and the other peer; the first words of their sections and
--- the number of words of each; the sizes of the queue in them; and the vector of its doorbells.
+-- The configuration of an end: the peer and the other peer, the first words of their sections, and
+-- the number of words of each. The last fields are the sizes of the queue in the sections, and the
+-- vector of the end's doorbells.
 pub record EndConfig : Type 0 where
   pub me : ℕ
   pub other : ℕ
@@ -65,8 +66,8 @@ state_step state = step_of (State state) 0 (Over ∷ [])
 abbrev pub saw_step : EndConfig → ℕ → List Mark → Step
 saw_step config value marks = step_of (Read (other_state config)) value marks
 
--- A Tick that read `value`, by its move: nothing more; the State step; or writes of 0 to all own
--- words in order and then the State step.
+-- A Tick that read `value`, by its move. It has no further step, or the State step, or writes of 0
+-- to all own words in order and then the State step.
 abbrev pub tick_steps : EndConfig → ℕ → Move → List Step
 tick_steps config value Stay = saw_step config value (Saw value ∷ Over ∷ []) ∷ []
 tick_steps config value (Set state) = saw_step config value (Saw value ∷ []) ∷ state_step state ∷ []

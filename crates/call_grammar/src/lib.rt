@@ -78,8 +78,8 @@ pub fn calls_are_permitted()
     ensures { CallsArePermitted }
 {}
 
-/// Law: an end sets State 0, or the State of the phase table's move for the value that it read
-/// last, which is the other's State.
+/// Law: an end sets State 0, or the State of the phase table's move for the last value read, which
+/// is the other's State.
 // claim: State steps follow the phase table from the value read.
 pub fn calls_keep_rows()
     ensures { CallsKeepRows }
@@ -108,8 +108,8 @@ pub fn calls_meet_bounds()
     ensures others { OtherCallsMeetBounds }
 {}
 
-/// Law: each foreign field is read once for each item of a poll, each word once in an offer, and
-/// each index once for each use of it.
+/// Law: each foreign field is read once for each item of a poll, and each word once in an offer.
+/// Each index is read once for each use of it.
 // claim: Each foreign field is read once for each item, and each word once in an offer. An index is
 //    read once for each use, whole call or cut: the step with the mark of the use is the read. A
 //    call may use an index more than once.
@@ -126,8 +126,8 @@ pub fn polls_that_return_ring()
     ensures { PollsThatReturnRing }
 {}
 
-/// Law: the values read for one item of a poll hold the frame that the poll delivers, by the same
-/// definition as the words of a section.
+/// Law: the values read for one item of a poll hold the frame that the poll delivers. The
+/// definition is that of the words of a section.
 // claim: The values that a poll reads for an item spell the frame that it delivers, by the
 //    definition by which the words of a section do.
 pub fn read_items_are_spelled()

@@ -67,8 +67,8 @@ module _ (w : Devices) (events : List Event) (event : Event) (old : DeviceView) 
     ];
   }
 
-  -- The source's registers after its own write or reset: they stand as before the event, which may
-  -- trigger the source too, or as after it, and then the source isn't triggered.
+  -- The source's registers after its own write or reset. They are those before the event, which may
+  -- also trigger the source, or those after it, and then the source isn't triggered.
   abbrev pub Own : Registers → Type 0
   Own own = (IsPeer w events source own × Spares w event source)
       ⊎ (IsPeer w (event ∷ events) source own × (vector_of (bytes_after w events) event source ≡ None))

@@ -1,6 +1,6 @@
--- The device's rules (the device's specification, and PCI 3.0 for MSI-X and INTx): the registers of
--- a world's peers after a list of events, the newest first, and the effect of one more event. A
--- trigger that is not delivered is dropped (profile).
+-- The device's rules (the device's specification, and PCI 3.0 for MSI-X and INTx). They give the
+-- registers of a world's peers after a list of events, the newest first, and the effect of one more
+-- event. A trigger that is not delivered is dropped (profile).
 use Rattle.std.specs.Prelude.{ℕ, zero, suc, ◌/◌, ◌%◌, ◌^◌, Bool, true, false, ◌&&◌, ◌||◌, not, ◌==◌, nat_lt, if◌then◌else◌, List, [], ◌∷◌, ◌++◌, Option, Some, None, is_some}
 use Rattle.pci_space.specs.declared.field.Field.{Field}
 use Rattle.pci_space.specs.declared.wiring.Wiring.{Wiring}
@@ -38,8 +38,8 @@ abbrev pub is_one_shot : Bytes → Bool
 is_one_shot byte = bit (byte Config 0x43) 0
 
 -- The configuration space and the MSI-X table let vector n through. With MSI-X: Command bit 2 or
--- bit 3 is set, MSI-X is enabled, the function is not masked, n is below the size of the table, and
--- entry n is not masked. With INTx: Command bit 10 is clear.
+-- bit 3 is set, MSI-X is enabled, and the function is not masked. The table has an entry n, which
+-- is not masked. With INTx: Command bit 10 is clear.
 abbrev pub lets_through : Wiring → Bytes → ℕ → Bool
 lets_through (Msix vectors) byte n =
     (bit (byte Config 0x04) 2 || bit (byte Config 0x04) 3)

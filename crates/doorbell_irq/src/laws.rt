@@ -49,9 +49,9 @@ pub fn routes_decide_deliveries()
 /// Devices of single peers, one in each process, are together the device of all peers, for register
 /// writes. This function is that law.
 ///
-/// The registers of the source determine which peers its write triggers. A peer that processes
-/// this trigger before any other event is in the state after the event, and its delivery is that of
-/// the device's rules.
+/// The registers of the source determine which peers its write triggers. A peer that processes this
+/// trigger before any other event is in the state after the event. Its delivery is that of the
+/// device's rules.
 // claim: Peers' devices in processes of their own, each of which takes exactly what a register
 //    write of the source triggers, are after the write as the device of all peers is.
 pub fn peers_apart_are_the_device()

@@ -1,7 +1,7 @@
 //! The devices of a world's peers, as a hypervisor emulates them: configuration spaces, register
-//! pages, MSI-X tables, and the interrupts of doorbells and State writes. It uses `pci_space`
-//! for the spaces. Its contracts promise that the effect of each call is that of the device's rules
-//! after all calls before it, for every peer, offset and state.
+//! pages, MSI-X tables, and the interrupts of doorbells and State writes. It uses `pci_space` for
+//! the spaces. Its contracts promise that each call has the effect of the device's rules after all
+//! calls before it, for every peer, offset and state.
 //!
 //! # Design
 //!
@@ -9,7 +9,7 @@
 //!   device refines, each call promises two things. Its result is that of the rules, and the new
 //!   device refines the list with one more event. So a checker that has the list needs no device,
 //!   and callers need only `Refines`.
-//! - The rules are functions of that list: each byte of a peer's spaces has its reset value, or the
+//! - The rules are functions of that list. Each byte of a peer's spaces has its reset value, or the
 //!   value of the newest event that wrote it. The code has arrays.
 //! - The register page and an MSI-X entry are field tables, like the configuration space. One rule
 //!   serves all three.

@@ -388,8 +388,8 @@ test_of_room t bytes lt h = ap (λ b. b && has_bytes (data_area_len t.sizes) t.i
     less : nat_lt t.in_flight (limit_of t.sizes) ≡ true
     less = grind (arith, nat_tests)
 
--- A frame fits in a session if the number of frames in flight is below the limit and the frame is
--- apart from each of them.
+-- A frame fits in a session if the number of frames in flight is below the limit and the frame
+-- shares no byte with them.
 room_of_session : (q : Sizes) (length_of : ℕ → ℕ) (freed sent : ℕ) → freed ≤ sent → is_byte_ring q ≡ true → sent < freed + limit_of q → NextFree (data_area_len q) length_of freed sent →
     has_room q length_of freed sent ≡ true
 unfolding has_room

@@ -8,8 +8,8 @@ use Rattle.frame_slots.specs.declared.slots.Slot as slots
 
 -- The state of the allocator: the sizes of the queue, the next descriptor, and the number of frames
 -- in flight. In a byte ring three bytes of the area follow: the start of the oldest frame in
--- flight, the end of the newest frame placed, and the end of the last frame before the wrap. With
--- slots these three are 0.
+-- flight, the end of the newest frame placed, and the wrap. The wrap is the end of the last frame
+-- before the one that starts at byte 0. With slots these three are 0.
 pub record Allocator : Type 0 where
   pub sizes : Sizes
   pub next : ℕ
@@ -82,8 +82,8 @@ with_placed t bytes = record {
   left = if nat_le (t.tail + ring_bytes t.sizes bytes) (data_area_len t.sizes) then t.left else t.tail;
 }
 
--- The byte of the area at which the frame after the oldest one starts: byte 0 if the frames in
--- flight wrapped after the oldest one.
+-- The byte of the area at which the frame after the oldest one starts. It is byte 0 if the frames
+-- in flight wrapped after the oldest one.
 abbrev pub second_start : Allocator → (bytes : ℕ) → ℕ
 second_start t bytes = if nat_le t.tail t.head && (t.head + bytes == t.left) then 0 else t.head + bytes
 

@@ -67,7 +67,7 @@ impl Slots {
 
     /// Allocates the next descriptor for a frame of `len` bytes, and its bytes of the section.
     /// Returns `None` if the frame doesn't fit: the limit of frames in flight is reached or, in a
-    /// byte ring, the bytes of its footprint aren't free.
+    /// byte ring, its footprint isn't free.
     // claim taken: A frame gets the next descriptor with that descriptor's slot. In a byte ring it
     //    gets the bytes after those of the newest frame, or those at the start of the area if they
     //    would pass its end. Nothing changes if the limit in flight is reached or these bytes are

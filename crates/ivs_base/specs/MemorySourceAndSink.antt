@@ -2,8 +2,9 @@
 use Rattle.std.specs.Prelude.{ℕ, ◌-◌, ◌==◌, Bool, true, false, if◌then◌else◌, List, ◌++◌, Some, length, drop, min}
 use Rattle.ivs_base.specs.SourceAndSink.{Input, Output, counted}
 
--- A source: the bytes left; the greatest number of bytes of a call; the numbers of the calls that
--- fail; the counts of calls and of faults; and whether the last call failed.
+-- A source: the bytes left, the greatest number of bytes of a call, and the numbers of the calls
+-- that fail. The last fields are the counts of calls and of faults, and whether the last call
+-- failed.
 pub record MemoryInput : Type 0 where
   pub left : List ℕ
   pub piece : ℕ
@@ -12,9 +13,9 @@ pub record MemoryInput : Type 0 where
   pub faults : ℕ
   pub failed : Bool
 
--- A sink: the bytes written and the number of bytes reserved; the greatest number of bytes of a
--- call and the numbers of the calls that fail; the counts of calls and of faults, and whether the
--- last call failed.
+-- A sink: the bytes written, the number of bytes reserved, the greatest number of bytes of a call,
+-- and the numbers of the calls that fail. The last fields are the counts of calls and of faults,
+-- and whether the last call failed.
 pub record MemoryOutput : Type 0 where
   pub written : List ℕ
   pub room : ℕ
@@ -24,7 +25,7 @@ pub record MemoryOutput : Type 0 where
   pub faults : ℕ
   pub failed : Bool
 
--- The view of a source in memory: its bytes are known, it has ended if none is left, and it never
+-- The view of a source in memory: its bytes are known. It has ended if none is left, and it never
 -- fails if no call is listed.
 abbrev pub input_of : MemoryInput → Input
 input_of source = record {

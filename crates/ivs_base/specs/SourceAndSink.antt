@@ -2,8 +2,9 @@
 use Rattle.std.specs.Prelude.{ℕ, ◌≡◌, ◌+◌, ◌-◌, ◌^◌, ◌<◌, ◌≤◌, ◌⊎◌, Bool, List, Option, Some, IsTrue, length, min}
 use Rattle.std.specs.Io.KnownBytes.{Consumes, Appends, IsAtEnd}
 
--- The view of a source: the bytes left, if they are known; whether its last read found the end;
--- whether its last read failed; its fault count; and whether none of its reads fails.
+-- The view of a source: the bytes left, if they are known, and whether its last read found the end.
+-- The other fields are whether its last read failed, its fault count, and whether none of its reads
+-- fails.
 pub record Input : Type 0 where
   pub left : Option (List ℕ)
   pub ended : Bool
@@ -11,8 +12,9 @@ pub record Input : Type 0 where
   pub faults : ℕ
   pub never_fails : Bool
 
--- The view of a sink: the bytes written, if they are known; whether its last write failed; its
--- fault count; and the number of further bytes that it is sure to write before a write fails.
+-- The view of a sink: the bytes written, if they are known, whether its last write failed, and its
+-- fault count. The last field is the number of further bytes that it is sure to write before a
+-- write fails.
 pub record Output : Type 0 where
   pub written : Option (List ℕ)
   pub failed : Bool

@@ -16,8 +16,7 @@ abbrev pub row : ℕ → ℕ → ℕ → ℕ → Field
 row place width reset mask = record { place = place; width = width; reset = reset; mask = mask }
 
 -- The rows of a device whose region is at this place. Sizes are in bytes. Profile: the places of
--- the two capabilities, the sizes of the windows of BAR 0 and 1, and that both Command bits 2 and 3
--- exist.
+-- the two capabilities, the sizes of the windows of BAR 0 and 1, and Command bits 2 and 3.
 abbrev pub placed_rows : Shape → ℕ → Wiring → RegionPlace → List Field
 placed_rows shape protocol wiring region =
     row 0x00 2 0x110A 0  -- Vendor ID

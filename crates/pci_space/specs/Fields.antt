@@ -37,7 +37,7 @@ merged old new mask = bit_or (bit_and old (255 - mask)) (bit_and new mask)
 abbrev pub reaches : ℕ → ℕ → ℕ → Bool
 reaches offset width k = nat_le offset k && nat_lt k (offset + width)
 
--- Byte k of the space after a write, with `old` before it: its masked bits are those of the value
+-- Byte k of the space after a write, with `old` before it. Its masked bits are those of the value
 -- if the access has byte k.
 abbrev pub merged_byte : List Field → ℕ → ℕ → ℕ → ℕ → ℕ → ℕ
 merged_byte rows offset width value k old =
@@ -65,8 +65,8 @@ abbrev pub overlap : Field → ℕ → ℕ → List Field → Option FieldFault
 overlap f n m [] = None
 overlap f n m (g ∷ gs) = if shares g f then Some (Overlap n m) else overlap f n (m + 1) gs
 
--- The fault of row n after the earlier rows, if there is one: its width, then its numbers, then its
--- end, then a row that it overlaps.
+-- The fault of row n after the earlier rows, if there is one. The tests are its width, then its
+-- numbers, then its end, then a row that it overlaps.
 abbrev pub row_fault : ℕ → List Field → ℕ → Field → Option FieldFault
 row_fault size earlier n f =
     if not (is_width f.width) then Some (BadWidth n)

@@ -144,7 +144,7 @@ fn read_msix(bytes: &[u8; 256], p: usize) -> Result<MsixFound, CapabilityFault>
     })
 }
 
-/// Two walks over the same bytes have one result. This function is that law.
+/// Law: two walks over the same bytes have one result.
 // claim: A walk has one answer.
 pub fn one_walk()
     ensures { (bytes : List ℕ) (first second : _) → IsWalk bytes first → IsWalk bytes second → first ≡ second }

@@ -108,8 +108,8 @@ fn table_of<const N: usize>(rows: [Field; N]) -> FieldTable<N>
     }
 }
 
-/// A walk over a device's configuration space at reset finds the geometry, the protocol, the wiring
-/// and the base address of the device, wherever its region is. This function is that law.
+/// Law: a walk over a device's configuration space at reset finds the device's geometry, protocol,
+/// wiring and base address, for every place of its region.
 // claim: A walk over the bytes of a device's space finds the sizes, protocol, wiring and base
 //    address that the space was made of, or no base if the region is in the window of BAR 2.
 pub fn walk_finds_the_device()

@@ -1,18 +1,19 @@
 //! The configuration space of the device, as a field table, and the walk that finds the device in
-//! configuration bytes that cannot be trusted. It uses `section_map` for the sizes of the
+//! configuration bytes that cannot be trusted. The crate uses `section_map` for the sizes of the
 //! region. Its contracts promise that a read returns the bytes of the fields, and 0 if there is no
-//! field; that a write changes exactly the masked bits; and that a walk ends with the one result of
-//! its bytes.
+//! field. They promise that a write changes exactly the masked bits, and that a walk ends with the
+//! one result of its bytes.
 //!
 //! # Design
 //!
 //! - The view of a space is the rows of its table and the bytes that it reads. In the definitions
 //!   it reads 0 after its end, so that no law about its bytes needs the size of the space. The code
 //!   refuses a read that ends after the space.
-//! - Two clauses define the bytes of the fields: the value of each byte at reset (`reset_byte`),
-//!   and that bits outside the masks always have their reset values (`KeepsUnmasked`).
-//! - A walk is a relation with five rules: the list ends, a pointer is too low, a pointer occurs
-//!   twice, a capability is faulty, or the list continues (`specs/Walk`). A law says that two walks
+//! - Two clauses define the bytes of the fields. One gives the value of each byte at reset
+//!   (`reset_byte`). By the other, bits outside the masks always have their reset values
+//!   (`KeepsUnmasked`).
+//! - A walk is a relation with five rules (`specs/Walk`): the list ends, a pointer is too low, a
+//!   pointer occurs twice, a capability is faulty, or the list continues. A law says that two walks
 //!   over the same bytes have one result (`one_walk`).
 // tested: `lspci` reads the device's bytes as this device with its two capabilities
 //    (`checks/lspci`).

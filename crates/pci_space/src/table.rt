@@ -30,7 +30,7 @@ impl<const N: usize> Model for FieldTable<N> {
 impl<const N: usize> FieldTable<N> {
     /// Returns the table of rows for a space of `bytes` bytes, or the first fault.
     ///
-    /// The order of tests: the rows in order, and for each row its width, then its reset value and
+    /// Rows are tested in order. For each row the tests are its width, then its reset value and
     /// mask, then its end, then the rows before it.
     // claim sound, made, fault: A table is made exactly of rows without a fault; otherwise the
     //    first fault is returned.

@@ -22,8 +22,8 @@ unfoldable pub ring_start : (room : ℕ) (length_of : ℕ → ℕ) → ℕ → �
 ring_start room length_of zero = 0
 ring_start room length_of (suc k) = start_after room (ring_start room length_of k + up64 (length_of k)) (up64 (length_of (suc k)))
 
--- The byte of the section at which frame k starts: the start of its slot (the slots are used in
--- order, round and round), or its byte of the byte ring.
+-- The byte of the section at which frame k starts: the start of its slot, or its byte of the byte
+-- ring. The slots are used in order, modulo the limit.
 unfoldable pub start_of : Sizes → (length_of : ℕ → ℕ) → ℕ → ℕ
 start_of q length_of k = if is_byte_ring q then data_area_start q + ring_start (data_area_len q) length_of k else offset_of q (FrameSlot (k % limit_of q))
 
@@ -42,7 +42,7 @@ is_apart_from q length_of number k (suc count) =
     are_apart (start_of q length_of k) (footprint_of q (length_of k)) (start_of q length_of number) (footprint_of q (length_of number)) &&
     is_apart_from q length_of number (k + 1) count
 
--- The frame with number `number` fits after `freed` frames were freed: the number of frames in
+-- The frame with number `number` fits after `freed` frames were freed. The number of frames in
 -- flight is below the limit, and in a byte ring no frame in flight shares a byte of its footprint.
 unfoldable pub has_room : Sizes → (length_of : ℕ → ℕ) → (freed number : ℕ) → Bool
 has_room q length_of freed number =

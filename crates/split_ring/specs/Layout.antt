@@ -1,7 +1,7 @@
 -- The offset of each field of an output section.
 --
 -- Source: VIRTIO 1.1 section 2.6 for the parts of a split virtqueue, their order and the widths of
--- their fields; profile for the alignments to 64 bytes, the queue size, the slots and the limit of
+-- their fields. Profile: the alignments to 64 bytes, the queue size, the slots and the limit of
 -- frames in flight.
 use Rattle.std.specs.Prelude.{◌≡◌, ℕ, ◌+◌, ◌-◌, ◌*◌, ◌/◌, ◌%◌, ◌^◌, ◌<◌, ◌≤◌, min, List, [], ◌∷◌, Bool, Option, Some, find, nat_lt, nat_le, if◌then◌else◌, unwrap_or, MatchOption}
 use Rattle.ivs_base.specs.Numbers.{up64}

@@ -63,7 +63,7 @@ bytes_from words place zero = []
 bytes_from words place (suc count) = byte_at words place ∷ bytes_from words (place + 1) count
 
 -- The words hold this frame at this position: its available entry is e, descriptor e is in its
--- ranges, and the frame is the bytes that it names.
+-- ranges, and it names the frame's bytes.
 pub record Spells (q : Sizes) (words : ℕ → ℕ) (position e : ℕ) (frame : List ℕ) : Type 0 where
   pub entry_is : entry_at q words position ≡ e
   pub entry : IsAvailEntry q e

@@ -13,8 +13,8 @@ use std::marker::Model;
 /// The queue sizes, in descending order.
 const SIZES: [u32; 7] = [MOST_QUEUE, 2048, 1024, 512, 256, 128, LEAST_QUEUE];
 
-/// The queue of a link, from the link's version, the length in bytes of an output section and the
-/// MTU: the queue size and the offset of each field.
+/// The queue of a link: the queue size and the offset of each field. They follow from the link's
+/// version, the length in bytes of an output section, and the MTU.
 ///
 /// A contract sees these three numbers, and every other number is a function of them
 /// (`specs/Layout`). Both sections of a link have this layout. Words are numbered from the start of
@@ -49,9 +49,10 @@ impl Queue {
     /// Returns the queue of a link of version 1, in sections of `out` bytes, for frames of at most
     /// `mtu` + `FRAME_OVERHEAD` bytes.
     ///
-    /// The error is the first test that fails. It is `BadMtu` if the MTU isn't `LEAST_MTU` to
-    /// `MOST_MTU`, `TooSmall` if no queue size fits the section, `NoSlot` if the data area is
-    /// shorter than a slot.
+    /// The error is the first test that fails:
+    /// - `BadMtu` if the MTU isn't `LEAST_MTU` to `MOST_MTU`;
+    /// - `TooSmall` if no queue size fits the section;
+    /// - `NoSlot` if the data area is shorter than a slot.
     // claim queue, fault with Queue::of_version.queue, Queue::of_version.fault: A queue is made
     //    exactly if the MTU, a queue size and a slot fit, tested in this order; otherwise the first
     //    fault is returned with its numbers. The queue has the version asked for.
@@ -213,8 +214,8 @@ impl Queue {
         4 * self.size
     }
 
-    /// Returns the word that holds available entry `k` modulo the queue size: in its low half if
-    /// that number is even, else in its high half.
+    /// Returns the word that holds available entry `k` modulo the queue size. The entry is its low
+    /// half if that number is even, else its high half.
     pub fn entry_word(&self, k: u32) -> u32
         ensures place { result ≡ word_offset self.now (AvailEntry (k % size_of self.now)) }
         ensures inside { 4 * result + 4 ≤ self.now.out }
@@ -293,8 +294,8 @@ fn queue_size(out: u64) -> Option<u32>
         .find(|&size| 8 * u64::from(ring_part(size)) < out)
 }
 
-/// Law: the queue size is the greatest power of two from 64 to 4,096 whose descriptors and rings
-/// are shorter than an eighth of the section.
+/// Law: the queue size is the greatest power of two that fits, from 64 to 4,096. It fits if its
+/// descriptors and rings are shorter than an eighth of the section.
 // claim: The queue size is the greatest power of two from 64 to 4,096 with a ring part of less than
 //    an eighth of the section, for every section.
 pub fn queue_size_is_greatest()

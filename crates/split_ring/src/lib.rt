@@ -1,8 +1,8 @@
 //! The split virtqueue of an output section: the offset of each field, the range of each foreign
-//! field, and the steps that engines make over it. The crate uses `ivs_base` for numbers,
-//! `section_map` for the greatest length of a region, and `arrayvec` for the notes of a step. Its
-//! contracts promise that `specs/Layout` defines the queue size and each offset. They promise that
-//! a check refuses a value exactly if it is outside the field's range in `specs/Ranges`.
+//! field, and the steps over it. The crate uses `ivs_base` for numbers, `section_map` for the
+//! greatest length of a region, and `arrayvec` for the notes of a step. Its contracts promise that
+//! `specs/Layout` defines the queue size and each offset. They promise that a check refuses a value
+//! exactly if it is outside the field's range in `specs/Ranges`.
 //!
 //! # Design
 //!
@@ -24,10 +24,9 @@
 //!   follow (`specs/Representation`). These three determine the value, so it can be `Copy` and have
 //!   `==`.
 //! - Each range is a fact and a test in `specs/Ranges`. The grammar of calls, the reference
-//!   programs and the proofs of the crates above cite these, so a range is changed there and in its
-//!   check.
-//! - `specs/Spelling` defines the frame that the words of a foreign section hold at a position, and
-//!   the fields in the halves of a word, which the functions of `halves` return.
+//!   programs and the proofs above cite these. So a range is changed there and in its check.
+//! - `specs/Spelling` defines the frame that the words of a foreign section hold at a position. It
+//!   also defines the fields in the halves of a word, which the functions of `halves` return.
 #![tactic(auto)]
 
 mod faults;

@@ -66,8 +66,8 @@ impl Queue {
         Ok(found)
     }
 
-    /// Checks that the other peer can have returned up to `index`, if this peer has freed up to
-    /// `last` and `in_flight` more frames are in flight. Returns the distance from `last` to
+    /// Checks that the other peer can have returned up to `index`. This peer has freed up to
+    /// `last`, and `in_flight` more frames are in flight. Returns the distance from `last` to
     /// `index`.
     pub fn check_used(&self, last: u16, index: u16, in_flight: u32) -> Result<u32, Refused>
         ensures inside { IfOk result (λ d. IsUsedIndex last index in_flight × (d ≡ distance last index)) }

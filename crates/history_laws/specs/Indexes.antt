@@ -32,8 +32,8 @@ IsLoneIndex config p past field_name.UsedIndex value = IsLoneRead config p past 
 IsLoneIndex config p past field value = Unit {0}
 
 -- Each mark of a read of the available index, each reclaim and each refusal of an index has its own
--- read, the line directly before it. Since its last mark or reset the peer has read nothing else.
--- The number found is counted from the index read.
+-- read, directly before it. Since its last mark or reset the peer has read nothing else. The number
+-- found is counted from the index read.
 pub record IndexesAreReadOnce : Type 0 where
   pub looks : (world : World) (before after : List Line) (p count : ℕ) → IsWorld world → IsLawful world (before ++ line.Look p count ∷ after) →
       IsIndexRead (config_of world p) p (reverse before) AvailIndex (length (side_of (reverse before) p).delivered) count

@@ -27,8 +27,8 @@ pub record Got : Type 0 where
 abbrev pub got : ℕ → ℕ → Got
 got word value = record { word = word; value = value }
 
--- The effect of a line on a peer's reads: one more read; or a mark or a reset, after which the list
--- is empty; or no effect.
+-- The effect of a line on a peer's reads: one more read, an empty list after a mark or a reset, or
+-- no effect.
 pub data Reading : Type 0 where
   Takes : (peer word value : ℕ) → Reading
   Breaks : (peer : ℕ) → Reading

@@ -1,5 +1,5 @@
--- A lawful history is a run of the link machine: each line of a link peer with a side event has its
--- row, in every scenario.
+-- In every scenario a lawful history is a run of the link machine. Each line of a link peer with a
+-- side event has its row.
 use Rattle.std.specs.Prelude.{ℕ, ◌-◌, ◌<◌, List, [], ◌∷◌, reverse}
 use Rattle.scenario_text.specs.Scenario.{World, IsWorld, is_link}
 use Rattle.link_machine.specs.LinkMachine.{SideEvent, Gave, Wrote, Marked, WasReset, Side, Row}

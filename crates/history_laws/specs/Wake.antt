@@ -66,7 +66,7 @@ pub record WakesAreRung : Type 0 where
       IsLawful world (before ++ since ++ Accept (1 - p) frame ∷ offer ++ Over (1 - p) ∷ after) →
       EventIs world (reverse before) p (length (side_of (reverse (before ++ since)) (1 - p)).accepted) →
       All (LeavesEvent world p) since → All (LeavesEvent world p) offer → All (λ line. GoesOn (1 - p) (line_side_event_of line)) offer → IsRungIn world (1 - p) offer
-  -- So a peer whose poll found no frame, and whose avail_event stays, is rung at the next frame
+  -- A peer's poll found no frame, and its avail_event stays. So the peer is rung at the next frame
   -- that an honest other accepts in its session.
   pub wakes : (world : World) (before since offer after : List Line) (p : ℕ) (frame : List ℕ) → IsWorld world → has_events world.queue ≡ true →
       p < 2 → is_link world (1 - p) ≡ true →

@@ -77,8 +77,8 @@ pub fn done_polls_deliver_all()
 {}
 
 /// Law: between honest peers each has delivered, at each moment, what the other accepted. In each
-/// session it is a beginning of the frames accepted in the session that it carries, each frame once
-/// and in order, through stops and resets.
+/// session it is a beginning of the frames accepted in the session carried, each once and in order,
+/// through stops and resets.
 // top claim: If both link peers are honest, each has delivered at each moment, in each session, a
 //    beginning of what the other accepted in the session that it carries, each frame once and in
 //    order. below: history_laws.histories_run_the_machine, link_machine.machine_delivers,
@@ -88,7 +88,7 @@ pub fn histories_deliver()
 {}
 
 /// Law: in a history of version 2 each mark of a session belongs to an honest link peer that enters
-/// RUN, and has the session numbers of both link peers. It also exists against a hostile one.
+/// RUN. The mark has the session numbers of both link peers. It also exists against a hostile one.
 // claim: In a history of version 2, each mark of a session is that of an honest link peer that has
 //    entered RUN. Its numbers are how many sessions that peer and the other opened, 0 for a hostile
 //    one; between honest peers the second is the session carried.
@@ -163,9 +163,9 @@ pub fn resets_are_quiet()
     ensures { ResetsAreQuiet }
 {}
 
-/// Law: the steps of an honest link peer since its last reset are finished calls in order, each
-/// within its bound, and then the beginning of a call. That one also ends within its bound if its
-/// peer gets the turns.
+/// Law: the steps of an honest link peer since its last reset are finished calls in order, and then
+/// the beginning of a call. Each finished call is within its bound. That one also ends within its
+/// bound if its peer gets the turns.
 // claim: At each moment, the steps that an honest link peer took in its turns since its last reset
 //    are those of finished calls, each begun in its turn and within its bound, then the first steps
 //    of one that is open.

@@ -78,8 +78,8 @@ words_answer bytes port = if is_busy port.endpoint then bytes_answer (writes_ahe
 abbrev pub writes_answer : (count : ℕ) → EndState → Status
 writes_answer count port = if is_busy port.endpoint then count_answer (writes_ahead port.endpoint) count else NoCall
 
--- The answer for the bursts of an offer before its index: OtherAccess if no word of a frame is
--- next, ShortRoom if the words don't fit.
+-- The answer for the bursts of an offer before its index. It is OtherAccess if no word of a frame
+-- is next, and ShortRoom if the words don't fit.
 abbrev pub room_answer : Option Bursts → (room : ℕ) → Status
 room_answer None room = OtherAccess
 room_answer (Some bursts) room = if nat_lt room (4 * words_of (Some bursts)) then ShortRoom else Done
@@ -198,7 +198,7 @@ abbrev pub IsNew : Found → (version peers me mtu vector : ℕ) → EndState �
 IsNew found version peers me mtu vector port =
     IsStarted (config_of (shape_found found peers) (sizes_found found version mtu) me vector) port.endpoint × (port.outcome ≡ Never) × (port.counts ≡ no_counts)
 
--- The numbers of a new end other than its sizes are valid: the peer is 0 or 1, the version is
+-- The numbers of a new end other than its sizes are valid. The peer is 0 or 1, the version is
 -- known, and the vector has 16 bits.
 pub record AreNumbers (version me vector : ℕ) : Type 0 where
   pub one_of_two : me ≤ 1
@@ -211,7 +211,7 @@ pub record MayMake (found : Found) (version peers me mtu vector : ℕ) : Type 0 
   pub shape : IsShape (shape_found found peers)
   pub queue : IsQueue (sizes_found found version mtu)
 
--- The reason for which no end is made: the first of these tests that fails, or NoMemory if all
+-- The reason for which no end is made: the first of these tests that fails. It is NoMemory if all
 -- arguments are valid and the allocation fails.
 pub data RefusesNew (found : Found) (version peers me mtu vector : ℕ) : Status → Type 0 where
   bad_peer : 2 ≤ me → RefusesNew found version peers me mtu vector BadPeer

@@ -9,8 +9,8 @@ use Rattle.call_grammar.specs.Places.{Place, access_at}
 use Rattle.link_endpoint.specs.Engine.{Engine}
 use Rattle.link_endpoint.specs.Refinement.{RefinesAt, Takes}
 
--- A step that writes State 2 makes the phase READY, and no other step does: a counted session was
--- opened by a write of State 2.
+-- A step that writes State 2 makes the phase READY, and no other step does. So a counted session
+-- was opened by a write of State 2.
 pub record SessionsFollowState : Type 0 where
   pub written : (old new : Engine) (value : ℕ) (notes : List Note) (config : EndConfig) (end : End) (place : Place) →
       Takes old value notes new → RefinesAt old config end place → access_at config place ≡ State 2 → new.phase ≡ Ready

@@ -1,6 +1,6 @@
-//! An end of the link for programs in C. The crate uses `link_endpoint` for the end, `pci_space`
-//! for the walk over a device's configuration space, and `raw_box` for the pointer that a program
-//! in C holds. Each export makes one call of an endpoint. Its contract restates the endpoint's
+//! An end of the link for programs in C. The crate uses `link_endpoint` for the end and `pci_space`
+//! for the walk over a device's configuration space. `raw_box` makes the pointer that a program in
+//! C holds. Each export makes one call of an endpoint. Its contract restates the endpoint's
 //! clauses: the exact answer for each argument, and the effect of the call. Arguments of a program
 //! in C are tested, except the pointers themselves.
 // tested: The header's match with the library, over each call and each answer but NO_MEMORY; two

@@ -1,5 +1,5 @@
-//! The exports that need no end: the walk over a configuration space, the words of a region, the
-//! bounds of the link's numbers, and the versions of the library.
+//! The exports that need no end. They are the walk over a configuration space, the words of a
+//! region, the bounds of the link's numbers, and the versions of the library.
 ghost use Rattle.std.specs.Prelude.{◌≡◌, Result, Ok, Err};
 ghost use Rattle.pci_space.specs.Walk.{IsWalk};
 ghost use Rattle.pci_space.specs.declared.found.Found.{Found as Walked};

@@ -137,8 +137,8 @@ enum Act {
     NextState(u32),
     /// Writes the next words into a room of 1s, which has these bytes then, with this answer.
     Words(&'static [u8], u32),
-    /// Writes the bursts of an offer and their words into the front of a room: its length, the
-    /// answer, and what the bursts and the 40 bytes that hold the room are then.
+    /// Writes the bursts of an offer and their words into the front of a room. A row has the room's
+    /// length, the answer, the bursts, and the 40 bytes that hold the room afterwards.
     Bursts(usize, u32, Bursts, &'static [u8; 40]),
     /// The same with the words after the frame.
     Tail(usize, u32, Bursts, &'static [u8; 40]),

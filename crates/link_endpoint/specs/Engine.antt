@@ -38,8 +38,8 @@ config_of shape sizes me traffic = record {
   vector = traffic;
 }
 
--- The view of an endpoint: its configuration, its phase, what it refused since the last reset of
--- its device, its place in the open call, its sender and its receiver.
+-- The view of an endpoint: its configuration, its phase, and what it refused since the last reset
+-- of its device. The other fields are its place in the open call, its sender and its receiver.
 pub record Engine : Type 0 where
   pub config : EndConfig
   pub phase : Phase

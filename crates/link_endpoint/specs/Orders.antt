@@ -1,6 +1,6 @@
 -- The memory order that each access needs. The two State words and the indices order all other
--- accesses: a peer that reads such a word sees all earlier writes of the peer that wrote it. A peer
--- that a doorbell interrupts sees the writes before the doorbell.
+-- accesses. A peer that reads such a word sees all earlier writes of its writer. A peer that a
+-- doorbell interrupts sees the writes before the doorbell.
 --
 -- A full fence follows each write of the own State, so that no old value of the other's State is
 -- read as a new one. A full fence is between the receiver's write of avail_event and its next read

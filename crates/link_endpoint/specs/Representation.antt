@@ -26,7 +26,8 @@ engine_of i = record {
 -- - the sender and the receiver belong to this peer, whose sections end at or before byte 2^24 of
 --   the region;
 -- - the handshake has the mark exactly if a value was refused, except between a refusal and its
---   State step; and an end that refused a value has left the link;
+--   State step;
+-- - an end that refused a value has left the link;
 -- - the endpoint refines an end.
 pub record IsWellFormed (i : endpoint.Inside) : Type 0 where
   pub sections : HasSections (engine_of i).config

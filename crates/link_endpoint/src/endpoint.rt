@@ -249,9 +249,9 @@ impl Endpoint {
         }
     }
 
-    /// Returns the next access of the open call: a read of the other's State or section, a write to
-    /// the own section or to the own State, or a doorbell to the other. `Nothing` is the only step
-    /// of an offer or a poll outside RUN.
+    /// Returns the next access of the open call. It is a read of the other's State or section, a
+    /// write to the own section or State, or a doorbell to the other. `Nothing` is the only step of
+    /// an offer or a poll outside RUN.
     // claim access, reach, nothing: The next access is that of the place, and permitted whatever
     //    was read. It is none exactly if the call is down.
     pub fn next(&self) -> Access
@@ -441,9 +441,9 @@ impl Endpoint {
         }
     }
 
-    /// Returns the bursts that the open offer writes before its index: the words left of its frame,
-    /// the descriptor and the available entry, in this order and without notes. Returns `None` if
-    /// the next access isn't the write of a word of a frame.
+    /// Returns the bursts that the open offer writes before its index, in order and without notes.
+    /// They are the words left of its frame, the descriptor and the available entry. Returns `None`
+    /// if the next access isn't the write of a word of a frame.
     // claim with Endpoint::burst_words.writes, Endpoint::burst_words.sized, Endpoint::took_bursts:
     //    The bursts are all that an offer writes before its index. Completing them equals as many
     //    single steps.
@@ -679,7 +679,7 @@ fn plain(order: Order) -> Ordering
     }
 }
 
-/// Returns the memory order of an access of an offer or a poll: a doorbell has its own, and any
+/// Returns the memory order of an access of an offer or a poll. A doorbell has its own, and any
 /// other access has the order of its kind of word.
 fn order_of(rings: bool, kind: WordKind) -> Ordering
     ensures { result ≡ order_of rings kind }

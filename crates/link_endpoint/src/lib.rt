@@ -1,9 +1,9 @@
 //! An end of the link (its handshake, its sender and its receiver) that makes one access a step, or
-//! a burst of them; and the automatic end, which chooses its own calls. The crate uses `tx_engine`
-//! and `rx_engine` for offers and polls, `link_handshake` for the phases, and `call_grammar` for
-//! the call grammar. Its contracts promise that each call is a call of the grammar, for each end
-//! that the endpoint refines. They promise the same of the choice of calls. `laws` holds what
-//! follows for two ends.
+//! a burst of them. The automatic end also chooses its own calls. The crate uses `tx_engine` and
+//! `rx_engine` for offers and polls, `link_handshake` for the phases, and `call_grammar` for the
+//! call grammar. Its contracts promise that each call is a call of the grammar, for each end that
+//! the endpoint refines. They promise the same of the choice of calls. `laws` holds what follows
+//! for two ends.
 //!
 //! # Design
 //!

@@ -1,5 +1,5 @@
--- The invariant of one honest end, for all that the other does: a property of its end and its place
--- in a call, over the words of the region.
+-- The invariant of one honest end, for all that the other does. It is a property of the end and its
+-- place in a call, over the words of the region.
 use Rattle.std.specs.Prelude.{◌≡◌, ◌≢◌, ℕ, zero, suc, ◌+◌, ◌/◌, ◌%◌, ◌<◌, ◌≤◌, true, false, List, [], ◌∷◌, ◌++◌, length, get_or}
 use Rattle.split_ring.specs.Layout.{size_of, limit_of}
 use Rattle.split_ring.specs.Frames.{start_of, has_room}
@@ -24,7 +24,7 @@ frame_at frames k = get_or frames k []
 abbrev pub start_in : LinkConfig → List (List ℕ) → ℕ → ℕ
 start_in link_config frames k = start_of link_config.sizes (lengths_of frames) k
 
--- The fields hold this frame at position k in the sender's own form: the available entry names
+-- The fields hold this frame at position k in the sender's own form. The available entry names
 -- descriptor k mod the limit, whose address is `start`.
 pub record Spelled (link_config : LinkConfig) (field : Field → ℕ) (k start : ℕ) (frame : List ℕ) : Type 0 where
   pub offered : IsOffered link_config frame
@@ -117,8 +117,8 @@ IsGivenBack end number = number ≡ end.returned
 abbrev pub AreFew : LinkConfig → ℕ → Type 0
 AreFew link_config more = more < size_of link_config.sizes
 
--- The invariant of a place: the State that a tick may set, the words that an offer has written, or
--- the values of a poll that passed their tests.
+-- The invariant of a place. It is on the State that a tick may set, the words that an offer has
+-- written, or the values of a poll that passed their tests.
 abbrev pub PlaceInvariant : LinkConfig → (ℕ → ℕ) → ℕ → End → Place → Type 0
 PlaceInvariant link_config memory p end Closed = Unit {0}
 PlaceInvariant link_config memory p end (ReadingOtherState handshake) = handshake ≡ end.handshake
@@ -197,8 +197,8 @@ pub record IsBlank (link_config : LinkConfig) (memory : ℕ → ℕ) (p : ℕ) (
   pub delivered : end.delivered ≡ []
   pub returned : end.returned ≡ 0
 
--- The invariant of one honest end. Its State word is its phase, its section is what it wrote there
--- last, its place satisfies its invariant, and its counts are in order in every phase.
+-- The invariant of one honest end. Its State word is its phase, and its section is what it wrote
+-- there last. Its place satisfies its invariant, and its counts are in order in every phase.
 pub record EndInvariant (link_config : LinkConfig) (memory : ℕ → ℕ) (p : ℕ) (end : End) (place : Place) : Type 0 where
   pub state : memory p ≡ state_of end.handshake.phase
   pub written : (j : ℕ) → j < link_config.words → memory (section_of link_config p + j) ≡ end.written (section_of link_config p + j)

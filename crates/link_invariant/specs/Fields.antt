@@ -1,6 +1,6 @@
 -- The fields of an output section that the two ends use: the word of each field, and the part of
--- that word (VIRTIO 1.1, section 2.6: split virtqueues; one half of the queue in each section:
--- profile).
+-- that word. Source: VIRTIO 1.1, section 2.6, for split virtqueues. Profile: one half of the queue
+-- in each section.
 use Rattle.std.specs.Prelude.{ℕ, ◌+◌, ◌/◌, nat_lt, nat_le, Bool, true, ◌&&◌}
 use Rattle.split_ring.specs.Layout.{Sizes, size_of, data_area_start, word_offset, DescAddress, DescLength as LayoutDescLength, DescFlags as LayoutDescFlags, AvailIndex as LayoutAvailIndex, AvailEntry as LayoutAvailEntry, UsedId as LayoutUsedId, UsedLength as LayoutUsedLength, AvailEvent as LayoutAvailEvent}
 use Rattle.split_ring.specs.Layout as ring

@@ -8,15 +8,15 @@ use Rattle.call_grammar.specs.Ticks.{EndConfig}
 use Rattle.call_grammar.specs.Calls.{Call, Offer}
 use Rattle.link_invariant.specs.Fields.{Field, is_field, field_word, part_of}
 
--- The first word of section 0, which section 1 follows; the number of words of a section; the sizes
--- of the queue in it; and the vector of the doorbells.
+-- The first word of section 0, which section 1 follows, the number of words of a section, the sizes
+-- of its queue, and the vector of the doorbells.
 pub record LinkConfig : Type 0 where
   pub first : ℕ
   pub words : ℕ
   pub sizes : Sizes
   pub vector : ℕ
 
--- The sizes have a queue, the number of words of a section is a quarter of its bytes, and both
+-- The sizes have a queue, and the number of words of a section is a quarter of its bytes. Both
 -- sections are after the two State words.
 pub record IsLinkConfig (link_config : LinkConfig) : Type 0 where
   pub queue : IsQueue link_config.sizes

@@ -16,8 +16,8 @@ pub record LinkInvariant (link_config : LinkConfig) (honest : ℕ → Bool) (mem
   pub alone : (p : ℕ) → p < 2 → honest p ≡ true → EndInvariant link_config memory p (ends p) (places p)
   pub pair : honest 0 ≡ true → honest 1 ≡ true → Pair link_config memory ends places
 
--- The invariant holds at the start. It is preserved as an honest end begins a call, at each of its
--- steps, at its reset, and as words change that are no honest end's.
+-- The invariant holds at the start. An honest end preserves it as it begins a call, at each of its
+-- steps and at its reset. Changes of words that are no honest end's preserve it too.
 pub record LinkInvariantIsKept : Type 0 where
   pub starts : (link_config : LinkConfig) (honest : ℕ → Bool) (memory : ℕ → ℕ) (ends : ℕ → End) (places : ℕ → Place) →
       ((w : ℕ) → memory w ≡ 0) → ((p : ℕ) → ends p ≡ fresh) → ((p : ℕ) → places p ≡ Closed) → LinkInvariant link_config honest memory ends places

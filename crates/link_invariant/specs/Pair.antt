@@ -47,9 +47,9 @@ Polls link_config field frames (WritingUsedLength number more) = AreAccepted fra
 Polls link_config field frames (WritingUsedIndex number more) = AreAccepted frames number more × IsNamed link_config field number
 Polls link_config field frames place = Unit {0}
 
--- The frames in flight: of a sender by the frames accepted and freed and the ids read; of a
--- receiver by the frames delivered and returned, its place in a call, and the fields of its
--- section.
+-- The frames in flight. A sender's follow from the frames accepted and freed and the ids read. A
+-- receiver's follow from the frames delivered and returned, its place in a call, and the fields of
+-- its section.
 pub record InFlight (link_config : LinkConfig) (field : Field → ℕ) (accepted : List (List ℕ)) (freed read : ℕ) (delivered : List (List ℕ)) (returned : ℕ)
     (place : Place) : Type 0 where
   pub returns : freed ≤ returned

@@ -1,4 +1,4 @@
--- The actions of an end on the words of the region and on itself: it begins a call, makes the step
+-- The actions of an end on the words of the region and on itself. It begins a call, makes the step
 -- at its place, or is reset.
 use Rattle.std.specs.Prelude.{ℕ, ◌≡◌, ◌≢◌, ◌+◌, ◌<◌, true}
 use Rattle.split_ring.specs.declared.steps.Access.{Access}

@@ -16,7 +16,7 @@ abbrev pub EventIndexIs : LinkConfig → (ℕ → ℕ) → (p k : ℕ) → Type 
 EventIndexIs link_config memory p k = fields link_config memory p AvailEvent ≡ k % 65536
 
 -- End p wants a doorbell for frame k: its avail_event is k, and the other hasn't accepted that
--- frame, or reads avail_event next after accepting it.
+-- frame, or reads avail_event right after it.
 pub record Asks (link_config : LinkConfig) (memory : ℕ → ℕ) (ends : ℕ → End) (places : ℕ → Place) (p k : ℕ) : Type 0 where
   pub event : EventIndexIs link_config memory p k
   pub ahead : (length (ends (1 - p)).accepted ≤ k) ⊎ (places (1 - p) ≡ ReadingAvailEvent k)

@@ -1,5 +1,5 @@
-//! The invariant of two ends of the link over the words of the region, and the invariant of one
-//! honest end for all stores of the other. The crate also states the consequences for their frames.
+//! The invariant of two ends of the link over the words of the region. The invariant of one honest
+//! end holds for all stores of the other. The crate also states the consequences for their frames.
 //! It is stated over the end and the place of `call_grammar`, and relates the ends to the rows of
 //! `link_machine`. The crate has no code: each law is the contract of a function with an empty
 //! body.

@@ -17,8 +17,8 @@ use Rattle.call_grammar.specs.Rows.{MovesTo}
 -- One side of the link:
 -- - its State; the value that it saw since it last wrote its State; and whether it refused;
 -- - the values that it read since its last mark or reset;
--- - of its present session, the frames accepted and delivered, the number of frames published as
---   far as it looked, and the numbers of frames returned and freed;
+-- - of its present session, the frames accepted and delivered;
+-- - of its present session, the numbers of frames published as far as it looked, returned and freed;
 -- - the number of frames freed by its last read of the used index.
 pub record Side : Type 0 where
   pub state : ℕ
@@ -35,16 +35,16 @@ pub record Side : Type 0 where
 abbrev pub initial_side : Side
 initial_side = record { state = 0; seen = None; refused = false; read = []; accepted = []; delivered = []; looked = 0; returned = 0; freed = 0; reclaimed = 0 }
 
--- The effect of a step on a side: the value that a read met, a write of the State, a mark, or the
--- reset of the device.
+-- The effect of a step on a side: the value of a read, a write of the State, a mark, or the reset
+-- of the device.
 pub data SideEvent : Type 0 where
   Gave : (value : ℕ) → SideEvent
   Wrote : (state : ℕ) → SideEvent
   Marked : (mark : Mark) → SideEvent
   WasReset : SideEvent
 
--- An honest side writes 0, or the State of its move for the value that it saw since its last write;
--- after a refusal it writes only 0. A hostile side writes any value.
+-- An honest side writes 0, or the State of its move for the value that it saw since its last write.
+-- After a refusal it writes only 0. A hostile side writes any value.
 abbrev pub MayWriteState : Bool → Side → ℕ → Type 0
 MayWriteState true side state = (state ≡ 0) ⊎ ((side.refused ≡ false) × ((value : ℕ) × (side.seen ≡ Some value) × MovesTo (phase_at side.state) value state))
 MayWriteState false side state = Unit {0}
@@ -122,9 +122,9 @@ pub record IsFull (sizes : Sizes) (side : Side) : Type 0 where
   pub none : frame_fits sizes side frame ≡ false
   pub in_flight : length side.accepted ≤ side.freed + limit_of sizes
 
--- The row of a mark: the condition under which a side may have the mark against an honest or
--- hostile other, and the side after it. The list of values read is empty after each mark. The marks
--- of offers and polls need RUN.
+-- The row of a mark: the side after it, and the condition under which a side may have it against an
+-- honest or hostile other. The list of values read is empty after each mark. The marks of offers
+-- and polls need RUN.
 abbrev pub MarkRow : Sizes → Bool → Side → Side → Mark → Side → Type 0
 MarkRow sizes honest side other (Saw value) new = (side.read ≡ value ∷ []) × (value ≡ other.state) × (new ≡ record side { seen = Some value; read = [] })
 MarkRow sizes honest side other (Accept frame) new =
@@ -164,9 +164,9 @@ pub record Ended : Type 0 where
   pub carried : ℕ
   pub delivered : List (List ℕ)
 
--- The sessions of a side: the number that it opened, and the number of the other's session that its
--- last session in RUN carried, or 0. `earlier` has the frames accepted in each earlier session, and
--- `ended` the sessions in RUN that are over, newest first.
+-- The sessions of a side: the number that it opened, and the other's session that its last session
+-- in RUN carried, or 0. `earlier` has the frames accepted in each earlier session, and `ended` the
+-- sessions in RUN that are over, newest first.
 pub record Log : Type 0 where
   pub opened : ℕ
   pub carried : ℕ
@@ -184,7 +184,7 @@ accepted_in log side number = if number == log.opened then side.accepted else lo
 abbrev pub ended_with : Log → Side → List Ended
 ended_with log side = if side.state == 3 then record { carried = log.carried; delivered = side.delivered } ∷ log.ended else log.ended
 
--- The log after a step of its side: a write of 2 opens a session, and a write of 3 carries the
+-- The log after a step of its side. A write of 2 opens a session, and a write of 3 carries the
 -- session that the other opened last.
 abbrev pub log_after : Log → Log → Side → SideEvent → Log
 log_after log others side (Wrote state) = record {

@@ -9,12 +9,12 @@
 //!   read, which no Tick makes, could open a second session while the other is still attached to
 //!   the first. Then a delivered list would not be a beginning of an accepted one.
 //! - The mark `full` has no frame. So its row says that a frame that may be offered doesn't fit,
-//!   and that the number of frames in flight is at most the limit (`IsFull`). With slots this
-//!   number is then the limit.
+//!   and that at most the limit of frames is in flight (`IsFull`). With slots this number is then
+//!   the limit.
 //! - The machine has the values that a side read since its last mark or reset, and no words or
-//!   places. So the row of a refusal says what the range of its field says: of the item and the
-//!   address read, or of the used element of the offer. A read of an index needs one value, for a
-//!   look and for a reclaim. A side that refused writes only 0 until its reset.
+//!   places. So the row of a refusal says what the range of its field says. It says so of the item
+//!   and the address read, or of the used element of the offer. A read of an index needs one value,
+//!   for a look and for a reclaim. A side that refused writes only 0 until its reset.
 #![tactic(auto)]
 
 ghost use Rattle.link_machine.specs.LinkMachine.{MachineDelivers};

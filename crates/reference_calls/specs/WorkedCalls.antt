@@ -1,5 +1,5 @@
--- Worked examples of calls, line by line: a link of two peers with sections of 16,384 bytes at
--- words 1,024 and 5,120 and an MTU of 256.
+-- Worked examples of calls, line by line. The link has two peers, sections of 16,384 bytes at words
+-- 1,024 and 5,120, and an MTU of 256.
 use Rattle.std.specs.Prelude.{ℕ, if◌then◌else◌, ◌==◌, ◌*◌, ◌+◌, suc, zero, true, false, List, [], ◌∷◌, ◌++◌, replicate}
 use Rattle.link_handshake.specs.declared.Phase.{Phase}
 use Rattle.link_handshake.specs.declared.Phase.TheVariants.{Reset, Init, Ready, Run}
@@ -88,8 +88,8 @@ item_returned = w 5425 0 [] ∷ w 5426 1 [] ∷ w 5424 65536 (Return ∷ []) ∷
 abbrev pub full_offer : List Step
 full_offer = r 5424 0 (Reclaim 0 ∷ Full ∷ []) ∷ []
 
--- After all 45 are returned the next offer reads their ids in order, and uses descriptor 0 and
--- entry 45, which shares its word with entry 44.
+-- After all 45 are returned the next offer reads their ids in order. It uses descriptor 0 and entry
+-- 45, which shares its word with entry 44.
 abbrev pub end_full : End
 end_full = record (end_at Run (replicate 45 frame)) { written = λ word. if word == 1303 then 44 else 0 }
 
@@ -127,8 +127,8 @@ id_refused = r 5424 65536 (Reclaim 1 ∷ []) ∷ r 5425 7 (refuse UsedId 7) ∷ 
 abbrev pub used_refused : List Step
 used_refused = r 5424 131072 (refuse UsedIndex 2) ∷ s 0 (Over ∷ []) ∷ []
 
--- In a link with events: the offer of frame 0 reads an avail_event that wants a doorbell for it,
--- for all values of the other half of the word.
+-- In a link with events the offer of frame 0 reads an avail_event that wants a doorbell. The other
+-- half of the word has any value.
 abbrev pub offer_published : List Step
 offer_published = w 1024 1792 [] ∷ w 1025 0 [] ∷ w 1026 14 [] ∷ w 1027 0 [] ∷ w 1281 0 [] ∷ w 1280 65536 (Accept frame ∷ []) ∷ []
 
@@ -276,15 +276,15 @@ index_passed = r 5376 4259840 (Look 65 ∷ []) ∷ s 0 (Over ∷ []) ∷ []
 abbrev pub id_passed : List Step
 id_passed = r 5424 65536 (Reclaim 1 ∷ []) ∷ r 5425 7 [] ∷ s 0 (Over ∷ []) ∷ []
 
--- In a link with events: a doorbell too few or too many; an avail_event that isn't read, and one
--- that is read in a link without events.
+-- In a link with events: a doorbell too few or too many, and an avail_event that isn't read. In a
+-- link without events: one that is read.
 abbrev pub event_unheeded : List Step
 event_unheeded = offer_begun ++ (offer_published ++ (r 5553 0 (Over ∷ []) ∷ []))
 
 abbrev pub rings_at_every_frame : List Step
 rings_at_every_frame = next_published ++ (r 5553 0 [] ∷ d 1 1 (Over ∷ []) ∷ [])
 
--- An avail_event that is written after the second read of the available index; one that is written
+-- An avail_event that is written after the second read of the available index. One that is written
 -- although it is set, and none although it isn't.
 abbrev pub event_after_the_look : List Step
 event_after_the_look = r 1280 131072 (Look 0 ∷ []) ∷ r 1280 131072 (Look 0 ∷ []) ∷ w 5553 2 (Done ∷ []) ∷ []

@@ -1,8 +1,8 @@
-//! The reference program of calls: slow functions that compute the next step of a call, place by
-//! place, and decide whether a list of steps is a call. The crate uses the definitions of
-//! `call_grammar`, and shares no code with an engine. Its contracts promise the answer yes exactly
-//! if the definition holds. Worked examples show the answers: calls, and the same lists with one
-//! line changed, which aren't calls.
+//! The reference program of calls. Slow functions compute the next step of a call, place by place,
+//! and decide whether a list of steps is a call. The crate uses the definitions of `call_grammar`,
+//! and shares no code with an engine. Its contracts promise the answer yes exactly if the
+//! definition holds. Worked examples show the answers: calls, and the same lists with one line
+//! changed, which aren't calls.
 //!
 //! # Design
 //!

@@ -67,8 +67,8 @@ pub record RefinesAt (rx : Receiver) (config : EndConfig) (end : End) (place : l
   pub gathered : rx.gathered ≡ flat_map word_bytes read
   pub place_is : place ≡ place_view end.returned read rx.place
 
--- The frame delivered last after the step at a place that met `value`: the next frame if its last
--- word was read, else the frame before.
+-- The frame delivered last after the step at a place that met `value`. It is the next frame if its
+-- last word was read, else the frame before.
 abbrev pub frame_after : laws.Place → ℕ → List ℕ → List ℕ
 frame_after (laws.ReadingFrameWord number more entry address bytes read words) value frame = if words == 0 then frame_in bytes (read ++ value ∷ []) else frame
 frame_after place value frame = frame

@@ -25,7 +25,7 @@ receiver_of a = record {
   gathered = take (4 * words_read a.place) a.buffer.items;
 }
 
--- The invariant of a receiver: the sections end at or before byte 2^24 of the region, both buffers
+-- The invariant of a receiver. The sections end at or before byte 2^24 of the region, both buffers
 -- hold the longest frame, and the values of the place passed their checks.
 pub record IsWellFormed (a : Inside) : Type 0 where
   pub queue : IsQueue a.queue

@@ -6,8 +6,8 @@
 //!
 //! # Design
 //!
-//! - There are two buffers, each as long as the longest frame that can pass the checks, allocated
-//!   in `new`: one for the frame being read, one for the frame delivered last. Words are stored
+//! - Two buffers, allocated in `new`, are each as long as the longest frame that can pass the
+//!   checks. One is for the frame being read, one for the frame delivered last. Words are stored
 //!   into the first one by one. With the last word of a frame the two are swapped. Nothing is
 //!   cleared or copied, so each step is constant work.
 //! - The number of frames returned is stored modulo 65,536. Between Deliver and Return, one frame

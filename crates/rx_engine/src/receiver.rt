@@ -26,9 +26,9 @@ use std::mem::swap;
 /// modulo 65,536. It stores whether its last read of the available index found no frame, its place
 /// in the open poll, and the frame delivered last.
 ///
-/// It has two buffers, each as long as the longest frame that passes the checks: one for the frame
-/// being read, and one for the frame delivered last. They are swapped when a frame is delivered,
-/// and nothing is copied. A step reads or writes one word, and never returns NoMemory.
+/// It has two buffers, each as long as the longest frame that passes the checks. One is for the
+/// frame being read, and one for the frame delivered last. They are swapped when a frame is
+/// delivered, and nothing is copied. A step reads or writes one word, and never returns NoMemory.
 #[derive(Debug, Drop)]
 pub struct Rx {
     queue: Queue,

@@ -1,5 +1,5 @@
--- The bursts that an offer writes before its index, from a word of its frame on: the words left of
--- the frame, the descriptor and the available entry.
+-- The bursts that an offer writes before its index, from a word of its frame on. They are the words
+-- left of the frame, the descriptor and the available entry.
 use Rattle.std.specs.Prelude.{ℕ, ◌≡◌, ◌+◌, ◌-◌, ◌*◌, ◌/◌, ◌%◌, Option, Some, None, List, [], ◌∷◌, ◌++◌, length, drop, replicate}
 use Rattle.split_ring.specs.Layout.{size_of, word_offset, DescAddress, AvailEntry}
 use Rattle.call_grammar.specs.Ticks.{EndConfig}
@@ -12,8 +12,8 @@ use Rattle.tx_engine.specs.declared.place.Place.{Place}
 use Rattle.tx_engine.specs.declared.place.Place.TheVariants.{WritingFrameWord}
 use Rattle.tx_engine.specs.Sender.{Sender}
 
--- The bursts that are written before the index, if a word of the frame is next: the words left of
--- the frame, the four words of the descriptor and the word of the available entry.
+-- The bursts that are written before the index, if a word of the frame is next. They are the words
+-- left of the frame, the descriptor's four words and the available entry's word.
 abbrev pub bursts_at : Place → Sender → Option Bursts
 bursts_at (WritingFrameWord slot at more) tx = Some record {
   frame = record { word = tx.own + (slot.address / 4 + at); count = more + 1 };

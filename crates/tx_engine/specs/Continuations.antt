@@ -8,10 +8,10 @@ use Rattle.call_grammar.specs.Words.{words_for}
 use Rattle.tx_engine.specs.declared.place.Place.{Place}
 use Rattle.tx_engine.specs.declared.place.Place.TheVariants.{Closed, ReadingUsedId, WritingFrameWord, WritingDescAddressLow, WritingDescAddressHigh, WritingDescLength, WritingDescFlags, WritingAvailEntry, ReadingAvailEvent, Ringing}
 
--- The state of an offer of a frame of `length` bytes after a read, with `ids` ids left: the place,
--- the slots and the stored lengths. If an id is left, its read is next. If none is left and the
--- frame fits, the first word of the frame is next, and its length is stored. If the frame doesn't
--- fit, the offer is over.
+-- The state of an offer of a frame of `length` bytes after a read, with `ids` ids left. It has the
+-- place, the slots and the stored lengths. If an id is left, its read is next. If none is left and
+-- the frame fits, the first word of the frame is next, and its length is stored. If the frame
+-- doesn't fit, the offer is over.
 pub record GoesOn (old : Allocator) (lengths : List ℕ) (length ids : ℕ) (place : Place) (new : Allocator) (kept : List ℕ) : Type 0 where
   pub reads : 0 < ids → (place ≡ ReadingUsedId (ids - 1)) × (new ≡ old) × (kept ≡ lengths)
   pub fills : ids ≡ 0 → has_room_in old length ≡ true →

@@ -331,8 +331,8 @@ impl Tx {
         }
     }
 
-    /// Returns the bursts that are written before the index: the words left of the frame, the
-    /// descriptor and the available entry, in this order and without notes. Returns `None` if the
+    /// Returns the bursts that are written before the index, in order and without notes. They are
+    /// the words left of the frame, the descriptor and the available entry. Returns `None` if the
     /// next access isn't the write of a word of the frame.
     // claim with Tx::burst_words.writes, Tx::burst_words.sized, Tx::took_bursts: The bursts are all
     //    that an offer writes before its index: the rest of the frame, its descriptor and its

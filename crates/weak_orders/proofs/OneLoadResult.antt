@@ -1,4 +1,4 @@
--- A relaxed load has one result at each moment of the other from the view on: the writer of the
+-- A relaxed load has one result at each moment of the other from the view on. The writer of the
 -- word can't reuse the word yet.
 use Rattle.std.proofs.Common.{◌≡◌, ◌≢◌, ℕ, zero, suc, ◌+◌, ◌<◌, Bool, true, false, List, [], ◌∷◌, ◌++◌, length, refl, sym, ap, ◌∙◌, subst, arith, append_assoc, length-append, ne_eqb}
 use Rattle.std.specs.Prelude.{◌==◌, if◌then◌else◌}

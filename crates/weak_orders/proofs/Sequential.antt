@@ -1,4 +1,4 @@
--- Each run over sequentially consistent memory is a weak run: a load gives the newest word, and an
+-- Each run over sequentially consistent memory is a weak run. A load gives the newest word, and an
 -- end makes each full fence that it owes.
 use Rattle.std.proofs.Common.{◌≡◌, ◌≢◌, ℕ, suc, ◌+◌, ◌-◌, ◌<◌, inl, inr, Bool, true, false, refl, sym, ap, ◌∙◌, subst, arith}
 use Rattle.std.specs.Prelude.{◌==◌, if◌then◌else◌}

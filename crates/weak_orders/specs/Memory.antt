@@ -24,8 +24,8 @@ pub data Action : Type 0 where
   Receives : (k : ℕ) → Action
   Resets : Action
 
--- An end after an action: its words as it stored them, the end and its place, its view, and its own
--- moment at its last full fence. `owed` is true if it makes a full fence before its next step.
+-- An end after an action: its words as it stored them, the end and its place, its view, and the
+-- moment of its last full fence. `owed` is true if it makes a full fence before its next step.
 pub record Moment : Type 0 where
   pub action : Action
   pub words : ℕ → ℕ
@@ -89,8 +89,8 @@ Loads link_config p old new base theirs now (Takes value) = LoadsBy link_config 
 Loads link_config p old new base theirs now (Receives k) = (k < now) × Received link_config p new theirs k
 Loads link_config p old new base theirs now _ = Unit {0}
 
--- C11: sequentially consistent fences are in one order, and a load after the later fence gives a
--- store before the earlier one or a later store. Here: the view comes to the other's last fence.
+-- C11: sequentially consistent fences are in one order. A load after the later fence gives a store
+-- before the earlier one, or a later store. Here: the view comes to the other's last fence.
 abbrev pub FencedBy : (old new : Moment) → (at : ℕ) → (theirs : ℕ → Moment) → ℕ → Action → Type 0
 FencedBy old new at theirs now Fences = ((theirs now).fenced ≤ new.view) × (new.fenced ≡ at)
 FencedBy old new at theirs now _ = new.fenced ≡ old.fenced

@@ -64,8 +64,8 @@ pub record ComesTo (link_config : LinkConfig) (p : ℕ) (mine theirs : Moment) :
   pub here : pasts p (now p) ≡ mine
   pub there : pasts (1 - p) (now (1 - p)) ≡ theirs
 
--- A run continues by a load that gives the word as it was at moment i of the other, for each i from
--- the end's view on.
+-- A run continues by a load that gives the word at moment i of the other, for each i from the end's
+-- view on.
 abbrev pub LoadsMayBeStale : Type 0
 LoadsMayBeStale = (link_config : LinkConfig) (pasts : ℕ → ℕ → Moment) (now : ℕ → ℕ) (p i word : ℕ) → IsLinkConfig link_config → WeakRuns link_config pasts now → p < 2 →
     (pasts p (now p)).owed ≡ false → access_at (config_of link_config p) (pasts p (now p)).place ≡ access.Read word → (pasts p (now p)).view ≤ i → i ≤ now (1 - p) →

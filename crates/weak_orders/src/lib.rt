@@ -61,8 +61,8 @@ pub fn doorbells_follow_indexes()
     ensures { DoorbellsFollowIndexes }
 {}
 
-/// One honest end keeps its own invariant, stores to its own words alone, and stays refused until a
-/// reset, for all values that its loads give.
+/// For all values that its loads give, one honest end keeps its own invariant and stores to its own
+/// words alone. It stays refused until a reset.
 // claim: An honest end, whatever its loads return, keeps its own invariant, makes permitted
 //    accesses, stores to its own words alone, and keeps a refusal until a reset.
 pub fn ends_are_safe()

@@ -1,5 +1,5 @@
--- A property of each frame left to an automatic end is a property of the frame that it offers, and
--- of the frames left after all marks.
+-- A property of each frame left to an automatic end holds of the frame that it offers, and of the
+-- frames left after all marks.
 use Rattle.std.proofs.Common.{ℕ, Bool, true, false, List, [], ◌∷◌}
 use Rattle.std.specs.Prelude.{drop, nat_le, if◌then◌else◌}
 use Rattle.std.specs.List.{AllByRecursion}

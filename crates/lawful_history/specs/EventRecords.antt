@@ -8,8 +8,8 @@ use Rattle.lawful_history.specs.declared.line.Line.{Line}
 use Rattle.lawful_history.specs.declared.line.Line.TheVariants as line
 use Rattle.lawful_history.specs.Schedule.{Event, TurnTaken, RegionAccessed, DeviceReset, event_peer}
 
--- An event, its step, if there is one, and the lines of the devices: the interrupts that it caused,
--- or the values that a device returned.
+-- An event, its step, if there is one, and the lines of the devices. These are the interrupts that
+-- it caused, or the values that a device returned.
 pub record EventRecord : Type 0 where
   pub event : Event
   pub went : Option Step

@@ -7,8 +7,8 @@ use Rattle.section_map.specs.MayWrite.{MayWrite}
 use Rattle.lawful_history.specs.declared.line.Line.{Line}
 use Rattle.lawful_history.specs.declared.line.Line.TheVariants as line
 
--- The effect of a line on a word of the region: the value of a read, the value that a peer stored,
--- a denied write, the value that the device set, or none.
+-- The effect of a line on a word of the region: a read with its value, a peer's store, a denied
+-- write, the value that the device set, or none.
 pub data MemoryEffect : Type 0 where
   Gave : (word value : ℕ) → MemoryEffect
   Stored : (peer word value : ℕ) → MemoryEffect
@@ -60,8 +60,8 @@ LeavesValue word value line = (memory_effect_of line ≡ Set word value) ⊎ ((p
 abbrev pub DoesNotWrite : ℕ → Line → Type 0
 DoesNotWrite word line = (value : ℕ) → ¬ LeavesValue word value line
 
--- The last of these lines that leaves a value in the word leaves this one; or no line leaves a
--- value, and this one is 0.
+-- The last of these lines that leaves a value in the word leaves this one. If no line leaves a
+-- value, this one is 0.
 abbrev pub WasWrittenLast : List Line → ℕ → ℕ → Type 0
 WasWrittenLast before word value =
     ((early late : List Line) × (line : Line) × (before ≡ early ++ line ∷ late) × LeavesValue word value line × All (DoesNotWrite word) late)

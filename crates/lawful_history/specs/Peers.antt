@@ -14,7 +14,7 @@ pub record Auto : Type 0 where
   pub delivered : ℕ
   pub round : Round
 
--- The source of a peer's actions: the schedule, call by call; the rule of the automatic end; or a
+-- The source of a peer's actions: the schedule, call by call, the rule of the automatic end, or a
 -- storm, whose generator has the state x.
 pub data Driver : Type 0 where
   Waits : Driver

@@ -9,7 +9,7 @@ use Rattle.scenario_text.specs.declared.acts.Act.TheVariants as act
 use Rattle.call_grammar.specs.Calls.{Call, Tick, Stop, Offer, Poll}
 
 -- A device access: a read or write of the configuration space, the register page or the MSI-X
--- region of a peer (the device's specification; offsets and widths are in bytes).
+-- region of a peer (the device's specification). Offsets and widths are in bytes.
 pub data DeviceAccess : Type 0 where
   ReadsConfig : (offset width : ℕ) → DeviceAccess
   WritesConfig : (offset width value : ℕ) → DeviceAccess

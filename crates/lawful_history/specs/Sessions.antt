@@ -30,7 +30,7 @@ enters_run [] peer = false
 enters_run (line ∷ older) peer = if is_interrupt line then enters_run older peer else writes_state peer 3 line
 
 -- The mark of the session that a link peer enters: the number of its own session and that of the
--- other's, which is 0 against a hostile other.
+-- other's. The latter is 0 if the other is hostile.
 abbrev pub session_mark : World → List Line → ℕ → Line
 session_mark world older peer = line.Session peer (opened_in older peer) (if is_link world (partner peer) then opened_in older (partner peer) else 0)
 

@@ -16,8 +16,8 @@ abbrev pub draw : ℕ → ℕ
 draw x = x / 4294967296
 
 -- The access of three draws. The first draw chooses one of these:
--- - a write of the third draw to a word of the own section, or to a word of its descriptors and
---   rings, which the second draw chooses;
+-- - a write of the third draw to a word of the own section, or of its descriptors and rings, which
+--   the second draw chooses;
 -- - a State below 8;
 -- - a doorbell with a vector below 4 to the peer that the second draw chooses.
 abbrev pub drawn_access : World → ℕ → (kind place value : ℕ) → Access

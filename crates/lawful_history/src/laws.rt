@@ -41,9 +41,9 @@ pub fn versions_differ_in_marks()
     ensures each { HasRecordInTwo }
 {}
 
-/// Law: the peers of the computed history follow the order of their calls: the calls queued since
-/// the last reset, in order, and then the calls that the rule of an automatic end chooses, from the
-/// call before.
+/// Law: the peers of the computed history follow the order of their calls. First come the calls
+/// queued since the last reset, in order. Then come the calls that the rule of an automatic end
+/// chooses, from the call before.
 // claim: What the computed history keeps of a peer follows the order of its calls at each event:
 //    the calls asked for since the last reset, in order, and those that the rule of an automatic
 //    peer chooses by the call before.

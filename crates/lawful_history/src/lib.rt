@@ -1,7 +1,7 @@
-//! The history of a run, line by line, and the lawful histories of a scenario: the schedule, the
-//! memory law and the calls of each peer, which `specs/Lawful` combines. The crate uses
-//! `scenario_text` for scenarios and `call_grammar` for the calls. Its laws promise that a scenario
-//! has exactly one lawful history, which `specs/History` computes.
+//! The history of a run, line by line, and the lawful histories of a scenario. `specs/Lawful`
+//! combines the schedule, the memory law and the calls of each peer. The crate uses `scenario_text`
+//! for scenarios and `call_grammar` for the calls. Its laws promise that a scenario has exactly one
+//! lawful history, which `specs/History` computes.
 //!
 //! # Design
 //!

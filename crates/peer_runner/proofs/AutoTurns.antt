@@ -220,7 +220,7 @@ settled_same config r touch = same_place config r (call_chosen (chosen r)) (λ n
 
 -- The number that is met for a State step.
 
--- At the place of such a turn no number is due: before the step with 2 the session word is stored,
+-- At the place of such a turn no number is due. Before the step with 2 the session word is stored,
 -- and before the step with 3 the other's number is loaded.
 pub record IsMet (place : Place) (met : Option ℕ) (numbers : Numbers) : Type 0 where
   pub two : place ≡ WritingState 2 → (met ≢ None) × (numbers.stored ≡ true)
@@ -565,8 +565,8 @@ none_met r none = record { stored = λ number at is. none_some number (sym none 
     none_some : {P : Type 0} → (number : ℕ) → None ≡ Some number → P
     none_some number e = absurd (cc)
 
--- A turn that is taken to the end of its step: its call was opened, its step was done and taken,
--- and its notes were counted.
+-- A turn up to the end of its step: its call was opened, its step was done and taken, and its notes
+-- were counted.
 pub turn_taken : (key : RunSetup) (me : ℕ) (routes : List Route) (done : Done) (r : Runner) (answer : Option Choice) (old pass : PassView) (p : AutoPeer) (new : Plan) (e1 e2 : Engine) (a : Access) (notes : List Note) → honest_of key me ≡ true →
     Turns key me routes r answer old p → RefinesAt e1 (config_in key me) r.end (place_in (config_in key me) r) → is_open (place_in (config_in key me) r) ≡ true → a ≡ access_at (config_in key me) (place_in (config_in key me) r) →
     IsDone p.ringing (is_guarded (doorbell_path_in routes a)) done → awaits_ring done ≡ false → pass ≡ made old (done_of routes (call_chosen_by answer p.driven.auto.frames) a done) → Takes e1 (value_done done) notes e2 →

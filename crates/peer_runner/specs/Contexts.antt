@@ -95,7 +95,7 @@ abbrev pub WasReset : PeerContext → Plan → List ℕ → Runner → PassView 
 WasReset context plan spans r pass peer lines result = (next : Runner) × IsOn context plan spans next pass peer ×
     IfOk result (λ went. Records context next lines × WentTo (later r.spans) r next went × (has_finished r ≡ not went))
 
--- Before a span of `span` turns: the peer is on its trajectory, `turns` is the number of turns that
+-- Before a span of `span` turns the peer is on its trajectory. `turns` is the number of turns that
 -- it took, and `lines` are the lines of these turns.
 abbrev pub IsBeforeSpan : PeerContext → ℕ → PassView → AutoPeer → ℕ → List Line → Type 0
 IsBeforeSpan context span pass peer turns lines = (plan : Plan) × (spans : List ℕ) × (r : Runner) × (rest : List ℕ) ×

@@ -67,9 +67,9 @@ abbrev pub MayDrive : RunSetup → ℕ → Driver → Type 0
 MayDrive key p (Auto plan end) = MayBeAuto key p plan end
 MayDrive key p (Storm seed geometry queue) = (p < key.geometry.peers) × (honest_of key p ≡ false) × (geometry ≡ key.geometry) × (queue ≡ key.queue)
 
--- The list `list` leaves an honest peer in its state after the turns `taken`, and a reader of the
--- lines of these turns agrees with the list. If the peer never bore the mark of a refusal, the
--- lines have no refusal.
+-- The list `list` leaves an honest peer in its state after the turns `taken`. A reader of the lines
+-- of these turns agrees with the list. If the peer never bore the mark of a refusal, the lines have
+-- no refusal.
 pub record IsLeft (key : RunSetup) (p : ℕ) (list : List (Action (MemoryOp CallAccess))) (taken : List Turn) (after : Peer) : Type 0 where
   pub end : (derived_state key p (accesses_in list)).end ≡ after.end
   pub recorded : ReaderMatches (derived_state key p (accesses_in list)) (reader_of_lines (event_word (config_in key p)) (lines_of_turns p taken))

@@ -1,6 +1,6 @@
 -- The own record of a running peer. Its turns are the steps of its calls, or the first steps of its
--- storm, with its looks, its doorbells, the accesses to session words and its resets. Its list has
--- what it did to the words by these turns, and its trace records the turns.
+-- storm. Among them are its looks, its doorbells, the accesses to session words and its resets. Its
+-- list has what it did to the words by these turns, and its trace records the turns.
 use Rattle.std.specs.Prelude.{ℕ, ◌≡◌, ◌≤◌, ◌==◌, false, if◌then◌else◌, List, [], ◌∷◌, length}
 use Rattle.std.specs.List.{flat_map}
 use Rattle.scenario_text.specs.declared.acts.Act.{Act}

@@ -1,6 +1,6 @@
--- What the rule says between any two accesses: of all peers, of each honest link peer whatever the
--- other one stores, and of two honest ones. A part is stated over the key, the words, the lists of
--- memory operations and one of the two link peers, p; the other one is 1 - p.
+-- The rule's statements between any two accesses: of all peers, of each honest link peer for all
+-- stores of the other, and of two honest ones. A part is stated over the key, the words, the lists
+-- of memory operations and one of the two link peers, p. The other one is 1 - p.
 use Rattle.std.specs.Prelude.{ℕ, suc, ◌≡◌, ◌≢◌, ◌+◌, ◌-◌, ◌/◌, ◌%◌, ◌^◌, ◌<◌, ◌≤◌, ◌⊎◌, true, false, Option, Some, None, List, [], ◌∷◌, ◌++◌, length, slice_index, set, Contains}
 use Rattle.atomic_table.specs.Table.{State}
 use Rattle.section_map.specs.Geometry.{section_start, word_count}
@@ -30,8 +30,8 @@ use Rattle.shared_words.specs.Interrupts.{Interrupts, Doorbells}
 use Rattle.shared_words.specs.Rules.{region, session_words, accesses_by, Memory, TableInvariant}
 use Rattle.peer_runner.specs.ListStates.{last_written, last_state, has_written, call_writes}
 
--- The end and the place in which its list leaves a peer, and how many frames it has freed: one more
--- with each id that it read.
+-- The end and the place in which its list leaves a peer, and the number of frames that it has
+-- freed. Each id that it read adds one.
 
 abbrev pub end_by : RunSetup → (ℕ → List (MemoryOp CallAccess)) → ℕ → End
 end_by key acc p = (derived_state key p (acc p)).end
@@ -50,7 +50,7 @@ InSession phase = (phase ≡ Ready) ⊎ (phase ≡ Run)
 abbrev pub section_words : RunSetup → (ℕ → ℕ) → ℕ → ℕ → ℕ
 section_words key memory p w = memory (section_start key.geometry p + w)
 
--- A part holds in each state of the table that the rule keeps: of each honest link peer
+-- A part holds in each state of the table that the rule keeps. It holds of each honest link peer
 -- (`OfEachHonest`), or of each of the two if both are honest (`OfTwoHonest`). By
 -- `WhereEitherAttends`, a part holds as soon as either attends to the other's session, in RUN or
 -- about to set it.
@@ -85,7 +85,7 @@ abbrev pub StoresAreOwned : Type 0
 StoresAreOwned = (key : RunSetup) (s : State ℕ View) (kept : TableInvariant key s) (p : ℕ) (t : CallAccess) →
     Contains (accesses_by kept.acc p) (called t) → IsOwned key p t.access
 
--- Of each peer and each bit: the looks that found the bit, plus one if it is set now, are at most
+-- For each peer and each bit the looks that found the bit, plus one if it is set now, are at most
 -- the rings that set it. Of each peer's Interrupt Control: its bit, plus the number of clears that
 -- found it set, equals the bit before any action. At a one-shot peer each ring comes after such a
 -- clear of the same list.
@@ -111,8 +111,8 @@ pub record WordsAreWritten (key : RunSetup) (memory : ℕ → ℕ) (acc : ℕ �
   pub state : memory p ≡ last_state (acc p)
 
 -- In RESET it wrote no word after its last write of State, or its last reset. While a tick clears
--- its section it is in INIT, and the words that were cleared, from the first on, are 0; as the tick
--- is about to set READY, all of them are. In READY the section is 0, and nothing is listed or
+-- its section it is in INIT, and the words that were cleared, from the first on, are 0. As the tick
+-- is about to set READY, all of them are 0. In READY the section is 0, and nothing is listed or
 -- counted.
 pub record WordsFollowPhases (key : RunSetup) (memory : ℕ → ℕ) (acc : ℕ → List (MemoryOp CallAccess)) (p : ℕ) : Type 0 where
   pub reset : (end_by key acc p).handshake.phase ≡ Reset → has_written (acc p) ≡ false
@@ -257,9 +257,9 @@ pub record PairInvariant (key : RunSetup) (memory : ℕ → ℕ) (acc : ℕ → 
   pub named : (k : ℕ) → freed_by key acc p ≤ k → k < (end_by key acc (1 - p)).returned →
       id_at key.queue (section_words key memory (1 - p)) k ≡ k % limit_of key.queue
 
--- In a link with events: the event word of one, as it wrote that word last, asks for a doorbell at
--- a frame of the session that it carried then. The other's offer of that frame, once it has read
--- the event, goes on to the doorbell.
+-- In a link with events the event word of one, as it wrote that word last, requests a doorbell at a
+-- frame of the session carried then. The other's offer of that frame, once it has read the event,
+-- goes on to the doorbell.
 abbrev pub AskedIsRung : RunSetup → (ℕ → ℕ) → (ℕ → List (MemoryOp CallAccess)) → ℕ → Type 0
 AskedIsRung key memory acc p = has_events key.queue ≡ true → (frame : FrameNumber) → (derived_state key p (acc p)).wake.asked ≡ At frame →
     ¬ Contains (derived_state key (1 - p) (acc (1 - p))).wake.missed frame
@@ -292,8 +292,8 @@ ReadValuesAreAsSent key memory acc p = IsAsSent key.queue (end_by key acc (1 - p
 
 -- A hostile link peer.
 
--- Each word of the region is below 2^32. If a hostile peer stores a number below 2^32 in its
--- section or in its State word, the rule holds with the same lists of the others.
+-- Each word of the region is below 2^32. The rule holds with the same lists of the others if a
+-- hostile peer stores a number below 2^32 in its section or State word.
 pub record HostileWordsAreFree : Type 0 where
   pub below : (key : RunSetup) (s : State ℕ View) (kept : TableInvariant key s) (w : ℕ) → w < word_count key.geometry → slice_index s.words w < 2 ^ 32
   pub free : (key : RunSetup) (s : State ℕ View) (kept : TableInvariant key s) (p w n : ℕ) → p < key.geometry.peers → honest_of key p ≡ false →

@@ -1,8 +1,8 @@
 -- The running record of a scenario has an own record for each running peer, by the list of its
 -- actions. Of all peers, no interrupt came unrung. Of two honest link peers, each delivered in each
--- session a beginning of what the other accepted in the session that it carries, and rang if the
--- other asked. The sessions of an honest peer whose other is hostile carry none. The record states
--- no order between peers.
+-- session a beginning of what the other accepted in the session carried. Each rang if the other
+-- requested a doorbell. The sessions of an honest peer whose other is hostile carry none. The
+-- record states no order between peers.
 use Rattle.std.specs.Prelude.{ℕ, ◌≡◌, ◌+◌, ◌-◌, ◌<◌, ◌≤◌, ◌==◌, ◌&&◌, ◌||◌, Bool, true, false, if◌then◌else◌, All, Contains, List, [], ◌∷◌, ◌++◌}
 use Rattle.std.specs.List.{flat_map, list_any}
 use Rattle.split_ring.specs.Layout.{has_events}
@@ -135,8 +135,8 @@ pub record ArePaired (world : World) (parts : List Part) : Type 0 where
 abbrev pub CarryNone : World → List Part → Type 0
 CarryNone world parts = (p : ℕ) → p < 2 → is_link world p ≡ true → is_link world (1 - p) ≡ false → CarriesNone (reader_of_part world parts p).log
 
--- If the event word of a peer, as it wrote the word last, requests a doorbell at a frame of the
--- session that it carried then, the other's offer of that frame didn't end without it.
+-- The event word of a peer, as it wrote the word last, requests a doorbell at a frame of the
+-- session that it carried then. The other's offer of that frame didn't end without the doorbell.
 abbrev pub AreWoken : World → List Part → Type 0
 AreWoken world parts = (p : ℕ) (frame : FrameNumber) → p < 2 → (reader_of_part world parts p).asked ≡ At frame →
     ¬ Contains (reader_of_part world parts (1 - p)).missed frame

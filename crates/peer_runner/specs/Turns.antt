@@ -94,8 +94,8 @@ TakesStep config storm _ peer step after = (left : CallTree) × Goes (opened con
 abbrev pub sleeps : EndConfig → End → Auto → Bool
 sleeps config end auto = is_armed config end && is_empty auto.frames
 
--- A peer whose interrupts are enabled looks before each choice: once, or, if it sleeps, until a
--- look has found a bit, at most 64 times.
+-- A peer whose interrupts are enabled looks before each choice. It looks once or, if it sleeps,
+-- until a look has found a bit, at most 64 times.
 abbrev pub looks_due : EndConfig → End → CallTree → Driver → ℕ
 looks_due config end Ended (Chooses auto) = if sleeps config end auto then 64 else 1
 looks_due config end _ _ = 0
@@ -181,9 +181,9 @@ pub record ComesToSet (config : EndConfig) (storm : ℕ → Step) (routes : List
   pub sets_it : sets state run.peer.driver step.access ≡ true
 
 -- A look, a step and each part of a doorbell are turns of the span. A peer that chooses its calls
--- stores the number of the session that it opens right before its State step with 2, and loads the
--- other's number right before its State step with 3, which bears both numbers. If the turns of a
--- span are taken and another span follows, the peer is reset, unless it is finished.
+-- stores the number of the session that it opens right before its State step with 2. It loads the
+-- other's number right before its State step with 3, which has both numbers. If the turns of a span
+-- are taken and another span follows, the peer is reset, unless it is finished.
 abbrev pub TakesTurn : EndConfig → (ℕ → Step) → List Route → Running → Turn → Running → Type 0
 TakesTurn config storm routes run (Looks found) after = (has_turn_left run.spans ≡ true) × (looks_next config (route_to routes config.me) run ≡ true) ×
     (after ≡ record run { looks = looks_after run.looks found; spans = spent run.spans })

@@ -330,9 +330,9 @@ fn drive_plan<G: Gate>(
 /// Takes the turns of a plan's peer, and waits for no other peer. Between two spans the peer is
 /// reset.
 ///
-/// Requires that the pass is of the words and of this peer alone, with an empty list, that the
-/// driver is at its start, and that the words were made with the routes. Returns the peer's own
-/// trace, without its quiet calls, once all turns are taken or the peer is finished.
+/// Requires that the pass is of the words and of this peer alone, with an empty list. The driver is
+/// at its start, and the words were made with the routes. Returns the peer's own trace, without its
+/// quiet calls, once all turns are taken or the peer is finished.
 ///
 /// Returns `NoMemory` if an allocation fails. Then the pass has the actions so far. The gate's
 /// `ended` is called once in either case.

@@ -6,8 +6,8 @@ ghost use Rattle.peer_runner.specs.RunningLaws.{OpenOfferStores, ReadValuesAreIn
 ghost use Rattle.peer_runner.specs.RunningLaws.{HostileSessionsAreNone, SessionsArePaired, WhereEitherAttends, PairInvariant, AskedIsRung};
 ghost use Rattle.peer_runner.specs.RunningLaws.{ReadValuesAreAsSent, HostileWordsAreFree};
 
-/// The words of the region and of the sessions are what the memory operations of all lists made of
-/// them, one after another in some order.
+/// The memory operations of all lists, one after another in some order, made the words of the
+/// region and of the sessions.
 // claim with stores_are_owned: At each moment the words of the region and the session words are
 //    what the memory operations of all lists, in some order, made of them. Each store in a list is
 //    to a word that its peer may write.
@@ -146,8 +146,8 @@ pub fn pair_invariant_holds()
     ensures { OfTwoHonest (WhereEitherAttends PairInvariant) }
 {}
 
-/// In a link with events: if an honest link peer asks the other honest one for a doorbell at a
-/// frame, then no offer of that frame ends without a doorbell. A request holds until the peer
+/// In a link with events, if an honest link peer requests a doorbell at a frame from the other
+/// honest one, then no offer of that frame ends without a doorbell. A request holds until the peer
 /// writes its event word again, through State writes and resets. It names a frame of the session
 /// that the peer carried at its look.
 // claim: In a link with events, where the event word of one of two honest link peers, as it wrote

@@ -103,8 +103,8 @@ fn seed_for(scenario: &Scenario, me: u32) -> u64
     seed
 }
 
-/// The driver of a peer that has a turn line: the rule of the automatic peer at an honest end of
-/// the link, else its storm.
+/// The driver of a peer that has a turn line. It is the rule of the automatic peer at an honest end
+/// of the link, else its storm.
 fn driver_for(alloc: Global, scenario: &Scenario, me: u32) -> Result<Driver, NoMemory>
     requires there { me < scenario.now.geometry.peers }
     requires running { not_running (world_of scenario.now) ≡ None }

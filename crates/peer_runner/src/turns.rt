@@ -236,7 +236,7 @@ fn opened_after(opened: u32, access: Access) -> u32
 }
 
 /// Takes a turn that is no look and meets no number. The turn is the next step of the open call,
-/// the first one of the chosen call, or the ring that is left of a doorbell.
+/// the first step of the chosen call, or the ring left of a doorbell.
 ///
 /// Returns `NoMemory` if an allocation fails. Then the turn was taken, and its lines may be
 /// missing.

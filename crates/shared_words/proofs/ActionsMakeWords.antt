@@ -1,5 +1,5 @@
--- What happened to all words, as memory operations made the words of the region and of the sessions
--- of it; and what interrupt words keep by it.
+-- All words, as memory operations made the words of the region and of the sessions, and the facts
+-- that interrupt words keep by it.
 use Rattle.std.proofs.Common.{◌≡◌, ℕ, ◌+◌, ◌*◌, ◌<◌, ◌≤◌, inl, inr, List, [], get_or, refl, sym, ap, ◌∙◌, subst, arith}
 use mathlib.Core.Logic.{dite}
 use native.Mathlib.Decide.{dec_lt}

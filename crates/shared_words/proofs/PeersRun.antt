@@ -1,5 +1,5 @@
--- Where the two ends come, each honest or not, while peers run: the honest ones begin calls, take
--- their steps, number their sessions and are reset.
+-- The states of the two ends, each honest or not, while peers run. The honest ones begin calls,
+-- take their steps, number their sessions and are reset.
 use Rattle.std.specs.Prelude.{ℕ, ◌≡◌, ◌≢◌, ◌+◌, ◌-◌, ◌<◌, Bool, true}
 use Rattle.call_grammar.specs.Calls.{Call, Stop}
 use Rattle.call_grammar.specs.Places.{Closed, WritingState, access_at, is_open}

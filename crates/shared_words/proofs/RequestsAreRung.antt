@@ -1,5 +1,5 @@
--- A doorbell that a running peer asked for is rung: what two honest ends keep between them of what
--- one asks for and what the other missed.
+-- A doorbell that a running peer requested is rung. The invariant of two honest ends has the
+-- requests of one and what the other missed.
 use Rattle.std.proofs.Common.{◌≡◌, ◌≢◌, ℕ, zero, suc, ◌+◌, ◌-◌, ◌≤◌, ◌⊎◌, inl, inr, ⊎_elim, Bool, true, false, List, [], ◌∷◌, ◌++◌, length, length-append, refl, sym, ap, ◌∙◌, subst, arith, eq-eqb, ne_eqb}
 use Rattle.std.specs.Prelude.{◌==◌, nat_le, if◌then◌else◌, Contains, ◌%◌}
 use Rattle.std.proofs.lemmas.List.Elements.{Contains-append_cases}
@@ -505,8 +505,8 @@ look_rings taken zero false true = λ e. cc
 look_rings taken (suc d) last true = subst (λ (b : Bool). (if b then none_place taken last else items_place taken (suc d)) ≢ RingingOffer) (sym (more_than d)) (items_rings taken (suc d))
 look_rings taken d last false = λ e. cc
 
--- In a link with events a step leads to the doorbell of an offer from the read of the event alone,
--- where that asks for it.
+-- In a link with events a step leads to the doorbell of an offer only from the read of an event
+-- that wants it.
 pub rings_from : (config : EndConfig) (place : Place) (value : ℕ) → has_events config.sizes ≡ true → is_open place ≡ true → next_place config place value ≡ RingingOffer → (number : ℕ) × (place ≡ ReadingAvailEvent number) × (wants_doorbell (low_half value) number ≡ true)
 rings_from config (ReadingAvailEvent number) value ev goes e = (number, refl, if_rings (wants_doorbell (low_half value) number) e)
 rings_from config (ReadingOtherState handshake) value ev goes e = absurd (tick_rings config (move_of handshake value) e)

@@ -1,5 +1,5 @@
--- The states of all words of a table: one action after another, each a step on one word, and one
--- more element in its peer's list.
+-- The states of all words of a table, one action after another. Each action is a step on one word,
+-- and one more element in its peer's list.
 use Rattle.std.specs.Prelude.{ℕ, ◌≡◌, ◌-◌, ◌^◌, ◌<◌, List, [], bit_or, bit_and, slice_index}
 use Rattle.link_invariant.specs.Steps.{Stored, ReadsMemory, MemoryAfter}
 use Rattle.shared_words.specs.declared.run_setup.RunSetup.{RunSetup}
@@ -12,8 +12,8 @@ use Rattle.shared_words.specs.SharedMemory.{Appends, MayTake, MayStoreSession, M
 abbrev pub without_first : ℕ → ℕ
 without_first n = bit_and n 18446744073709551614
 
--- The words are those of the start and all lists empty; or a peer makes one more action, by which
--- every word stays except the one that it stores in:
+-- The words are those of the start and all lists are empty. Or a peer makes one more action, by
+-- which every word stays except the one that it stores in:
 -- * an access: a read gives the word, and a store changes that word;
 -- * a store of its session word, a load of the other's, or a reset: a store of 0 in its state word;
 -- * a ring: one bit is set in the interrupt word of the target;

@@ -54,8 +54,8 @@ memory_op_by f (carried number) = carried number
 memory_op_by f restarted = restarted
 
 -- A frame of a link peer, by the number of the peer's session and its own number in that session,
--- from 0. `accepted_last` is the frame that was accepted last, in the session opened last, and
--- `delivered_next` the next frame to deliver, of the other's session that is carried.
+-- from 0. `accepted_last` is the frame that was accepted last, in the session opened last.
+-- `delivered_next` is the next frame to deliver, of the other's session that is carried.
 pub record FrameNumber : Type 0 where
   pub session : ℕ
   pub number : ℕ

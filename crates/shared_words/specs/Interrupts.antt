@@ -96,7 +96,7 @@ FollowsClears target list = (n : ℕ) → count_in (rings_target target) (take n
 abbrev pub MayRing : {A : Type 0} → (target : ℕ) → List (Action A) → Type 0
 MayRing target list = count_in (rings_target target) list < count_in (clears_set_bit target) list
 
--- Of each target and bit: the looks that found the bit, plus one if it is set now, are at most the
+-- For each target and bit the looks that found the bit, plus one if it is set now, are at most the
 -- rings of all peers. Bit 0 of the target's Interrupt Control, plus the number of clears of all
 -- peers that found it set, equals this bit at the start. At a one-shot target each ring comes after
 -- such a clear.

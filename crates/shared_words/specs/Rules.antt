@@ -133,8 +133,8 @@ pub record SessionsAreLearned (key : RunSetup) (acc : ℕ → List (MemoryOp Cal
 abbrev pub CarriesNone : Log → Type 0
 CarriesNone log = (log.carried ≡ 0) × All (λ (session : Ended). session.carried ≡ 0) log.ended
 
--- If one of them requests a doorbell at a frame of the session that it carried then, the other's
--- offer of that frame didn't end without it.
+-- If one of them requests a doorbell at a frame of the session carried then, the other's offer of
+-- that frame didn't end without it.
 abbrev pub NoneIsMissed : RunSetup → (ℕ → List (MemoryOp CallAccess)) → Type 0
 NoneIsMissed key acc = (p : ℕ) (frame : FrameNumber) → p < 2 → (derived_state key p (acc p)).wake.asked ≡ At frame →
     ¬ Contains (derived_state key (1 - p) (acc (1 - p))).wake.missed frame

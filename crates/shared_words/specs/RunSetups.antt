@@ -1,5 +1,5 @@
 -- The parts of a scenario on which the rule of a table depends: its sizes, its wiring, its honest
--- link peers, and how peers take interrupts.
+-- link peers, and the peers' interrupts.
 use Rattle.std.specs.Prelude.{◌≡◌, ℕ, ◌*◌, ◌<◌, ◌≤◌, ◌==◌, if◌then◌else◌, Bool, false, []}
 use Rattle.section_map.specs.Geometry.{IsShape, section_start}
 use Rattle.split_ring.specs.Layout.{IsQueue}

@@ -13,7 +13,7 @@ use crate::words::{Pass, Words};
 use atomic_table::Play;
 use std::marker::Brand;
 
-/// The index of a peer's interrupt word. The interrupt words follow those of the region; the next
+/// The index of a peer's interrupt word. The interrupt words follow those of the region. The next
 /// word is the peer's Interrupt Control, and the two session words are the last of all.
 fn interrupt_word(words: &Words, peers: u32, peer: u32) -> usize
     requires { (peer < peers) × (2 * peers + 2 ≤ words.now.shared.table_id.words) }

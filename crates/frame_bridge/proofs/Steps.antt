@@ -1,5 +1,5 @@
--- The effect of a step on the frames of an end: those that it accepts and delivers, and the frame
--- of the open offer after it.
+-- The effect of a step on the frames of an end. They are those that it accepts and delivers, and
+-- the frame of the open offer after it.
 use Rattle.std.proofs.Common.{◌≡◌, ℕ, zero, suc, ◌+◌, Bool, true, false, List, [], ◌∷◌, ◌++◌, length, drop, refl, sym, ap, ◌∙◌, append_assoc, inl, inr, ◌-◌, eqb-true}
 use Rattle.std.specs.Prelude.{◌⊎◌, ◌==◌, if◌then◌else◌, Some, None, ◌%◌}
 use Rattle.std.proofs.lemmas.List.{append-nil}

@@ -1,6 +1,6 @@
--- The classic capture file of Ethernet frames (libpcap's savefile format, version 2.4): a header of
--- 24 bytes, and then the packets, each after 16 bytes of its own. The byte order of the magic
--- number is that of all numbers.
+-- The classic capture file of Ethernet frames (libpcap's savefile format, version 2.4). It has a
+-- header of 24 bytes, and then the packets, each after 16 bytes of its own. The byte order of the
+-- magic number is that of all numbers.
 use Rattle.std.specs.Prelude.{◌≡◌, ℕ, ◌^◌, ◌<◌, ◌≤◌, List, ◌++◌, All, length, drop}
 use Rattle.std.specs.List.{flat_map}
 use Rattle.byteorder.specs.Endian.{little_number, big_number, little_bytes, big_bytes}

@@ -1,8 +1,7 @@
 //! Capture files: the classic format that tcpdump writes, of Ethernet frames with their times. The
 //! crate uses `ivs_base` for frames and `byteorder` for numbers in either byte order. Its contracts
 //! promise that what `print` writes is a file of the capture. They promise that `parse` returns a
-//! capture exactly if the bytes are a file of it, and that each fault is the first one in reading
-//! order.
+//! capture exactly if the bytes are a file of it. Each fault is the first one in reading order.
 // tested: That tshark reads the files (`checks/capture`).
 #![tactic(auto)]
 

@@ -25,8 +25,8 @@ picture_of kind (Some span) = Some (record { kind = kind; span = span })
 abbrev pub text_of : (word : List ℕ) → Option Span → Option Form
 text_of word span = if bytes_eq word (codes "--text") then picture_of Text span else None
 
--- The meaning of the words: a picture of all lines, or of those from one number to another, as an
--- SVG file or as a text. Or the program doesn't know the words.
+-- The meaning of the words: a picture of all lines, or of those between two numbers, as an SVG file
+-- or as a text. Or the program doesn't know the words.
 abbrev pub form_of : List (List ℕ) → Option Form
 form_of [] = picture_of Svg (Some all)
 form_of (word ∷ []) = text_of word (Some all)

@@ -14,7 +14,7 @@ use std::alloc::Global;
 /// The usage line, which lists the program's words.
 const USAGE: &[u8] = b"usage: ivshm_chart [--text] [FROM TO]\n";
 
-/// Runs the program's words, its arguments after its name: reads a record to its end, and writes
+/// Runs the program's words, its arguments after its name. Reads a record to its end, and writes
 /// the picture of the lines asked for, as an SVG file or as a text for a terminal. Nothing is
 /// written before the text is complete.
 ///

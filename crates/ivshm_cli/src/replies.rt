@@ -188,8 +188,8 @@ fn renewed(alloc: Global, bytes: &[u8]) -> Result<Reply, NoReply>
     }
 }
 
-/// Returns the capture file of the frames that `peer` delivers in the record spelled by the bytes,
-/// or the first difference of a history that isn't the lawful one.
+/// Returns the capture file of the frames that `peer` delivers in the record spelled by the bytes.
+/// If its history isn't the lawful one, returns the first difference.
 fn captured(alloc: Global, peer: u32, bytes: &[u8]) -> Result<Reply, NoReply>
     requires peer { peer < 2 }
     requires short { length bytes.now < 2 ^ 32 }

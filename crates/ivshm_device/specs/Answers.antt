@@ -138,14 +138,14 @@ shape_in w = shape_of w.peers w.table w.common w.out
 abbrev pub IsBase : World → Type 0
 IsBase w = (w.base % 4096 ≡ 0) × (w.base + 4 * word_count (shape_in w) ≤ 2 ^ 64)
 
--- The place at which guests find a region of this size: its base, or with base 0 the smallest
--- window of BAR 2 that holds the region.
+-- The place at which guests find a region of this size. It is its base, or with base 0 the smallest
+-- window of BAR 2 that holds it.
 abbrev pub IsPlaceOf : (bytes base : ℕ) → RegionPlace → Type 0
 IsPlaceOf bytes base (Address a) = (a ≡ base) × (base ≢ 0)
 IsPlaceOf bytes base (Bar2 bits) = (base ≡ 0) × ((bytes ≤ 2 ^ bits) × (2 ^ bits < 2 * bytes))
 
--- Worlds of which devices are made, unless memory runs out: at most 64 vectors, at most 8 peers,
--- the sizes of a region, and a base.
+-- Worlds of which devices are made, unless memory runs out. They have at most 64 vectors, at most 8
+-- peers, the sizes of a region, and a base.
 abbrev pub MayMake : World → Type 0
 MayMake w = (w.vectors ≤ 64) × ((w.peers ≤ 8) × (IsShape (shape_in w) × IsBase w))
 

@@ -4,8 +4,8 @@ use Rattle.std.specs.Prelude.{ℕ, ◌≡◌, ◌≢◌, ◌==◌, ◌&&◌, ◌
 use Rattle.doorbell_irq.specs.Events.{Devices, Event, ConfigWritten, RegisterWritten, MsixWritten, WasReset, WasDisconnected, WasConnected, doorbell_register, state_register, doorbell_target}
 use Rattle.doorbell_irq.specs.DeviceRules.{state_in, is_connected, bytes_after}
 
--- Whether the process of a peer may leave an event out: a write of another peer that is no write of
--- State, and no doorbell with the peer as its target.
+-- Whether the process of a peer may leave an event out. The event is a write of another peer, but
+-- no write of State and no doorbell with the peer as its target.
 abbrev pub may_leave_out : (peer : ℕ) → Event → Bool
 may_leave_out peer (ConfigWritten p offset width value) = not (p == peer)
 may_leave_out peer (RegisterWritten p offset value) =

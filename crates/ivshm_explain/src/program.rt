@@ -28,8 +28,8 @@ fn read_of<S: Source>(alloc: Global, form: Command, source: &mut S) -> Result<Ve
     }
 }
 
-/// Runs the words of the program, which are its arguments after its name and those of `ivshm`:
-/// reads what that form reads to its end, and explains what `ivshm` answers to it. Nothing is
+/// Runs the words of the program, which are its arguments after its name and those of `ivshm`.
+/// Reads the input of that form to its end, and explains the answer of `ivshm` to it. Nothing is
 /// written before the explanation is whole. `load N` reads nothing, and is never refused. The
 /// status is that of `ivshm` on the same words and bytes.
 // claim cause: Each status has its cause. An explanation begins with the line that `ivshm` answers
@@ -69,8 +69,8 @@ pub fn explain<S: Source, K: Sink>(
     }
 }
 
-/// The status of the program on the words that it was given, or on words that can't be had: a word
-/// that isn't UTF-8 is no form.
+/// The status of the program on its words, or on words that can't be had. A word that isn't UTF-8
+/// is no form.
 pub fn status_of_words<S: Source, K: Sink>(
     alloc: Global,
     words: Result<Vec<String>, WordsFault>,

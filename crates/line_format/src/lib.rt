@@ -1,8 +1,8 @@
-//! The common part of all texts: reading a text line by line, cutting bytes into lines and lines
-//! into fields, numbers in decimal and bytes as hex digits. Forms of lines are tables of pieces.
-//! Short lines are built from their end, without a table. A text of such forms is a `Grammar`: the
-//! tests of its lines and their order stand here, once for all texts, as do the laws of all texts.
-//! What was read is kept in lists.
+//! The common part of all texts. A text is read line by line, bytes are cut into lines and lines
+//! into fields, numbers are decimal and bytes hex digits. Forms of lines are tables of pieces.
+//! Short lines are built from their end, without a table. A text of such forms is a `Grammar`. The
+//! tests of its lines, their order, and the laws of all texts are here, once for all. What was read
+//! is kept in lists.
 //!
 //! The crate uses `ivs_base`, `arrayvec`, `hex`, `itoa` and `memchr`. Its contracts promise for
 //! every table of forms that reading a form's fields and writing them are one relation, so each

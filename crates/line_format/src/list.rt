@@ -21,7 +21,7 @@ impl<T> Model for List<T> {
 }
 
 /// Reserves space for one more item if there is none. It keeps `push` short enough to be inlined.
-/// Then an item is written to its place field by field; otherwise it is built elsewhere and copied,
+/// Then an item is written to its place field by field. Otherwise it is built elsewhere and copied,
 /// and the copy waits for the fields that were just written.
 fn make_room<T>(items: &mut Vec<T>) -> Result<(), NoMemory>
     ensures items { items.new.items ≡ items.old.items }

@@ -105,8 +105,8 @@ fn copy_of_flags(alloc: Global, flags: &Flags) -> Result<Flags, NoMemory>
     Ok(copy)
 }
 
-/// The parts of a scenario. Unlike a `Scenario` they come with no proof that a text spells them, so
-/// one part can be borrowed while another field of the owner changes.
+/// The parts of a scenario. Unlike a `Scenario` they have no proof that a text spells them. So one
+/// part can be borrowed while another field of the owner changes.
 #[derive(Drop)]
 pub struct ScenarioParts {
     pub version: u32,

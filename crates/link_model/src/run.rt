@@ -54,9 +54,9 @@ impl Run {
     }
 
     /// Takes the next line of the history. Returns `Unlawful`, with the line's number and the law
-    /// that it breaks, exactly if no lawful history of the scenario continues with this line in a
-    /// record of the run's version. Returns `NoMemory` if memory ran out. After a fault each step
-    /// returns that fault.
+    /// that it breaks, exactly if no lawful history continues with this line. The histories are
+    /// those of the scenario, in a record of the run's version. Returns `NoMemory` if memory ran
+    /// out. After a fault each step returns that fault.
     // claim taken, lawful: A step is Ok exactly if what a record of the run's version holds of each
     //    lawful history of the scenario begins with the lines taken and this one.
     // claim cause: `Unlawful` has the number of the first line that differs, from 1, and the law

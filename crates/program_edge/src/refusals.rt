@@ -62,8 +62,8 @@ pub struct Refusal {
     pub reason: Reason,
 }
 
-/// Returns the `refused` line with the fault's name and its place: the number of a line or of a
-/// packet, or 0 for the input as a whole.
+/// Returns the `refused` line with the fault's name and its place. The place is the number of a
+/// line or of a packet, or 0 for the whole input.
 fn place_line(alloc: Global, name: &'static str, number: u64) -> Result<Vec<u8>, AllocError>
     ensures { IfOk result (λ v. v.items ≡ place_line_of name.now number) }
 {

@@ -1,8 +1,7 @@
 //! A picture of a record. It has the lines of a history that share a row, the arrows from a frame's
-//! acceptance to its delivery, and the SVG file or the text. The crate uses `record_text` for
-//! records. Its contracts promise that the rows are the lines of the record, each once and in
-//! order. They promise that a delivered frame of an honest pair has the arrow from its own
-//! acceptance.
+//! acceptance to its delivery, and the SVG file or text. The crate uses `record_text` for records.
+//! Its contracts promise that the rows are the lines of the record, each once and in order. They
+//! promise that a delivered frame of an honest pair has the arrow from its own acceptance.
 //!
 //! # Design
 //!
@@ -11,7 +10,7 @@
 //!   lines that are left out. Lines after the last one asked for change nothing. `picture_of_front`
 //!   promises this, and returns nothing if more lines are needed. So `ivshm_chart` reads the rest
 //!   of a large record, judges it and drops it.
-//! - The rows are defined from the end: a line is put before the rows of the lines after it, into
+//! - The rows are defined from the end. A line is put before the rows of the lines after it, into
 //!   the first of them if that row continues it. The code goes the other way, with the row that
 //!   grows. `rows_are_the_lines` is a law on the definition.
 //! - Writes of a storm are folded, and those of a scenario's `poke` lines are not, since they are

@@ -93,7 +93,7 @@ fn words_of(
     }
 }
 
-/// Puts the cells of a row: the label in the column of its peer, and a bar in each column whose
+/// Writes the cells of a row: the label in the column of its peer, and a bar in each column whose
 /// peer has an open call.
 fn put_cells(
     page: &mut Page,

@@ -93,8 +93,8 @@ pub fn put_bands(
     put_band(sheet, peer, state, from, rows.len())
 }
 
-/// Returns the name of the call that a line belongs to, as far as the line shows it, or `None` if
-/// it belongs to no call.
+/// Returns the name of the call of a line, as far as the line shows it, or `None` if it belongs to
+/// no call.
 pub fn call_of(line: &Line) -> Option<&'static str> {
     match line {
         Line::Saw { .. } => Some("tick"),

@@ -1,23 +1,22 @@
 //! Records as values and as text, in version 1 or 2: a scenario with a history of it, lawful or
 //! not. It uses `scenario_text` for the scenario's text, `lawful_history` for the lines of a
 //! history, and `line_format` for lines and forms. Its contracts promise that a record has one
-//! spelling, that parsing succeeds exactly if the bytes are one, and that each fault is the first
-//! in the format's order (docs/FORMATS.md).
+//! spelling, and that parsing succeeds exactly if the bytes are one. Each fault is the first in the
+//! format's order (docs/FORMATS.md).
 //!
 //! # Design
 //!
-//! - A record's machine hands its scenario part to the scenario's own step, so the scenario's
+//! - A record's machine hands its scenario part to the scenario's own step. So the scenario's
 //!   faults keep their names, and lines are counted from the record's first. The scenario is
 //!   finished at the end alone, where the whole text is known to spell a record.
 //! - The first line is defined once over the version, and written and read by the one function;
 //!   both versions have one table of lines. So a line `session P A B` is no fault of a text of
 //!   version 1: `lawful_history` alone decides which history is lawful in which version. Each field
 //!   that `refuse` can name is a form of its own.
-//! - A reader keeps what is still to come, and a relation says the rest: `IsReading` ties it to a
-//!   text, a version, a scenario and the lines read so far. So a line that was read need not be
-//!   stored, and a caller chooses the lines to keep. The fault that the reader names is that of
-//!   `parse` by the same laws. `pass` says the same of lines that weren't read: their bytes are
-//!   compared.
+//! - A reader keeps the rest of the text. The relation `IsReading` ties it to a text, a version, a
+//!   scenario and the lines read so far. So a line that was read need not be stored, and a caller
+//!   chooses the lines to keep. The fault that the reader names is that of `parse` by the same
+//!   laws. `pass` says the same of lines that weren't read: their bytes are compared.
 //! - - A common line is recognized by its spelling. `quick_line` promises only that the bytes are
 //!   the one spelling of the line found. The table of forms decides the rest. Since a spelling is
 //!   read as what it spells, no rule of the table is said twice.

@@ -47,7 +47,7 @@ HasWord (access.State state) = Unit {0}
 HasWord (access.Ring target vector) = Unit {0}
 HasWord access.Nothing = Unit {0}
 
--- The write of this word is denied to the peer; or the access isn't denied, and its step is made
+-- The write of this word is denied to the peer. Or the access isn't denied, and its step is made
 -- for every value that it meets.
 abbrev pub IsDenied : World → ℕ → Access → Option ℕ → Type 0
 IsDenied world me a None = (past : List Line) (met : ℕ) → Meets past a met → acted_step world me a past ≡ Some (step_of a met [])

@@ -14,7 +14,7 @@
 //!   program shares with the engines only the definitions, `link_handshake`, the layout of
 //!   `split_ring`, the devices of `doorbell_irq` and the region's sizes.
 //! - The counts of an end have 32 bits. A peer's step has at most two marks, and a schedule has at
-//!   most `MOST_ACTS` events, so no count exceeds twice that number (`IsPeer` has the bound).
+//!   most `MOST_ACTS` events. So no count exceeds twice that number (`IsPeer` has the bound).
 //! - A line of the history has word numbers of 32 bits, and an access of `reference_calls` has 64.
 //!   They are compared without a conversion, so the comparison needs no condition on an access.
 //! - The marks of sessions of version 2 are checked first, by a program of their own (`marks`). The

@@ -18,8 +18,8 @@ use std::marker::Model;
 const LONGEST: u32 = 65_536;
 
 /// The port of one peer. It holds the number of messages that it published, the number of the last
-/// message got from each peer, and its place in the open call. It has two buffers: the message in
-/// hand, which it publishes or has read so far, and the message got last.
+/// message from each peer, and its place in the open call. It has two buffers: the message in hand,
+/// which it publishes or has read so far, and the message got last.
 ///
 /// A port performs no access: `next` returns the next one, and `took` receives the value read.
 /// No call after `new` returns `NoMemory`.

@@ -83,8 +83,8 @@ breaks before (Reset p) later =
     || has_setting before p
 breaks before act later = not (sets_device act)
 
--- The line of the first act that breaks the form, if `before` are the acts before the list and
--- `line` is the line of its first act.
+-- The line of the first act that breaks the form. `before` are the acts before the list, and `line`
+-- is the line of its first act.
 abbrev pub first_break : List Act → List Act → ℕ → Option ℕ
 first_break before [] line = None
 first_break before (act ∷ later) line = if breaks before act later then Some line else first_break (before ++ act ∷ []) later (line + 1)

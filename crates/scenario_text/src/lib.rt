@@ -1,8 +1,8 @@
 //! Scenarios as values and as text: a world's sizes, its kinds of peers, and the acts of a
 //! schedule. The crate uses `line_format` for lines and forms, and `section_map`, `split_ring` and
 //! `pci_space` for the head of a scenario. Its contracts promise that each value has one spelling.
-//! They promise that parsing succeeds exactly if the bytes are a spelling, and that each fault is
-//! the first in the order of the format (docs/FORMATS.md).
+//! They promise that parsing succeeds exactly if the bytes are a spelling. Each fault is the first
+//! in the order of the format (docs/FORMATS.md).
 //!
 //! # Design
 //!

@@ -5,9 +5,9 @@ use Rattle.hex.specs.Hex.{encode_lower}
 use Rattle.split_ring.specs.declared.ranges.FieldName.{FieldName}
 use Rattle.split_ring.specs.declared.ranges.FieldName.TheVariants.{AvailIndex, AvailEntry, DescAddress, DescLength, DescFlags, UsedIndex, UsedId}
 
--- A line of a listing: one of the four sizes of the header, the queue, the state of a peer, or the
--- two indices of a section. A section's item is a frame with its position, entry, address and
--- length, or a field that a receiver would refuse. The last line is the end.
+-- A line of a listing: one of the header's four sizes, the queue, the state of a peer, or the two
+-- indices of a section. A section's item is a frame with its position, entry, address and length,
+-- or a field that a receiver would refuse. The last line is the end.
 pub data Line : Type 0 where
   Peers : ℕ → Line
   Table : ℕ → Line

@@ -2,16 +2,16 @@
 //! record, written by `record_text`. The contract of `simulate` promises the lines that a record of
 //! version 2 has of the scenario's one lawful history, for all acts. The contract of
 //! `simulate_text` promises the text of this record, and keeps no history in memory. The contract
-//! of `play` promises that a listener receives the same lines in parts, and that of `play_load`
-//! that it does so of a load, whose acts aren't held.
+//! of `play` promises that a listener receives the same lines in parts. That of `play_load`
+//! promises the same of a load, whose acts aren't held.
 //!
 //! # Design
 //!
 //! - `simulate` promises its lines twice: as `history`, which a checker can compare line by line,
 //!   and as lawful lines, by `history_is_lawful`.
-//! - A `Listener` has two relations of two states: `received` says that it received these lines
+//! - A `Listener` has two relations of two states. `received` says that it received these lines
 //!   between the two states, and `stopped_after` that it then stopped the play. A relation of one
-//!   state doesn't suffice: a call of an unknown listener may change any of its fields, such as a
+//!   state doesn't suffice. A call of an unknown listener may change any of its fields, such as a
 //!   reference to the scenario.
 //! - `play` passes lines on as soon as the simulator keeps 256 of them, also within an act of many
 //!   turns. So the number of kept lines doesn't grow with the history.

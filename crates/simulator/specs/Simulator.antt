@@ -61,7 +61,7 @@ IsRunning s peer = (world : World) × (output : Output) × (events : List Event)
 abbrev pub IsAct : World → Act → Type 0
 IsAct world act = (before : List Act) × IsAllowed world before act
 
--- The events of the act happen: if the simulator refines the state after any events, the new
+-- The events of the act happen. If the simulator refines the state after some events, the new
 -- simulator refines the state after them and the events of the act.
 abbrev pub PlaysAct : Act → Simulator → Simulator → Type 0
 PlaysAct act old new = (world : World) (output : Output) (events : List Event) → IsAct world act → RunsTo world output events old

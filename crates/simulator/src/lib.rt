@@ -18,8 +18,8 @@
 //!   the version of their record. Every contract holds for any output. A simulation in one piece
 //!   drains no line, and a run drains all that it has passed on.
 //! - The session marks are inserted in one place (`Log::push`), through which every line goes. The
-//!   rest of the simulator knows the history without them. One part of `IsLogOf` says that the
-//!   output and the lines in the log are the lines of that history in a record of its version.
+//!   rest of the simulator knows the history without them. By one part of `IsLogOf` the output and
+//!   the lines in the log are the lines of that history in a record of its version.
 //! - The log counts sessions in 32 bits, and its contract holds as long as they suffice (`AreFew`).
 //!   An event opens at most one session, and a scenario has at most 4,000,000 events. So they
 //!   suffice, and no call of the simulator has a condition for a count.

@@ -1,5 +1,5 @@
-//! Tests of interrupts over values worked out by hand: single doorbells, States and connections,
-//! and a table in which each row breaks one condition of delivery.
+//! Tests of interrupts over values worked out by hand: single doorbells, States and connections. In
+//! a table each row breaks one condition of delivery.
 ghost use Rattle.std.specs.Prelude.{◌≡◌, ◌<◌, IfOk};
 ghost use Rattle.pci_space.specs.Wiring.{IsWiring};
 ghost use Rattle.doorbell_irq.specs.Refinement.{peer_count};

@@ -103,8 +103,8 @@ const WORDS: [(u32, Section, bool); 9] = [
     (10_239, Section::Output(1), true),
 ];
 
-/// Whether the word is in this section, and peer 1 may write it or not: in the map of the region,
-/// and at a write of 5.
+/// Whether the word is in this section, and peer 1 may write it or not, in the region's map and at
+/// a write of 5.
 #[must_use]
 fn is_mapped(
     geometry: &Geometry,

@@ -369,7 +369,7 @@ const EVENTS: [(u32, &[Line], u64, bool); 8] = [
 ];
 
 /// An offer of the first frame and of frame 65,535 reads the event index in the low half of its
-/// word, and rings if that is the frame's index.
+/// word. It rings if that is the frame's index.
 // claim reference_calls.is_call
 // claim reference_history.is_lawful.lawful
 #[test]
@@ -762,7 +762,7 @@ fn an_end_keeps_the_lengths_of_its_session(rt: HostRuntime) -> Result<(), Fail> 
     Ok(())
 }
 
-/// The section of the worked examples, and the frames that don't fit: a slot has the MTU and 18
+/// The section of the worked examples, and the frames that don't fit. A slot has the MTU and 18
 /// bytes, rounded up to a multiple of 64.
 #[test]
 fn sections_of_the_worked_examples(rt: HostRuntime) {

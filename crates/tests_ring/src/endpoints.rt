@@ -227,8 +227,8 @@ fn at_once(end: &mut Endpoint, told: Bursts, bytes: &[u8]) -> bool {
     are_these && is_tail && end.bursts().is_none()
 }
 
-/// Returns the end of peer `me` in the region of the worked examples, in a link of this version:
-/// sections of 16,384 bytes, an MTU of 256, and vector 1.
+/// Returns the end of peer `me` in the region of the worked examples, in a link of this version. It
+/// has sections of 16,384 bytes, an MTU of 256, and vector 1.
 fn example(rt: &impl Abort, alloc: Global, version: u32, me: u32) -> Result<Endpoint, Fail>
     requires version { IsVersion version }
     requires peer { me ≤ 1 }

@@ -1,5 +1,5 @@
-//! Tests of the rings and the ends of the link, in a crate of their own, so that the crates that
-//! they test are proved once.
+//! Tests of the rings and the ends of the link, in a crate of their own. So the crates that they
+//! test are proved once.
 #![tactic(auto)]
 
 #[cfg(test)]

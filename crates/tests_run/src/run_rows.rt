@@ -255,7 +255,7 @@ fn a_gate_is_called_before_each_turn(rt: HostRuntime) -> Result<(), Fail> {
     Ok(())
 }
 
-/// Returns a scenario of two peers that can't finish: peer 0 waits for a frame that is never sent,
+/// Returns a scenario of two peers that can't finish. Peer 0 waits for a frame that is never sent,
 /// and peer 1 for one frame too many. Peer 0 is reset in its first session.
 fn restarting(alloc: Global) -> Result<String, AllocError> {
     let mut text = format!(in alloc; "{HONEST}auto 0 1\nauto 1 41\n")?;

@@ -157,9 +157,9 @@ impl Gate for After {
     }
 }
 
-/// Lets peers 0 and 1 run one after the other, leg by leg. In each leg peer 0 runs up to its turn
-/// of the first number, and then peer 1 up to its turn of the second number. After the last leg
-/// both run freely.
+/// Lets peers 0 and 1 run one after the other, leg by leg. In each leg peer 0 runs up to the turn
+/// of the first number, and then peer 1 up to that of the second. After the last leg both run
+/// freely.
 #[derive(Drop)]
 pub(crate) struct Relay {
     legs: [[u64; 2]; 3],

@@ -1,6 +1,6 @@
-/* Tries each call of libivshm_device: its statuses, that a refused call changes nothing, memory for
- * exactly the peers and vectors, and the stack that each call uses. The exit status is 0 exactly if
- * all is right. */
+/* Tries each call of libivshm_device: its statuses, the memory for exactly the peers and
+ * vectors, and the stack that each call uses. A refused call must change nothing. The exit
+ * status is 0 exactly if all is right. */
 #define _XOPEN_SOURCE 700
 #include <inttypes.h>
 #include <stdio.h>

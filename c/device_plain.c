@@ -1,5 +1,6 @@
 /* The calls of device_play.h in plain C: the devices of a world by the same field tables as the
- * proved device (docs/DEVICE.md), for bench/device and as a second device for the test vectors. */
+ * proved device (docs/DEVICE.md). They serve bench/device, and as a second device the test
+ * vectors. */
 #include <stdlib.h>
 #include <string.h>
 

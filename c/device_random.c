@@ -1,9 +1,9 @@
-/* device_random PEERS VECTORS CALLS SEED RECORD: guests that access their devices at random, over
- * the device library, with a record of all that the library answered (device_record.h). Windows,
- * offsets, widths and peers may be any. An access that the device ignores or refuses is no line of
- * a record. So this program checks that such a read gives 0, and that such a write changes nothing
- * and has no effect. Some deliveries are lost in flight. `ivshm replay` says `same` of each such
- * record: one proved program judges the answers of another.
+/* device_random PEERS VECTORS CALLS SEED RECORD: guests access their devices at random, over the
+ * device library. RECORD has all answers of the library (device_record.h). Windows, offsets, widths
+ * and peers may be any. An access that the device ignores or refuses is no line of a record. So
+ * this program checks that such a read gives 0, and that such a write changes nothing and has no
+ * effect. Some deliveries are lost in flight. `ivshm replay` says `same` of each such record: one
+ * proved program judges the answers of another.
  *
  *     cc -O2 -o device_random device_random.c heap.c LIB    with tools/c_library --device */
 #include <stdlib.h>

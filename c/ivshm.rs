@@ -129,8 +129,8 @@ fn word_of(bytes: &[u8]) -> u32 {
     bytes.iter().rev().fold(0, |word, byte| word << 8 | u32::from(*byte))
 }
 
-// SAFETY of the calls below: each pointer is a reference or a slice of this program, and `&mut
-// self` gives the handle to one call at a time.
+// SAFETY of the calls below: each pointer is a reference or a slice of this program. `&mut self`
+// gives the handle to one call at a time.
 impl End {
     /// Makes the end of peer `me` and writes State 0.
     pub fn new(found: &Found, peers: u32, me: u32, mtu: u32, vector: u32, region: &mut impl Region) -> Result<End, u32> {

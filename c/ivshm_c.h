@@ -85,10 +85,10 @@
  *
  * BOTH ENDS of a link have the same version, the same MTU and the same vector. Nothing in the
  * region says which: the two programs agree on them. The proof about two ends is of such a pair.
- * checks/c_library tries ends that differ in version and MTU: no value is refused and no frame is
- * lost, and each end bounds the frames that it offers itself. But a doorbell may be missing: an end
+ * checks/c_library tries ends that differ in version and MTU. No value is refused and no frame is
+ * lost, and each end bounds the frames that it offers itself. But a doorbell may be missing. An end
  * of version 1 never writes its event index, so an end of version 2 or 3 rings it for one frame in
- * 65,536, and it finds the other frames when it polls.
+ * 65,536. It finds the other frames when it polls.
  *
  * WHAT IS PROVED of the library, for all values that a program passes, if those duties are kept:
  *
@@ -96,8 +96,8 @@
  *   returned at any time.
  * - A result other than IVSHM_DONE changes neither the end nor what a pointer leads to, except
  *   where this header says so.
- * - Each access is the next one of the link's call grammar: a read of the other's section or State,
- *   or a write of your own section, State or Doorbell, inside the region.
+ * - Each access is the next one of the link's call grammar, inside the region. It is a read of the
+ *   other's section or State, or a write of your own section, State or Doorbell.
  * - Each field of a delivered frame was read once and was in its range.
  * - Between two such ends the frames delivered in a session are a prefix of those accepted.
  * - Every call ends.
@@ -121,10 +121,11 @@ extern "C" {
 #endif
 
 /* The version of the library, the same as a number, and the version of its binary interface. The
- * number is 1,000 times the first number of the version, plus the second. A program compiled with
- * this header works with each archive of the same IVSHM_ABI_VERSION and of this library version or
- * a later one: there no function leaves, no constant changes and no struct grows. c/ivshm_c.abi
- * lists them, and checks/c_style compares the list with this header and with the archive. */
+ * number is 1,000 times the first number of the version, plus the second. A program compiled
+ * with this header works with each archive of the same IVSHM_ABI_VERSION and of this library
+ * version or a later one. In later versions no function leaves, no constant changes and no
+ * struct grows. c/ivshm_c.abi lists them, and checks/c_style compares the list with this header
+ * and with the archive. */
 #define IVSHM_LIBRARY_VERSION "1.0"
 #define IVSHM_LIBRARY_NUMBER 1000
 #define IVSHM_ABI_VERSION 1
@@ -230,12 +231,12 @@ typedef struct ivshm_found {
  * IVSHM_PROTOCOL. */
 uint32_t ivshm_walk(const uint8_t space[256], ivshm_found *found);
 
-/* The words of a region by name. Words have 4 bytes and are numbered from the base of the region.
- * The State of peer p is word p. The output section of peer p begins at word first + p * words. The
- * words from available_index on count from the start of a section. Descriptor i is the four words
- * from 4 * i: two of the address, the length, then flags and next. In version 3 a frame has no
- * slot: its footprint is its length, rounded up to a multiple of 64, and frames are in flight up to
- * queue_size if their bytes fit. */
+/* The words of a region by name. Words have 4 bytes and are numbered from the base of the
+ * region. The State of peer p is word p. The output section of peer p begins at word first + p *
+ * words. The words from available_index on count from the start of a section. Descriptor i is
+ * the four words from 4 * i: two of the address, the length, then flags and next. In version 3 a
+ * frame has no slot. Its footprint is its length, rounded up to a multiple of 64, and frames are
+ * in flight up to queue_size if their bytes fit. */
 typedef struct ivshm_words {
     uint32_t first;
     uint32_t words;
@@ -279,9 +280,9 @@ void rattle_dealloc(void *at);
 
 /* MEMORY OF THE PROGRAM'S OWN. c/storage.c has the two functions over a static array, for programs
  * without malloc. An end of any version needs at most IVSHM_END_BYTES of it, with the `words` that
- * ivshm_layout wrote for its sizes, and at most IVSHM_LARGEST_END for the largest sizes. Both have
- * room for six blocks at multiples of 16 with 16 bytes in front of each. The six blocks alone have,
- * in version 3, for an output section and an MTU:
+ * ivshm_layout wrote for its sizes. For the largest sizes that is IVSHM_LARGEST_END. Both have room
+ * for six blocks at multiples of 16 with 16 bytes in front of each. The six blocks alone have, in
+ * version 3, for an output section and an MTU:
  *
  *     bytes of the section      MTU 256    MTU 1,500    MTU 9,000    MTU 65,535
  *                   16,384       30,290       31,534       39,034          none
@@ -421,10 +422,10 @@ typedef struct ivshm_notes {
 uint32_t ivshm_end_took(ivshm_end *end, uint32_t value, ivshm_notes *notes);
 
 /* BURSTS. If the access has a count, the next accesses are reads, or writes, of `word` and the
- * words after it. All are relaxed, and none before the last has a note: the words of a frame, of a
- * descriptor, of a used element, or those that a Tick clears. Complete all of them at once, or a
- * part, or make single steps: the result is the same. Each word is still read once, into memory of
- * your own, and written once. */
+ * words after it. All are relaxed, and none before the last has a note. They are the words of a
+ * frame, of a descriptor, of a used element, or those that a Tick clears. Complete all of them
+ * at once, or a part, or make single steps: the result is the same. Each word is still read
+ * once, into memory of your own, and written once. */
 
 /* Completes size / 4 reads. `words` has the value of each, as four bytes, the lowest first. The
  * notes are those of the last read.
@@ -447,9 +448,9 @@ uint32_t ivshm_end_words(ivshm_end *end, uint8_t *into, size_t size);
  * change: IVSHM_NO_END, IVSHM_NO_CALL, IVSHM_OTHER_ACCESS, IVSHM_BAD_COUNT. */
 uint32_t ivshm_end_took_writes(ivshm_end *end, uint32_t count);
 
-/* ALL BEFORE THE INDEX. The writes of an offer before its index have no notes: the words of the
- * frame, the four of its descriptor and the one with its available entry. They may be made at once,
- * in any order: all are relaxed, and the index, the next access, releases them. */
+/* ALL BEFORE THE INDEX. The writes of an offer before its index have no notes. They are the
+ * words of the frame, the four of its descriptor and the one with its available entry. They may
+ * be made at once, in any order: all are relaxed, and the index, the next access, releases them. */
 
 /* Consecutive words: the number of the first, and how many there are. */
 typedef struct ivshm_burst {
@@ -459,8 +460,8 @@ typedef struct ivshm_burst {
 
 /* Returns the words that the open offer writes before its index, if a word of its frame is next.
  * bursts[0] is the rest of the frame, bursts[1] its descriptor and bursts[2] its entry. `room`
- * begins with their values in this order, as four bytes each, the lowest first: for a frame 4 *
- * (count + 5) bytes, with the count of the access. Write them to the region, and then call
+ * begins with their values in this order, as four bytes each, the lowest first. For a frame these
+ * are 4 * (count + 5) bytes, with the count of the access. Write them to the region, and then call
  * ivshm_end_took_bursts.
  *
  * Returns IVSHM_DONE. Otherwise the bursts and the room don't change: IVSHM_NO_END, IVSHM_NO_CALL,
@@ -468,9 +469,9 @@ typedef struct ivshm_burst {
 uint32_t ivshm_end_bursts(ivshm_end *end, ivshm_burst bursts[3], uint8_t *room, size_t size);
 
 /* Returns the same bursts, and writes only the words of the descriptor and of the entry to the
- * first 20 bytes of `room`. The words of the frame are the last bursts[0].count ones of the frame
- * passed to ivshm_end_offer last, as four bytes each, with 0 after its last byte. Write them from
- * your own copy, if you still have it: then the library's copy isn't read again. Then call
+ * first 20 bytes of `room`. The frame's words are the last bursts[0].count ones of the frame that
+ * ivshm_end_offer got last. Each has four bytes, with 0 after the frame's last byte. Write them
+ * from your own copy, if you still have it: then the library's copy isn't read again. Then call
  * ivshm_end_took_bursts.
  *
  * Returns IVSHM_DONE. Otherwise the bursts and the room don't change: IVSHM_NO_END, IVSHM_NO_CALL,

@@ -1,9 +1,9 @@
 /* The devices of an Inter-VM Shared Memory world, version 2, for hypervisors.
  *
  * A hypervisor (a VMM, a device server, a static partitioner) gives 2 to 8 guests one region of
- * shared memory and, to each guest, a PCI device: a configuration space, a register page and an
- * MSI-X table. This library is those devices. docs/DEVICE.md of the repository has their rules,
- * docs/DEVICE_C.md the way from nothing to a device in a VMM.
+ * shared memory and, to each guest, a PCI device. The device has a configuration space, a register
+ * page and an MSI-X table. This library is those devices. docs/DEVICE.md of the repository has
+ * their rules, docs/DEVICE_C.md the way from nothing to a device in a VMM.
  *
  * The library maps nothing, writes no shared memory and raises no interrupt. Each call returns what
  * the hypervisor has to do:
@@ -66,9 +66,8 @@
  * STACK. A call uses at most IVSHM_DEVICE_STACK bytes of stack, without what memcpy, memmove,
  * memset, rattle_alloc and rattle_dealloc use. checks/c_device measures each call.
  *
- * MEMORY. ivshm_device_new and ivshm_device_new_at ask for one block for the peers, one for the
- * MSI-X table of each peer if `vectors` is not 0, and one small block. No other call asks for
- * memory.
+ * MEMORY. ivshm_device_new and ivshm_device_new_at allocate one block for the peers, one for each
+ * peer's MSI-X table if `vectors` is not 0, and one small block. No other call asks for memory.
  *
  * WHAT IS PROVED, for all arguments, if the duties are kept:
  *
@@ -182,10 +181,10 @@ typedef struct ivshm_device_world {
 } ivshm_device_world;
 
 /* As ivshm_device_new, with the region at `base`, a multiple of 4,096. With base 0 the vendor
- * capability has its short form, without a Base Address, and Base Address Register 2 is a
+ * capability has its short form, without a Base Address. Base Address Register 2 is then a
  * prefetchable register of 64 bits. Its window has the smallest power of two of bytes that holds
- * the region, which is at its start; the hypervisor reads the register at offset 18h to place it.
- * The statuses of ivshm_device_new; IVSHM_DEVICE_BAD_BASE comes after those of the sizes. */
+ * the region, which is at its start. The hypervisor reads the register at offset 18h to place
+ * it. The statuses of ivshm_device_new; IVSHM_DEVICE_BAD_BASE comes after those of the sizes. */
 uint32_t ivshm_device_new_at(ivshm_device *device, const ivshm_device_world *world);
 
 /* Frees the devices. The handle is empty then. IVSHM_DEVICE_DONE, IVSHM_DEVICE_EMPTY. */
@@ -207,9 +206,9 @@ typedef struct ivshm_effect {
     ivshm_delivery deliveries[IVSHM_DEVICE_PEERS]; /* the first `count` are valid, by ascending peer */
 } ivshm_effect;
 
-/* Reads `width` bytes of a peer's configuration space, lowest byte first.
- * IVSHM_DEVICE_DONE, _EMPTY, _BAD_PEER, _BAD_ACCESS: the width is not 1, 2 or 4, the offset is not
- * a multiple of the width, or the access ends after byte 256. */
+/* Reads `width` bytes of a peer's configuration space, lowest byte first. IVSHM_DEVICE_DONE,
+ * _EMPTY, _BAD_PEER, _BAD_ACCESS: the width is not 1, 2 or 4, the offset is no multiple of it,
+ * or the access ends after byte 256. */
 uint32_t ivshm_device_config_read(ivshm_device *device, uint32_t peer, uint16_t offset, uint16_t width,
                                   uint32_t *value);
 

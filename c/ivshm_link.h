@@ -1,6 +1,6 @@
 /* A driver's loop over the end of the link (ivshm_c.h): copy it and start from here. It makes the
- * accesses that the library asks for, with the orders that they need, in bursts where the library
- * allows them, and counts what happened. It runs in user space, in C and C++, and in a kernel.
+ * next accesses of the library with their orders, in bursts if the library allows them, and counts
+ * what happened. It runs in user space, in C and C++, and in a kernel.
  *
  *     ivshm_link_open(&link, &setup)            makes the end and writes State 0
  *     ivshm_link_tick(&link)                    every 10 ms, and when vector 0 comes
@@ -16,7 +16,7 @@
  * them, each up to the length of its section. So ivshm_link_poll stops after `budget` frames. The
  * poll is open then, and the next ivshm_link_poll continues it. Until the poll is over a tick and a
  * send return IVSHM_CALL_OPEN and change nothing. The wait is bounded, since a poll takes no frame
- * that was published after its look: the poll is over after queue_size / budget + 1 calls at most.
+ * that was published after its look. The poll is over after queue_size / budget + 1 calls at most.
  * So queue the sends while ivshm_link_is_open, and make them before the next poll begins: then the
  * other peer can't keep the driver from sending. In Linux this is the budget of NAPI: the poll is
  * over if it delivered fewer frames than the budget.
@@ -52,7 +52,7 @@ typedef struct ivshm_link_setup {
     uint32_t version;  /* 1 to IVSHM_VERSION */
 
     /* the region, mapped: the other peer's word in the State Table, its output section, and the
-     * own output section, the only one that needs to be writable */
+     * own output section, which alone needs to be writable */
     const uint32_t *other_state;
     const uint32_t *other_section;
     uint32_t *own_section;
@@ -75,9 +75,9 @@ typedef struct ivshm_link_setup {
 } ivshm_link_setup;
 
 /* Counts since ivshm_link_open. The library counts frames, offers and refusals too
- * (ivshm_end_counts), with equal numbers. These are here because a poll with a budget compares
- * `delivered` after each step, where a call would cost more than the step, and because the library
- * counts no bytes, accesses and doorbells, and no refusals by field. */
+ * (ivshm_end_counts), with equal numbers. A poll with a budget compares `delivered` after each
+ * step, and a call there would cost more than the step. The library counts no bytes, accesses
+ * and doorbells, and no refusals by field. */
 typedef struct ivshm_link_counts {
     uint64_t accesses;        /* words, States and doorbells */
     uint64_t steps;           /* calls of ivshm_end_next */
@@ -392,8 +392,9 @@ static inline uint32_t ivshm_link_call(ivshm_link *link, uint32_t which) {
 
 /* Makes the end of a mapped region, and writes State 0. Afterwards tick until the state is
  * IVSHM_RUN. *setup is copied. Returns IVSHM_DONE, IVSHM_SHORT_ROOM if a frame of the other peer
- * doesn't fit into the room, IVSHM_OTHER_DEVICE if the device's protocol is another one, or a
- * result of ivshm_end_new_version. Without PCI the protocol must be IVSHM_PROTOCOL too. */
+ * doesn't fit into the room, or IVSHM_OTHER_DEVICE if the device's protocol is another one. Else
+ * it returns a result of ivshm_end_new_version. Without PCI the protocol must be IVSHM_PROTOCOL
+ * too. */
 static inline uint32_t ivshm_link_open(ivshm_link *link, const ivshm_link_setup *setup) {
     uint32_t answer;
     memset(link, 0, sizeof *link);
@@ -440,8 +441,8 @@ static inline uint32_t ivshm_link_send(ivshm_link *link, const uint8_t *frame, s
     return answer;
 }
 
-/* Writes the counts of the link with their names, in a fixed order: first those of the library, of
- * which `sessions` counts the times that the end came to READY. IVSHM_DONE, or IVSHM_NO_END after
+/* Writes the counts of the link with their names, in a fixed order. Those of the library are
+ * first. `sessions` counts the times that the end set READY. IVSHM_DONE, or IVSHM_NO_END after
  * ivshm_link_close. */
 static inline uint32_t ivshm_link_list(ivshm_link *link, ivshm_link_count list[IVSHM_LINK_LIST]) {
     static const char *const names[IVSHM_LINK_LIST] = {

@@ -9,16 +9,16 @@
  * that its thread's view allows, and moves the view to it. A releasing store has its thread's view,
  * and an acquiring load joins the view of its message. A full fence joins the thread's view with
  * that of all fences before it. Loads don't see later stores. Each word has one writer and one
- * reader. A doorbell is a store too: a releasing one has its thread's view, which the interrupt
- * joins at any later step of the peer that is rung. Doorbells rung until then are delivered as one.
- * In most runs no interrupt is delivered, so that its view hides nothing else.
+ * reader. A doorbell is a store too. A releasing one has its thread's view, which the interrupt
+ * joins at any later step of the rung peer. Doorbells rung until then are delivered as one. In most
+ * runs no interrupt is delivered, so that its view hides nothing else.
  *
- * The conditions of each run: nothing is refused. In each of its sessions an end delivers a prefix
- * of what the other accepted in one session, whole and in order. It delivers from each session of
- * the other at most once, and from rising ones. After the interrupt of a doorbell, a look finds the
- * frames accepted before the doorbell, and an offer finds the frames returned before it. In a link
- * of version 2 no doorbell is lost: if the last look of a poll found nothing, the other's next
- * frame in that session rings. */
+ * The conditions of each run: nothing is refused. In each of its sessions an end delivers a
+ * prefix of what the other accepted in one session, whole and in order. It delivers from each
+ * session of the other at most once, and from rising ones. After the interrupt of a doorbell, a
+ * look finds the frames accepted before the doorbell, and an offer finds the frames returned
+ * before it. In a link of version 2 no doorbell is lost. If the last look of a poll found
+ * nothing, the other's next frame in that session rings. */
 #include <inttypes.h>
 #include <stdbool.h>
 #include <stdio.h>

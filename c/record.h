@@ -1,5 +1,5 @@
-/* A record of both ends in one process, as `ivshm replay` reads it: the scenario with the calls
- * that were made, and a line for each access and note. docs/FORMATS.md has the format. */
+/* A record of both ends in one process, as `ivshm replay` reads it. It has the scenario with the
+ * calls that were made, and a line for each access and note. docs/FORMATS.md has the format. */
 #ifndef RECORD_H
 #define RECORD_H
 #include <inttypes.h>

@@ -1,9 +1,9 @@
 /* ring0 RUNS OFF: calls the library as code in ring 0 does, in user space on x86-64. An interrupt
- * comes after every instruction: the processor traps, and a handler on a stack of its own
- * overwrites the 128 bytes below the stack pointer, as an interrupt on the same stack does. At each
- * call the stack is OFF bytes, 0 or 8, off its alignment to 16 bytes.
+ * comes after every instruction: the processor traps. A handler on a stack of its own overwrites
+ * the 128 bytes below the stack pointer, as an interrupt on the same stack does. At each call the
+ * stack is OFF bytes, 0 or 8, off its alignment to 16 bytes.
  *
- * Each run is made by two pairs of ends, with interrupts and without, and the two must agree in
+ * Each run is made by two pairs of ends, with interrupts and without. The two must agree in
  * every answer and in every word of their regions. The program ends with 1 at the first run in
  * which they differ. It is compiled like a kernel: -fno-builtin -mno-red-zone
  * -mgeneral-regs-only. */

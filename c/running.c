@@ -22,7 +22,7 @@
 enum { MOST = 2048, DESCRIPTORS = 0, AVAILABLE = 4 * MOST, ENTRIES = AVAILABLE + 1, USED = ENTRIES + MOST, IDS = USED + 1, EVENT = IDS + 2 * MOST,
        DATA = EVENT + 1, DATA_WORDS = 1 << 17, WORDS = DATA + DATA_WORDS };
 
-/* The queue of a section of 16,384 bytes with an MTU of 256, or for frames of more than 256 bytes
+/* The queue of a section of 16,384 bytes with an MTU of 256. For frames of more than 256 bytes,
  * one of 520,192 bytes with an MTU of 1,536. In version 3 a frame takes its own length. */
 struct queue { uint32_t size, slots, slot, area, section; };
 static const struct queue queues[2] = {{64, 45, 320, 14592, 16384}, {2048, 291, 1600, 466816, 520192}};

@@ -1,7 +1,8 @@
 /* speed OUT MTU SIZE ROUNDS: the cost of the library, with both ends in one thread. In a round each
  * end offers 8 frames of SIZE bytes and polls. The program prints the calls of ivshm_end_next for a
  * frame, and frames a second. Built with WAY 0 (single steps) it also prints the time of an access,
- * and the floor of that time: a loop repeats the accesses of a round from a list, without an end.
+ * and the floor of that time. For the floor a loop repeats the accesses of a round from a list,
+ * without an end.
  */
 #include "region.h"
 

@@ -1,7 +1,7 @@
-/* The baseline of `sim` and `load` in plain C, for bench/all: two honest peers that choose their
- * calls, in version 1 of the link, with MSI-X of two vectors or more. It writes the record that
- * `ivshm sim` writes, byte for byte, and what `ivshm load N` writes. It believes its scenario, and
- * checks no value that it reads from the other's section.
+/* The baseline of `sim` and `load` in plain C, for bench/all. Two honest peers choose their calls,
+ * in version 1 of the link, with MSI-X of two vectors or more. It writes the record that `ivshm
+ * sim` writes, byte for byte, and what `ivshm load N` writes. It believes its scenario, and checks
+ * no value that it reads from the other's section.
  *
  *   plain sim < SCENARIO
  *   plain load N

@@ -16,11 +16,11 @@
 #include <poll.h>
 #include <signal.h>
 
-/* A refusal is forgiven after half a second, so a refused peer gets two sessions a second. A peer
- * that isn't refused, and only plays with its State, may open eight sessions at once, like a
- * program that is started again and again, and then two a second. Each session costs a store for
- * each word of the own section. Without a bound a hostile peer could keep this guest busy with
- * nothing else. */
+/* A refusal is forgiven after half a second, so a refused peer gets two sessions a second. A
+ * peer that isn't refused, and only plays with its State, may open eight sessions at once, and
+ * then two a second. A program that is started again and again does so. Each session costs a
+ * store for each word of the own section. Without a bound a hostile peer could keep this guest
+ * busy with nothing else. */
 static const double tick_time = 0.005, forgiven_after = 0.5, sessions_a_second = 2, sessions_at_once = 8;
 
 static const char *const fields[] = {"-", "AvailIndex", "AvailEntry", "DescAddress", "DescLength", "DescFlags", "UsedIndex", "UsedId"};

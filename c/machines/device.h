@@ -1,6 +1,6 @@
 /* QEMU's devices ivshmem-plain and ivshmem-doorbell in a guest: they are found by their PCI numbers
- * in sysfs. The shared memory, at Base Address Register 2, is mapped part by part, so that a word
- * that this peer may not write can't be written by mistake. There are two layouts:
+ * in sysfs. The shared memory, at Base Address Register 2, is mapped part by part. So a word that
+ * this peer may not write can't be written by mistake. There are two layouts:
  *
  * apart   Two plain devices. Device p, in the order of the slots, is the file of peer p: its State
  *         is the first word, and its section comes after the first page. The host hands each guest
@@ -39,8 +39,8 @@ struct peer_words {
     _Atomic uint32_t *state, *section;
 };
 
-/* The folders of the devices in sysfs: the plain ones in the order of their slots, and the one that
- * has doorbells, or an empty word. */
+/* The folders of the devices in sysfs: the plain ones in the order of their slots, and the one
+ * with doorbells, or an empty word. */
 struct devices {
     int count;
     char plain[MOST_PLAIN][256], doorbell[256];

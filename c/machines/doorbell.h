@@ -1,6 +1,6 @@
-/* QEMU's device ivshmem-doorbell in a guest, by vfio-pci, to which the device is bound already: its
- * registers, its shared memory, and one eventfd for its MSI-X vectors. The guest needs an IOMMU, or
- * a kernel that has VFIO without one. */
+/* QEMU's device ivshmem-doorbell in a guest, by vfio-pci, to which the device is bound already.
+ * A program gets its registers, its shared memory, and one eventfd for its MSI-X vectors. The
+ * guest needs an IOMMU, or a kernel that has VFIO without one. */
 #ifndef DOORBELL_H
 #define DOORBELL_H
 #include "device.h"

@@ -1,7 +1,7 @@
-/* A link over the words of QEMU's own devices (ivshm_link.h), and what a program owes if no device
- * of version 2 does it: State 0 first, and the own State put right if something else changed it.
- * c/region.h is the same over a file, whose State Table no other guest can write. version2.h has
- * the same functions for a device of version 2. */
+/* A link over the words of QEMU's own devices (ivshm_link.h). Here the program does what a
+ * device of version 2 does: it sets State 0 first, and restores the own State if something else
+ * changed it. c/region.h is the same over a file, whose State Table no other guest can write.
+ * version2.h has the same functions for a device of version 2. */
 #ifndef LINK_H
 #define LINK_H
 #include "doorbell.h"

@@ -1,7 +1,7 @@
 /* A link over a device of version 2 (ivshm_link.h), as c/vmm gives it to a guest. The device is
- * found by ivshm_walk over its configuration space. Its registers and interrupts come by vfio-pci,
- * to which the device is bound already, and its region by /dev/mem, since Linux has no driver for
- * it. The functions are those of link.h. */
+ * found by ivshm_walk over its configuration space. Its registers and interrupts come by
+ * vfio-pci, to which the device is bound already. Its region comes by /dev/mem, since Linux has
+ * no driver for it. The functions are those of link.h. */
 #ifndef VERSION2_H
 #define VERSION2_H
 #include "doorbell.h"

@@ -81,9 +81,8 @@ static void ivshm_net_follow(struct ivshm_net *n)
 }
 
 /*
- * In one-shot mode each interrupt takes Interrupt Control away, and what comes
- * until it is set again is dropped: so a poll has to follow that finds what
- * came meanwhile.
+ * In one-shot mode each interrupt clears Interrupt Control, and later ones are dropped until it is
+ * set again. So a poll follows, which finds what arrived meanwhile.
  */
 static void ivshm_net_arm(struct ivshm_net *n)
 {

@@ -1,6 +1,6 @@
-/* The server of QEMU's x-pci-proxy-dev: one device of version 2 for each of the guests of a world.
- * main.c has the guests' life, messages.c what QEMU asks, device.c the calls of the proved library,
- * memory.c the region, interrupts.c how an interrupt comes to a guest. */
+/* The server of QEMU's x-pci-proxy-dev: one device of version 2 for each of the guests of a
+ * world. main.c has the guests' life, messages.c the messages of QEMU, device.c the calls of the
+ * proved library. memory.c has the region, interrupts.c the interrupts of a guest. */
 #ifndef VMM_H
 #define VMM_H
 #include <stdatomic.h>

@@ -1,9 +1,9 @@
 /* The devices of an Inter-VM Shared Memory world, version 2, for hypervisors.
  *
  * A hypervisor (a VMM, a device server, a static partitioner) gives 2 to 8 guests one region of
- * shared memory and, to each guest, a PCI device. The device has a configuration space, a register
- * page and an MSI-X table. This library is those devices. docs/DEVICE.md of the repository has
- * their rules, docs/DEVICE_C.md the way from nothing to a device in a VMM.
+ * shared memory, and each guest a PCI device. The device has a configuration space, a register page
+ * and an MSI-X table. This library is those devices. docs/DEVICE.md of the repository has their
+ * rules, docs/DEVICE_C.md the way from nothing to a device in a VMM.
  *
  * The library maps nothing, writes no shared memory and raises no interrupt. Each call returns what
  * the hypervisor has to do:
@@ -207,8 +207,8 @@ typedef struct ivshm_effect {
 } ivshm_effect;
 
 /* Reads `width` bytes of a peer's configuration space, lowest byte first. IVSHM_DEVICE_DONE,
- * _EMPTY, _BAD_PEER, _BAD_ACCESS: the width is not 1, 2 or 4, the offset is no multiple of it,
- * or the access ends after byte 256. */
+ * _EMPTY, _BAD_PEER, _BAD_ACCESS: the width isn't 1, 2 or 4, the offset is no multiple, or the
+ * access ends after byte 256. */
 uint32_t ivshm_device_config_read(ivshm_device *device, uint32_t peer, uint16_t offset, uint16_t width,
                                   uint32_t *value);
 

@@ -1,7 +1,7 @@
 /* The rings of a link in plain C, over the library's layout, without an end and without a check
  * other than a frame's length. They are the floor of the programs that measure the library: the
  * same copies and index words by themselves. A frame is copied as often as with the library:
- * into the end, into the section, and from there into a room and the other end. Each frame is
+ * into the end and the section, and from there into a room and the other end. Each frame is
  * published, and returned, by one index word. VERSION is that of the link (region.h). From 2 on
  * sections have the event words, and in 3 a frame takes its own length (docs/VERSIONS.md). */
 #ifndef PLAIN_RINGS_H
@@ -26,8 +26,8 @@ struct side {
 static inline uint32_t get(const _Atomic uint32_t *word) { return atomic_load_explicit(word, memory_order_relaxed); }
 static inline void put(_Atomic uint32_t *word, uint32_t value) { atomic_store_explicit(word, value, memory_order_relaxed); }
 
-/* Returns the descriptor of the next frame, and the byte of the section where it lies; false if it
- * doesn't fit. */
+/* Returns the descriptor of the next frame, and its byte of the section; false if it doesn't
+ * fit. */
 static inline bool find_slot(struct side *s, size_t length, uint32_t *descriptor, uint32_t *place) {
     uint32_t in_flight = s->accepted - s->freed, size = (uint32_t)(length + 63) / 64 * 64, area = 4 * s->at.words - s->at.data_area;
     if (VERSION < 3) {

@@ -1,5 +1,5 @@
-/* A link over the words of QEMU's own devices (ivshm_link.h). Here the program does what a
- * device of version 2 does: it sets State 0 first, and restores the own State if something else
+/* A link over the words of QEMU's own devices (ivshm_link.h). Here the program takes the place
+ * of a device of version 2. It sets State 0 first, and restores the own State if something else
  * changed it. c/region.h is the same over a file, whose State Table no other guest can write.
  * version2.h has the same functions for a device of version 2. */
 #ifndef LINK_H

@@ -24,14 +24,14 @@ use Rattle.call_grammar.specs.Calls.{Call, Tick, Stop, Offer, Poll, in_run, pend
 --   step;
 -- - the State step of a refusal, or the step of a call that is down;
 -- - of an Offer in the used ring: the read of the used index, or of an id with `more` left;
--- - of an Offer before the index: the write of a frame's word with `more` left, of a word of the
---   descriptor, or of the available entry;
+-- - of an Offer before the index: the write of a frame's word with `more` left, of a descriptor's
+--   word, or of the available entry;
 -- - of an Offer from the index on: the write of the available index, the read of the other's
 --   avail_event, or the doorbell;
 -- - of a Poll before an item: the read of the available index, the last one or not, or the write of
 --   the own avail_event;
--- - of an item, with `more` items left: the read of its entry, address, length, flags or word, or
---   the write of a word of the used ring;
+-- - of an item, with `more` items left: the read of its entry, address, length, flags or word, or a
+--   write to the used ring;
 -- - of a Poll at its end: the doorbell.
 pub data Place : Type 0 where
   Closed : Place

@@ -140,8 +140,8 @@ poll config taken false = read_avail_index config taken false (write_avail_event
 
 -- The table of finished polls
 
--- The values read for one item: the words of the entry, of the address (low and high), of the
--- length, of the flags and of the frame.
+-- The values read for one item: the words of the entry, of the address (low and high), length and
+-- flags, and of the frame.
 pub record Item : Type 0 where
   pub entry_word : ℕ
   pub low : ℕ

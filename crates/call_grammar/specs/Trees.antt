@@ -4,8 +4,8 @@ use Rattle.split_ring.specs.declared.steps.Access.{Access}
 use Rattle.split_ring.specs.declared.steps.Access.TheVariants.{Read}
 use Rattle.call_grammar.specs.Steps.{Mark, Step, step_of}
 
--- The rest of a call. It is nothing, or an access with its marks and the rest after it, or a read
--- of a word with the marks and the rest for each value.
+-- The rest of a call. It is nothing, an access with its marks and the rest after it, or a read with
+-- the marks and the rest for each value.
 pub data CallTree : Type 0 where
   Ended : CallTree
   Does : (access : Access) (marks : List Mark) (rest : CallTree) → CallTree

@@ -1,4 +1,4 @@
--- How a device goes on with an event.
+-- A device after one more event.
 use Rattle.std.proofs.Common.{◌≡◌, ◌≢◌, ℕ, zero, suc, ◌<◌, ◌≤◌, List, ◌∷◌, ◌++◌, length, get_or, set, length-set, Some, None, refl, sym, ◌∙◌, ap, ap₂, subst, inl, inr, arith}
 use Rattle.std.specs.Prelude.{Bool, false, Option, slice_get, ◌⊎◌}
 use Rattle.std.proofs.lemmas.Option.{slice_get-get_or}
@@ -19,7 +19,7 @@ deliveries_same : (f g : ℕ → Option ℕ) (n : ℕ) → ((peer : ℕ) → pee
 deliveries_same f g zero same = refl
 deliveries_same f g (suc n) same = ap₂ (λ ds d. ds ++ delivery_to n d) (deliveries_same f g n (λ peer less. same peer (omega arith))) (same n (omega arith))
 
--- The registers of a peer of a device that stands there.
+-- The registers of a peer of such a device.
 pub peer_at : (w : Devices) (events : List Event) (device : DeviceView) → IsDeviceView device → Refines w events device → (peer : ℕ) (d : Registers) → peer < device.peers →
     IsPeer w events peer (get_or device.registers peer d)
 peer_at w events device sound refines peer d inside =
@@ -48,7 +48,7 @@ module _ (w : Devices) (events : List Event) (event : Event) (old : DeviceView) 
       peer_taken w events peer event None r r (spares peer other).registers ((spares peer other).connection (is_connected events peer))
       quiet (spares peer other).writes is (keeps r)
 
-  -- An event that triggers nobody: the source's registers alone go on.
+  -- An event that triggers no peer: the source's registers alone change.
   pub moved : (new : DeviceView) (own : Registers) → new.peers ≡ old.peers → new.wiring ≡ old.wiring → new.registers ≡ set old.registers source own →
       ((peer : ℕ) → vector_of (bytes_after w events) event peer ≡ None) → IsPeer w (event ∷ events) source own → Refines w (event ∷ events) new
   moved new own peers wiring registers quiet is = record {

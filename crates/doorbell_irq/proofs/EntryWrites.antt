@@ -8,7 +8,7 @@ use Rattle.doorbell_irq.specs.DeviceRules.{Write}
 use Rattle.doorbell_irq.specs.Registers.{IsWritten}
 use Rattle.doorbell_irq.proofs.Lists.{slice_get-same, slice_get-set_same, slice_get-set_other, nat_cases}
 
--- What holds on Ok, where it is Ok.
+-- The property of an Ok result, if the result is Ok.
 pub on_ok : {T E P : Type 0} (r : Result T E) → IsOk r → OnOk r P → P
 on_ok (Ok x) ok holds = holds
 on_ok (Err e) ok holds = cc

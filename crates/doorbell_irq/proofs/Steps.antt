@@ -1,4 +1,4 @@
--- How one peer's registers go on with an event.
+-- One peer's registers after one more event.
 use Rattle.std.proofs.Common.{◌≡◌, ℕ, List, ◌∷◌, Some, None, refl, sym, ◌∙◌, ap, ap₂, arith}
 use Rattle.std.specs.Prelude.{Bool, true, false, ◌&&◌, if◌then◌else◌, Option, is_some, slice_index}
 use Rattle.pci_space.specs.Fields.{Contents, reset_byte}
@@ -48,7 +48,7 @@ module _ (w : Devices) (events : List Event) (peer : ℕ) where
     abbrev write_to : Part → Option Write
     write_to part = whole_write_of w.wiring (is_connected events) (bytes_after w events) event peer part
 
-    -- A space goes on by the event's write.
+    -- A space changes by the event's write.
     part_written : (part : Part) (write : Option Write) (old new : Contents) → resets event peer ≡ false → write_to part ≡ write →
         IsPart w events peer part old → IsWritten write old new → IsPart w (event ∷ events) peer part new
     part_written part write old new kept is was written = record {
@@ -58,7 +58,7 @@ module _ (w : Devices) (events : List Event) (peer : ℕ) where
           ∙ sym (ap₂ (λ (r : Bool) (a : Option Write). if r then reset_byte (rows_of w peer part) k else byte_after (rows_of w peer part) a k (bytes_after w events peer part k)) kept is);
     }
 
-    -- Registers go on by the event's writes.
+    -- Registers change by the event's writes.
     peer_goes : (config page : Option Write) (entry : ℕ → Option Write) (old new : Registers) → resets event peer ≡ false →
         connected_after event peer (is_connected events peer) ≡ is_connected events peer →
         write_to Config ≡ config → write_to Page ≡ page → ((n : ℕ) → write_to (Entry n) ≡ entry n) →

@@ -75,8 +75,8 @@ impl Device {
 
     /// Reads a peer's configuration space.
     ///
-    /// Returns `BadAccess` exactly if the width is not 1, 2 or 4, the offset is no multiple of it,
-    /// or the access ends after byte 256.
+    /// Returns `BadAccess` exactly if the width isn't 1, 2 or 4, the offset is no multiple, or the
+    /// access ends after byte 256.
     // claim allowed, value, refused with Device::config_write.allowed,
     //    Device::config_write.written, Device::config_write.refused: Configuration accesses are
     //    those of the space, at every offset and width.

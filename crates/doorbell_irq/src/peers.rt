@@ -20,8 +20,8 @@ use pci_space::{BadAccess, Wiring};
 
 /// Reads a peer's configuration space.
 ///
-/// Returns `BadAccess` exactly if the width is not 1, 2 or 4, the offset is no multiple of it, or
-/// the access ends after byte 256.
+/// Returns `BadAccess` exactly if the width isn't 1, 2 or 4, the offset is no multiple, or the
+/// access ends after byte 256.
 pub fn config_read<E: MsixTable + Drop>(
     registers: &[PeerDevice<E>],
     peers: u32,

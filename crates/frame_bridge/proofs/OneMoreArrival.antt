@@ -89,7 +89,7 @@ latest_other xs x a other =
     ap (λ (l : List Arrival). option_map (λ (y : Arrival). y.port) (find (is_from a) l)) (reverse-append xs (x ∷ [])) ∙
     ap (λ (b : Bool). option_map (λ (y : Arrival). y.port) (cond b (Some x) (find (is_from a) (reverse xs)))) other
 
--- A source that arrived before is learned, or never will be.
+-- A source that arrived before is learned already, or is never learned.
 pub learned_seen : (xs ys : List Arrival) (a : List ℕ) → list_any (is_from a) xs ≡ true → is_learned (xs ++ ys) a ≡ is_learned xs a
 learned_seen xs ys a seen =
     let p : Arrival → Bool = is_from a in

@@ -7,9 +7,9 @@ use Rattle.split_ring.specs.Frames.{start_after}
 use Rattle.frame_slots.specs.declared.slots.Slot as slots
 
 -- The state of the allocator: the sizes of the queue, the next descriptor, and the number of frames
--- in flight. In a byte ring three bytes of the area follow: the start of the oldest frame in
--- flight, the end of the newest frame placed, and the wrap. The wrap is the end of the last frame
--- before the one that starts at byte 0. With slots these three are 0.
+-- in flight. In a byte ring three bytes of the area follow. `head` is the start of the oldest frame
+-- in flight, and `tail` the end of the newest frame placed. `left` is the end of the last frame
+-- before the wrap. With slots these three are 0.
 pub record Allocator : Type 0 where
   pub sizes : Sizes
   pub next : ℕ

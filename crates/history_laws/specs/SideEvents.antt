@@ -7,8 +7,8 @@ use Rattle.link_machine.specs.LinkMachine.{Side, initial_side, SideEvent, Gave, 
 use Rattle.lawful_history.specs.declared.line.Line.{Line}
 use Rattle.lawful_history.specs.declared.line.Line.TheVariants as line
 
--- The side event of a line and its peer: the value of a read, a write of State, a mark, the reset
--- of the device, or none.
+-- The side event of a line and its peer: the value of a read, a write of State, a mark, a reset, or
+-- none.
 pub data LineSideEvent : Type 0 where
   HasEvent : (peer : ℕ) (side_event : SideEvent) → LineSideEvent
   HasNoEvent : LineSideEvent

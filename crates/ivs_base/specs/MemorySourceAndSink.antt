@@ -13,8 +13,8 @@ pub record MemoryInput : Type 0 where
   pub faults : ℕ
   pub failed : Bool
 
--- A sink: the bytes written, the number of bytes reserved, the greatest number of bytes of a call,
--- and the numbers of the calls that fail. The last fields are the counts of calls and of faults,
+-- A sink: the bytes written, the number of bytes reserved, and the greatest number of bytes of a
+-- call. The other fields are the numbers of the calls that fail, the counts of calls and of faults,
 -- and whether the last call failed.
 pub record MemoryOutput : Type 0 where
   pub written : List ℕ

@@ -89,7 +89,7 @@ abbrev pub WritesAtOnce : Engine → (count : ℕ) → Engine → Type 0
 WritesAtOnce old count new = (values : List ℕ) → length values ≡ count → StepsThrough IsTaken old values [] new
 
 -- A step of the open call, with these notes. After a refusal the value is stored, and State 0 is
--- next, which puts the end into RESET, where it stays.
+-- next. The end is in RESET then, and stays there.
 pub record Steps (old : Engine) (value : ℕ) (notes : List Note) (new : Engine) : Type 0 where
   pub takes : Takes old value notes new
   pub refuses : RecordsRefusal notes new

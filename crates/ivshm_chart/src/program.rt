@@ -15,8 +15,8 @@ use std::alloc::Global;
 const USAGE: &[u8] = b"usage: ivshm_chart [--text] [FROM TO]\n";
 
 /// Runs the program's words, its arguments after its name. Reads a record to its end, and writes
-/// the picture of the lines asked for, as an SVG file or as a text for a terminal. Nothing is
-/// written before the text is complete.
+/// the picture of its lines, as an SVG file or as a text for a terminal. Nothing is written before
+/// the text is complete.
 ///
 /// `drawn` is `None` before the call. After the call it holds the picture and the line that it
 /// marks, if the text that was due is a picture.

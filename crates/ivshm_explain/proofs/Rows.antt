@@ -12,7 +12,7 @@ peer_count : (p : ℕ) (honest : List Bool) → length (rows_of_peers p honest) 
 peer_count p [] = refl
 peer_count p (b ∷ bs) = let rest = peer_count (p + 1) bs in omega (arith, rest)
 
--- A row stands between two parts, and one after them.
+-- A row between two parts, and one after them.
 parts : (first later : List (Row Form)) (between last : Row Form) → length (first ++ between ∷ [] ++ later ++ last ∷ []) ≡ length first + length later + 2
 parts first later between last =
     let one = length-append ((first ++ between ∷ []) ++ later) (last ∷ []) in

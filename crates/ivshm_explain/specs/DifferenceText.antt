@@ -21,8 +21,8 @@ abbrev pub line_said : List Line → (number : ℕ) → List ℕ
 line_said lines number =
     if nat_lt (number - 1) (length lines) then history_text (take 1 (drop (number - 1) lines)) else codes "none, since the history has ended\n"
 
--- The number of the line in the record: its first line and the scenario's lines stand before the
--- history.
+-- The number of the line in the record, in which the first line and the scenario's lines are before
+-- the history.
 abbrev pub line_in_record : Difference → ℕ
 line_in_record d = 1 + length (rows_of (world_of d.trace.scenario)) + d.fault.line
 

@@ -39,7 +39,7 @@ fn lawful_lines(alloc: Global, scenario: &Scenario, version: u32) -> Result<Line
     Ok(simulator.into_lines())
 }
 
-/// What `replay` answers to a record, with the lawful history beside it where it differs.
+/// The answer of `replay` to a record, and the lawful history next to the record if they differ.
 fn replayed(alloc: Global, trace: Trace) -> Result<Verdict, NoMemory>
     ensures { IfOk result (IsReplayed trace) }
 {

@@ -8,8 +8,8 @@
 //!   line, by one definition each (`specs/Verdicts`). An image and a capture file are judged by
 //!   `section_dump` and `frame_capture` likewise, and their first fault has its place in bytes.
 //! - A difference is that of `trace_replay`, and the line due is that of the lawful history, which
-//!   the simulator plays for the record's scenario. Both are kept whole beside the record, which a
-//!   record of many millions of lines pays with memory.
+//!   the simulator plays for the record's scenario. Both are kept whole in addition to the record.
+//!   A record of many millions of lines takes much memory.
 //! - An explanation begins with the line that `ivshm` answers and with the faulty line or bytes
 //!   (`IsExplained`). What follows is for people: it reads the lines anew by a table of their
 //!   forms, and no contract covers it. `checks/faults` holds it to words written by hand.

@@ -42,7 +42,7 @@ pub fn line_at(bytes: &[u8], number: u64) -> &[u8]
     piece(bytes, number - 1)
 }
 
-/// A byte as a terminal shows it: `?` in place of one that can't stand in a line.
+/// A byte as a terminal shows it: `?` in place of one that a line can't have.
 fn visible(byte: u8) -> u8
     ensures { result ≡ visible byte }
 {

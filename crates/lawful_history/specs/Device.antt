@@ -18,8 +18,8 @@ use Rattle.lawful_history.specs.EventRecords.{EventRecord, access_lines, lines_o
 abbrev pub devices_of : World → device.Devices
 devices_of world = record { shape = world.geometry; wiring = world.wiring; region = usual_place }
 
--- The device event of a line: a reset, or a write of State, of the Doorbell, of another register,
--- of the configuration space or of the MSI-X region.
+-- The device event of a line: a reset, or a write of State, the Doorbell, another register, the
+-- configuration space or the MSI-X region.
 abbrev pub device_event_of : Line → Option device.Event
 device_event_of (line.State peer value) = Some (device.RegisterWritten peer device.state_register value)
 device_event_of (line.Doorbell peer target vector) = Some (device.RegisterWritten peer device.doorbell_register (device.doorbell_word target vector))

@@ -21,8 +21,8 @@ use Rattle.lawful_history.specs.Device.{device_lines, losses_with}
 use Rattle.lawful_history.specs.Sessions.{recorded_in}
 use Rattle.lawful_history.specs.Lawful.{IsLawful, IsLawfulIn}
 
--- The earlier lines, newest first, the number of interrupts of each peer that are to be dropped,
--- and the state of each peer, from peer 0.
+-- The earlier lines, newest first. For each peer, from peer 0, the number of its interrupts that
+-- are to be dropped, and its state.
 pub record HistoryState : Type 0 where
   pub past : List Line
   pub losses : ℕ → ℕ

@@ -15,7 +15,7 @@ pub record Auto : Type 0 where
   pub round : Round
 
 -- The source of a peer's actions: the schedule, call by call, the rule of the automatic end, or a
--- storm, whose generator has the state x.
+-- storm with generator state x.
 pub data Driver : Type 0 where
   Waits : Driver
   Chooses : (auto : Auto) → Driver

@@ -3,8 +3,8 @@ ghost use Rattle.std.specs.Prelude.{◌≡◌, ◌↔◌, IsTrue};
 
 use crate::line::Line;
 
-/// Whether `$found` is a line of the same kind as `$line` with equal fields. Each kind stands with
-/// its fields, and each field with a name for that of `$found`.
+/// Whether `$found` is a line of the same kind as `$line` with equal fields. Each kind has its
+/// fields, and each field a name for that of `$found`.
 macro_rules! same {
     ($line:ident, $found:ident; $($kind:ident { $($field:ident $other:ident),* })*) => {
         match $line {

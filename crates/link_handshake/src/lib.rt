@@ -1,6 +1,6 @@
-//! The handshake of a link's end: its phase, the mark of an end that refused the link, and the move
-//! after each read of the other's State. The crate uses no other crate. Its contract is the phase
-//! table itself, with the laws that follow from it:
+//! The handshake of a link's end: its phase, the mark of a refused link, and the move after each
+//! read of the other's State. The crate uses no other crate. Its contract is the phase table
+//! itself, with the laws that follow from it:
 //! - no phase is skipped;
 //! - READY is set only after the other end has left RESET, and RUN only if the other end is at
 //!   least READY;

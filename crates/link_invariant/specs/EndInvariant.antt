@@ -118,7 +118,7 @@ abbrev pub AreFew : LinkConfig → ℕ → Type 0
 AreFew link_config more = more < size_of link_config.sizes
 
 -- The invariant of a place. It is on the State that a tick may set, the words that an offer has
--- written, or the values of a poll that passed their tests.
+-- written, or the tested values of a poll.
 abbrev pub PlaceInvariant : LinkConfig → (ℕ → ℕ) → ℕ → End → Place → Type 0
 PlaceInvariant link_config memory p end Closed = Unit {0}
 PlaceInvariant link_config memory p end (ReadingOtherState handshake) = handshake ≡ end.handshake

@@ -8,8 +8,8 @@ use Rattle.call_grammar.specs.Ticks.{EndConfig}
 use Rattle.call_grammar.specs.Calls.{Call, Offer}
 use Rattle.link_invariant.specs.Fields.{Field, is_field, field_word, part_of}
 
--- The first word of section 0, which section 1 follows, the number of words of a section, the sizes
--- of its queue, and the vector of the doorbells.
+-- The first word of section 0, which section 1 follows, and the number of words of a section. The
+-- sizes of its queue, and the vector of the doorbells.
 pub record LinkConfig : Type 0 where
   pub first : ℕ
   pub words : ℕ

@@ -18,7 +18,8 @@ use Rattle.call_grammar.specs.Rows.{MovesTo}
 -- - its State; the value that it saw since it last wrote its State; and whether it refused;
 -- - the values that it read since its last mark or reset;
 -- - of its present session, the frames accepted and delivered;
--- - of its present session, the numbers of frames published as far as it looked, returned and freed;
+-- - of its present session, the numbers of frames published as far as it looked, of frames returned
+--   and of frames freed;
 -- - the number of frames freed by its last read of the used index.
 pub record Side : Type 0 where
   pub state : ℕ
@@ -35,8 +36,7 @@ pub record Side : Type 0 where
 abbrev pub initial_side : Side
 initial_side = record { state = 0; seen = None; refused = false; read = []; accepted = []; delivered = []; looked = 0; returned = 0; freed = 0; reclaimed = 0 }
 
--- The effect of a step on a side: the value of a read, a write of the State, a mark, or the reset
--- of the device.
+-- The effect of a step on a side: the value of a read, a write of the State, a mark, or a reset.
 pub data SideEvent : Type 0 where
   Gave : (value : ℕ) → SideEvent
   Wrote : (state : ℕ) → SideEvent

@@ -1,4 +1,4 @@
--- How the lawful history goes on after the lines that an expected run took.
+-- The lawful history after the lines that an expected run took.
 use Rattle.std.proofs.Common.{◌≡◌, ◌≢◌, ℕ, Bool, true, false, zero, suc, ◌<◌, ◌≤◌, ◌+◌, ◌-◌, List, [], ◌∷◌, ◌++◌, length, get_or, take, drop, replicate, refl, sym, ◌∙◌, ap, subst, arith, append_assoc, inl, inr}
 use Rattle.std.specs.Prelude.{◌⊎◌, ◌&&◌, ◌==◌, if◌then◌else◌, Some, None, reverse, slice_get}
 use Rattle.std.proofs.lemmas.List.{append-nil, length-append, reverse-append, take-append-drop, take_all, take_more}
@@ -37,8 +37,8 @@ begins_by_test world a b false = (b, refl)
 recorded_begins : (world : World) (version : ℕ) (a b : List Line) → (more : List Line) × (recorded_in world version (a ++ b) ≡ recorded_in world version a ++ more)
 recorded_begins world version a b = begins_by_test world a b (version == 2)
 
--- What a record has of the history goes on from the lines of a simulator that hasn't played all
--- events.
+-- The part of the history in a record continues from the lines of a simulator that hasn't played
+-- all events.
 follows : (world : World) (output : Output) (events rest : List Event) (s : Simulator) → RunsTo world output events s → events ++ rest ≡ schedule world.acts →
     (more : List Line) × (recorded_in world output.version (history world) ≡ (output.drained ++ kept_lines s) ++ more)
 follows world output events rest s runs all =
@@ -59,7 +59,7 @@ rest_is output c played =
     let acts = (world_in c).acts in
     sym (append_assoc played.events (replicate c.left (TurnTaken c.peer)) (schedule (drop c.at acts))) ∙ ap (λ es. es ++ schedule (drop c.at acts)) played.scheduled ∙ split_at acts c.at
 
--- The lines that weren't taken stand after those that were.
+-- The lines that weren't taken are after those that were.
 untaken : (drained kept_lines lines : List Line) (passed : ℕ) → drained ++ take passed kept_lines ≡ lines → drained ++ kept_lines ≡ lines ++ drop passed kept_lines
 untaken drained kept_lines lines passed taken =
     ap (λ ls. drained ++ ls) (sym (take-append-drop passed kept_lines)) ∙ sym (append_assoc drained (take passed kept_lines) (drop passed kept_lines)) ∙ ap (λ ls. ls ++ drop passed kept_lines) taken
@@ -75,7 +75,7 @@ head_of_more [] more p inside = absurd (omega arith)
 head_of_more (x ∷ xs) more zero inside = refl
 head_of_more (x ∷ xs) more (suc p) inside = head_of_more xs more p (omega arith)
 
--- The record goes on after the lines taken: its next line is the one that waits on the simulator.
+-- The record continues after the lines taken: its next line is the one that waits on the simulator.
 abbrev GoesOnBy : List Line → ExpectedRun → Type 0
 GoesOnBy lines c = (after : List Line) × (recorded_of c ≡ lines ++ after) × (head_of after ≡ slice_get (kept_lines c.simulator) c.passed)
 

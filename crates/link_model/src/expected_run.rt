@@ -202,8 +202,8 @@ impl ExpectedRun {
         self.passed < lines.len() && lines[self.passed].same(line)
     }
 
-    /// Takes the line with this number. Returns `Unlawful` exactly if the lawful history doesn't go
-    /// on with it, and `NoMemory` if memory ran out.
+    /// Takes the line with this number. Returns `Unlawful` exactly if the lawful history doesn't
+    /// continue with it, and `NoMemory` if memory ran out.
     pub fn take(&mut self, number: u64, line: &Line) -> Result<(), StepFault>
         requires { (lines : List Line) × GoesOn lines self.old }
         ensures on { (lines : List Line) → GoesOn lines self.old → OnOk result (GoesOn (lines ++ line.now ∷ []) self.new) }

@@ -12,7 +12,7 @@ pub enum Law {
     Order,
     /// An interrupt, a register or the configuration space differs.
     Device,
-    /// A peer wrote where it must not, or was denied where it may write.
+    /// A peer wrote a word that it may not write, or was denied a word that it may write.
     Touch,
     /// A read returned another value than the last one written to the word.
     Memory,

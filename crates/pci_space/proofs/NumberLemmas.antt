@@ -40,7 +40,7 @@ number_from-fits xs at n small =
     subst (λ v. v < 256 ^ n) (little_number-drop at n xs)
     (little_from-lt 0 n (drop at xs) (λ k. subst (λ b. b < 256) (sym (get_or-drop at xs k 0)) (small (at + k))))
 
--- What is left of a number above its byte j stands in the bytes from that one on.
+-- The part of a number from its byte j on is in the bytes from that one on.
 number_from-rest : (n at j count : ℕ) → n / 256 ^ j < 256 ^ count → number_from (λ k. number_byte n (k - at)) (at + j) count ≡ n / 256 ^ j
 number_from-rest n at j zero small = omega arith
 number_from-rest n at j (suc count) small =

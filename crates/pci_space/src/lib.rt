@@ -12,7 +12,7 @@
 //! - Two clauses define the bytes of the fields. One gives the value of each byte at reset
 //!   (`reset_byte`). By the other, bits outside the masks always have their reset values
 //!   (`KeepsUnmasked`).
-//! - A walk is a relation with five rules (`specs/Walk`): the list ends, a pointer is too low, a
+//! - A walk is a relation with five rules (`specs/Walk`). The list ends, a pointer is too low, a
 //!   pointer occurs twice, a capability is faulty, or the list continues. A law says that two walks
 //!   over the same bytes have one result (`one_walk`).
 // tested: `lspci` reads the device's bytes as this device with its two capabilities

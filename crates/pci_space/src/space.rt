@@ -9,7 +9,7 @@ use crate::table::FieldTable;
 use std::marker::Model;
 use thiserror::Error;
 
-/// An access that a space refuses: the width is not 1, 2 or 4, the offset is no multiple of it, or
+/// An access that a space refuses. The width is not 1, 2 or 4, the offset is no multiple of it, or
 /// the access ends after the space.
 #[derive(Clone, Copy, Debug, PartialEq, Eq, Error)]
 #[error("no access of {width} bytes at offset {offset}")]

@@ -375,7 +375,7 @@ by_touch : {P : Type 0} → (b : Bool) → (b ≡ true → P) → (b ≡ false �
 by_touch true f g = f refl
 by_touch false f g = g refl
 
--- The marks of a doorbell stand at the end of its step.
+-- The marks of a doorbell are at the end of its step.
 cleared_marks : (step : Step) (found : ℕ) → awaits_ring (Cleared found) ≡ false → marks_of (Clears step found) ≡ step.marks
 cleared_marks step found is = ap (λ (b : Bool). if b then [] else step.marks) is
 

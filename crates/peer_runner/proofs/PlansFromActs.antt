@@ -62,7 +62,7 @@ storm_snoc : (p : ℕ) (acts : List Act) (a : Act) → has_storm (acts ++ a ∷ 
 unfolding has_storm
 storm_snoc p acts a = list_any-append (is_storm p) acts (a ∷ []) ∙ ap (λ b. list_any (is_storm p) acts || b) (or_false (is_storm p a))
 
--- Acts that are allowed where they stand.
+-- Acts that are allowed at their positions.
 
 goes_on : (b : Bool) (line : ℕ) (rest : Option ℕ) → (if b then Some line else rest) ≡ None → (b ≡ false) × (rest ≡ None)
 goes_on true line rest none = absurd (cc)
@@ -274,7 +274,7 @@ pub spans_at : (acts : List Act) (p i : ℕ) (a : Act) → i < length acts → a
 unfolding spans_of
 spans_at acts p i a inside at = sym (ap (λ l. spans_of l p) (taken_more acts i a inside at) ∙ (flat_map-append (span_in p) (take i acts) (a ∷ []) ∙ ap (λ l. spans_of (take i acts) p ++ l) (append-nil (span_in p a))))
 
--- A peer has a turn line just where it has a span.
+-- A peer has a turn line exactly if it has a span.
 abbrev has_any : List ℕ → Bool
 has_any [] = false
 has_any (span ∷ spans) = true
@@ -306,7 +306,7 @@ some_turns acts p spans are some = has_span acts p ∙ (ap has_any (sym are) ∙
     filled [] some = absurd (clash (sym some))
     filled (span ∷ l) some = refl
 
--- How many turns a peer has: between each two of its turn lines stands a reset of it, which counts.
+-- The number of turns of a peer. Between each two of its turn lines is a reset of it, which counts.
 
 abbrev resets_in : ℕ → List Act → ℕ
 resets_in p [] = 0

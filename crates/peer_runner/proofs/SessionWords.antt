@@ -28,7 +28,7 @@ use Rattle.shared_words.proofs.ActionsMakeWords.{made_in}
 abbrev HasWord : DerivedState → ℕ → Type 0
 HasWord s word = WordIs s.end s.numbers word
 
--- One end that comes to stand otherwise.
+-- One end whose state changes.
 word_on : (st next : ℕ → DerivedState) (words now : ℕ → ℕ) (p : ℕ) (s : DerivedState) (q : ℕ) → OnlyComes st next p s → (p ≡ q → HasWord s (now p)) → (now q ≡ words q ⊎ (q ≡ p)) → HasWord (st q) (words q) → HasWord (next q) (now q)
 word_on st next words now p s q only new same was = dite (ℕ_discrete q p)
     (λ e. subst (λ (x : DerivedState). HasWord x (now q)) (sym (ap next e ∙ only.here)) (subst (λ x. HasWord s (now x)) (sym e) (new (sym e))))

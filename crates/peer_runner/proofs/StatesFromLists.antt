@@ -55,7 +55,7 @@ reset_called t e = cc
 same_call : {a b : CallAccess} → called a ≡ called b → a ≡ b
 same_call e = cc
 
--- An access that stands in a list that grew by another memory operation stood there before.
+-- An access of a list that grew by another memory operation was in the list before.
 in_list : (acc next : ℕ → List (MemoryOp CallAccess)) (p q : ℕ) (d e : MemoryOp CallAccess) → Appends acc next q d → Contains (next p) e → Contains (acc p) e ⊎ ((p ≡ q) × (d ≡ e))
 in_list acc next p q d e g c = dite (ℕ_discrete p q)
     (λ i. ⊎_elim (λ h. inl (subst (λ x. Contains (acc x) e) (sym i) h)) (λ h. inr (i, one_in d e h)) (Contains-append_cases (acc q) (d ∷ []) e (subst (λ l. Contains l e) (ap next i ∙ g.here) c)))
@@ -84,7 +84,7 @@ none_there : (front back : List (MemoryOp CallAccess)) (d : MemoryOp CallAccess)
 none_there [] back d e = cc
 none_there (x ∷ front) back d e = cc
 
--- A memory operation that stands in a list with one more is that one, or stands in the list.
+-- A memory operation of a list with one more is that one, or is in the list.
 in_front : (list : List (MemoryOp CallAccess)) (u : MemoryOp CallAccess) (front back : List (MemoryOp CallAccess)) (d : MemoryOp CallAccess) → list ++ u ∷ [] ≡ front ++ d ∷ back → ((list ≡ front) × (u ≡ d)) ⊎ ((rest : List (MemoryOp CallAccess)) × (list ≡ front ++ d ∷ rest))
 in_front [] u [] back d e = let h : u ≡ d = cc in inl (refl, h)
 in_front [] u (x ∷ front) back d e = let h : [] ≡ front ++ d ∷ back = cc in absurd (none_there front back d h)

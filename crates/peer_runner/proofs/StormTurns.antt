@@ -101,7 +101,7 @@ storm_takes key routes p x ringing opened spans (Cleared found) left is =
 storm_takes key routes p x ringing opened spans Rung left is =
     (left, (storming (storm_after x), record { first = quiet_first (config_in key p) (route_to routes p) x ringing opened spans; rings = is.0; guards = is.1; takes = (refl, refl) }, refl))
 
--- A reset drops the ring that is to come, and the storm goes on with its next step.
+-- A reset drops the ring that is to come, and the storm continues with its next step.
 abbrev pub storm_cut : (ringing : Bool) → ℕ → ℕ
 storm_cut ringing x = if ringing then storm_after x else x
 

@@ -131,12 +131,12 @@ lines_here part p is = lines_one part p ∙ ap (λ (b : Bool). if b then part.li
 lines_beside : (part : Part) (p : ℕ) → part.peer ≢ p → lines_by (part ∷ []) p ≡ []
 lines_beside part p isnt = lines_one part p ∙ ap (λ (b : Bool). if b then part.lines else []) (ne_eqb part.peer p isnt)
 
--- What a list and the lines of its peer say of it, where it is honest.
+-- The facts of an honest peer by its list and its lines.
 record Says (key : RunSetup) (p : ℕ) (list : List (Action (MemoryOp CallAccess))) (lines : List Line) : Type 0 where
   recorded : ReaderMatches (derived_state key p (accesses_in list)) (reader_of_lines (event_word (config_in key p)) lines)
   refused : NeverMarked key p (accesses_in list) → list_any refuses lines ≡ false
 
--- A peer without lines stands where it began.
+-- A peer without lines is in its first state.
 nothing_recorded : (event : ℕ) → reader_of_lines event [] ≡ initial_reader
 unfolding reader_after_lines
 nothing_recorded event = refl
@@ -216,7 +216,7 @@ wakes world key lists traces made two a b ran none p frame p2 asked =
     λ q q2. reader_matches_in world key (map part_of traces) made q (list_of lists q) (says_of world key lists traces two ran q q2 (both_honest key a b q q2)) in
     subst (λ l. ¬ Contains l frame) (sym (says (1 - p) (omega arith)).missed) (none p frame p2 (sym (says p p2).asked ∙ asked))
 
--- Beside a hostile peer.
+-- Opposite to a hostile peer.
 carries : (world : World) (key : RunSetup) (lists : List (List (Action (MemoryOp CallAccess)))) (traces : List OwnTrace) → IsMadeFor world key → 2 ≤ length lists → RanAll world key 0 lists traces → AllIsLearned key (list_of lists) → CarryNone world (map part_of traces)
 carries world key lists traces made two ran recorded p p2 one other = let honest = made.honest p ∙ one in
     subst (λ (l : Log). CarriesNone l) (sym (reader_matches_in world key (map part_of traces) made p _ (says_of world key lists traces two ran p p2 honest)).log) (recorded.neighbour_word p p2 honest (made.honest (1 - p) ∙ other))

@@ -196,7 +196,7 @@ restart_own me = mine_and me true refl
 
 -- A turn of the runner is a turn of its peer.
 
--- A call goes on at an open place, and so it hasn't ended there.
+-- A call continues at an open place, and so it hasn't ended there.
 goes_on : (tree new : CallTree) (step : Step) (config : EndConfig) (peer : Peer) → Goes tree step new → (opened_by config peer tree [] ≡ peer) × (has_ended tree ≡ false)
 goes_on Ended new step config peer goes = absurd goes
 goes_on (Does a marks rest) new step config peer goes = (refl, refl)
@@ -373,7 +373,7 @@ turn_takes follow routes config storm r Rung met due now goes is =
 
 -- A turn at a session word: the State step with 2 or with 3 comes next.
 
--- An open call goes on.
+-- An open call continues.
 pub goes_open : (r : Runner) → is_open r.place ≡ true → (has_finished r ≡ false) × (chosen r ≡ None)
 unfolding choice_in
 goes_open r is = let none : chosen r ≡ None = ap (λ (b : Bool). if b then None else Some (choice_in r)) is in (ap finishes none, none)
@@ -543,7 +543,7 @@ far_on key me routes plan spans r next g far = let config = config_in key me in 
   recorded = subst (λ ls. StateMatches next (reader_of_lines (event_word (config_in key me)) ls)) (sym lines) (subst (StateMatches next) (sym (reports_both (event_word (config_in key me)) initial_reader (lines_of_turns me r.turns) (lines_in me g.turn))) g.reports);
 }
 
--- Whether the step is held or goes on.
+-- Whether the step is held or continues.
 by_hold : (routes : List Route) (config : EndConfig) (r : Runner) (done : Done) (P : Runner → Type 0) → P (held_on routes config r done) → P (stepped_on routes config r done) → P (turned routes config r done)
 by_hold routes config r done P held on = elim (awaits_ring done) as (λ b. P (if b then held_on routes config r done else stepped_on routes config r done)) [ true ↦ held | false ↦ on ]
 
@@ -611,7 +611,7 @@ far_of follow key me routes plan spans r (follows before next end comes refines 
 
 -- How many turns are taken
 
--- They are as many as all turns but those that are left, and one at least for each session.
+-- Their number is that of all turns except those that are left, and at least one for each session.
 pub record IsCounted (spans : List ℕ) (r : Runner) : Type 0 where
   pub count : length r.turns + all_turns r.spans ≡ all_turns spans
   pub opened : r.numbers.log.opened ≤ length r.turns

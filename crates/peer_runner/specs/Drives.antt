@@ -139,8 +139,8 @@ DroveBy key routes p spans start old new answer =
 abbrev pub DrovePlan : RunSetup → PeerPlan → (old new : PassView) → Result OwnTrace NoMemory → Type 0
 DrovePlan key plan old new answer = DroveBy key plan.routes.items plan.peer plan.spans (starting plan.driver) old new answer
 
--- a peer of a scenario did this to the words, and these are the traces of it: one, or none where it
--- has no turns
+-- A peer of a scenario did this to the words, and these are its traces: one, or none if it has no
+-- turns.
 abbrev pub HasRun : World → RunSetup → ℕ → List (Action (MemoryOp CallAccess)) → List OwnTrace → Type 0
 HasRun world key p list traces =
     (t : OwnTrace) × (traces ≡ t ∷ []) × (routes : List Route) × AreRoutesOf world routes ×

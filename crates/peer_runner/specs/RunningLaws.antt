@@ -1,6 +1,6 @@
--- The rule's statements between any two accesses: of all peers, of each honest link peer for all
--- stores of the other, and of two honest ones. A part is stated over the key, the words, the lists
--- of memory operations and one of the two link peers, p. The other one is 1 - p.
+-- The facts that the rule states between any two accesses. They are of all peers, of each honest
+-- link peer for all stores of the other, and of two honest ones. A part is stated over the key, the
+-- words, the lists of memory operations and one of the two link peers, p. The other one is 1 - p.
 use Rattle.std.specs.Prelude.{ℕ, suc, ◌≡◌, ◌≢◌, ◌+◌, ◌-◌, ◌/◌, ◌%◌, ◌^◌, ◌<◌, ◌≤◌, ◌⊎◌, true, false, Option, Some, None, List, [], ◌∷◌, ◌++◌, length, slice_index, set, Contains}
 use Rattle.atomic_table.specs.Table.{State}
 use Rattle.section_map.specs.Geometry.{section_start, word_count}
@@ -85,10 +85,10 @@ abbrev pub StoresAreOwned : Type 0
 StoresAreOwned = (key : RunSetup) (s : State ℕ View) (kept : TableInvariant key s) (p : ℕ) (t : CallAccess) →
     Contains (accesses_by kept.acc p) (called t) → IsOwned key p t.access
 
--- For each peer and each bit the looks that found the bit, plus one if it is set now, are at most
--- the rings that set it. Of each peer's Interrupt Control: its bit, plus the number of clears that
--- found it set, equals the bit before any action. At a one-shot peer each ring comes after such a
--- clear of the same list.
+-- For each peer and bit the looks that found the bit, plus one if it is set now, are at most its
+-- rings. Of each peer's Interrupt Control: its bit, plus the number of clears that found it set,
+-- equals the bit before any action. At a one-shot peer each ring comes after such a clear of the
+-- same list.
 abbrev pub InterruptsAreRung : Type 0
 InterruptsAreRung = (key : RunSetup) (s : State ℕ View) (kept : TableInvariant key s) → Interrupts key (λ w. slice_index s.words w) kept.acc
 
@@ -257,9 +257,9 @@ pub record PairInvariant (key : RunSetup) (memory : ℕ → ℕ) (acc : ℕ → 
   pub named : (k : ℕ) → freed_by key acc p ≤ k → k < (end_by key acc (1 - p)).returned →
       id_at key.queue (section_words key memory (1 - p)) k ≡ k % limit_of key.queue
 
--- In a link with events the event word of one, as it wrote that word last, requests a doorbell at a
--- frame of the session carried then. The other's offer of that frame, once it has read the event,
--- goes on to the doorbell.
+-- In a link with events the last store of one's event word requests a doorbell at a frame of the
+-- session carried then. The other's offer of that frame, once it has read the event, continues to
+-- the doorbell.
 abbrev pub AskedIsRung : RunSetup → (ℕ → ℕ) → (ℕ → List (MemoryOp CallAccess)) → ℕ → Type 0
 AskedIsRung key memory acc p = has_events key.queue ≡ true → (frame : FrameNumber) → (derived_state key p (acc p)).wake.asked ≡ At frame →
     ¬ Contains (derived_state key (1 - p) (acc (1 - p))).wake.missed frame

@@ -146,10 +146,10 @@ pub fn pair_invariant_holds()
     ensures { OfTwoHonest (WhereEitherAttends PairInvariant) }
 {}
 
-/// In a link with events, if an honest link peer requests a doorbell at a frame from the other
-/// honest one, then no offer of that frame ends without a doorbell. A request holds until the peer
-/// writes its event word again, through State writes and resets. It names a frame of the session
-/// that the peer carried at its look.
+/// In a link with events an honest link peer requests a doorbell at a frame from the other honest
+/// one. No offer of that frame then ends without a doorbell. A request holds until the peer writes
+/// its event word again, through State writes and resets. It names a frame of the session that the
+/// peer carried at its look.
 // claim: In a link with events, where the event word of one of two honest link peers, as it wrote
 //    that word last, asks for a doorbell at a frame of the session that it carried then, the
 //    other's offer of that frame has not ended without one, through State writes and resets of

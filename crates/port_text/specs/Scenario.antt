@@ -12,8 +12,8 @@ use Rattle.port_text.specs.Table.{pieces_of}
 use Rattle.port_text.specs.Acts.{turns_of}
 use Rattle.port_text.specs.ActRows.{row_of_act}
 
--- The value of a text: the sizes of the region in words, the limit of a message in bytes, whether
--- each peer is honest, and the schedule.
+-- The value of a text: the region's sizes in words, the limit of a message in bytes, whether each
+-- peer is honest, and the schedule.
 pub record World : Type 0 where
   pub geometry : Shape
   pub most : ℕ

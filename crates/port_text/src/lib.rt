@@ -1,5 +1,5 @@
-//! Schedules of sampling ports as values and as text: a region's sizes, the limit of a message in
-//! bytes, the kinds of the peers, and their acts. The crate uses `line_format` for lines and forms,
+//! Schedules of sampling ports as values and as text: a region's sizes, the limit of a message, the
+//! kinds of the peers, and their acts. The crate uses `line_format` for lines and forms,
 //! `scenario_text` for the sizes of a region, and `section_map` for the region itself. Its
 //! contracts promise that each value has one spelling. They promise that parsing succeeds exactly
 //! if the bytes are a spelling. Each fault is the first in the order of the format

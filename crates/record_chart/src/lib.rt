@@ -1,6 +1,6 @@
 //! A picture of a record. It has the lines of a history that share a row, the arrows from a frame's
-//! acceptance to its delivery, and the SVG file or text. The crate uses `record_text` for records.
-//! Its contracts promise that the rows are the lines of the record, each once and in order. They
+//! acceptance to its delivery, and the output. The crate uses `record_text` for records. Its
+//! contracts promise that the rows are the lines of the record, each once and in order. They
 //! promise that a delivered frame of an honest pair has the arrow from its own acceptance.
 //!
 //! # Design

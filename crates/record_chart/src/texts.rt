@@ -93,8 +93,8 @@ fn words_of(
     }
 }
 
-/// Writes the cells of a row: the label in the column of its peer, and a bar in each column whose
-/// peer has an open call.
+/// Writes the cells of a row: the label in its peer's column, and a bar in each column whose peer
+/// has an open call.
 fn put_cells(
     page: &mut Page,
     open: &[bool; 8],

@@ -66,8 +66,8 @@ abbrev pub lines_bytes : List Line → ℕ
 lines_bytes [] = 0
 lines_bytes (recorded ∷ lines) = line_bytes recorded + lines_bytes lines
 
--- The cost of a line: its bytes and, for a write of State 3, the bytes of the mark of a session
--- that can follow it.
+-- The cost of a line: its bytes and, for a write of State 3, those of the session's mark that can
+-- follow it.
 
 abbrev pub mark_room : Line → ℕ
 mark_room (line.State peer value) = if value == 3 then 31 + length (decimal peer) else 0

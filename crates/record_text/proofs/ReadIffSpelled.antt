@@ -1,4 +1,4 @@
--- A text is read exactly where it is the spelling of what is read.
+-- A text is read exactly if it is the spelling of what is read.
 use Rattle.std.proofs.Common.{◌≡◌, ℕ, List, [], Result, Ok, Err, refl, sym, ap, subst, ◌∙◌}
 use Rattle.std.specs.Result.{IsErrAnd}
 use Rattle.line_format.specs.declared.reading.TextFault.{TextFault}

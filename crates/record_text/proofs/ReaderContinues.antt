@@ -159,7 +159,7 @@ leads AtScenario v h ls line position version head lines before fresh is = head_
 leads AtHistory v h ls line position version head lines before fresh is = absurd cc
 leads Ended v h ls line position version head lines before fresh is = absurd cc
 
--- What hasn't reached the history stands before it.
+-- The lines that aren't in the history yet are before it.
 pub stands_before : (position : RecordPosition) (version : ℕ) (head : DraftView) (lines : List Line) → is_whole (part_at position version head lines) ≡ false → (position ≡ AtHistory → ⊥) → is_before_history position ≡ true
 stands_before AtFirst version head lines goes_on other = refl
 stands_before AtScenario version head lines goes_on other = refl

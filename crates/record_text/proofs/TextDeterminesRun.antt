@@ -46,7 +46,7 @@ no_beginning w v s t is is' e lt = let a = scenario.spelling w in let b = scenar
     let none = cut_is_no_end scenario_judge.machine scenario_judge.sense scenario.IsSpelling line_count scenario_laws.is_forward v b (length a) (is', refl) lt in
     let clash = sym read ∙ (ap scenario_judge.answer cut ∙ none) in absurd cc
 
--- The text of a scenario and what stands after it.
+-- The text of a scenario and the text after it.
 pub scenario_same : (w v : World) (s t : List ℕ) → IsWorld w → IsWorld v → scenario.spelling w ++ s ≡ scenario.spelling v ++ t → (w ≡ v) × (s ≡ t)
 scenario_same w v s t is is' e = let a = scenario.spelling w in let b = scenario.spelling v in
     dite (ℕ_discrete (length a) (length b))
@@ -58,7 +58,7 @@ scenario_same w v s t is is' e = let a = scenario.spelling w in let b = scenario
 
 -- ---- Rows determine parts
 
--- What stands after a part's own lines.
+-- The text after a part's own lines.
 abbrev rest_of : ℕ → Bool → List (Row RunForm)
 rest_of turns finished = row Turns (turns ∷ []) [] ∷ row (if finished then Finished else Spent) [] [] ∷ []
 
@@ -100,7 +100,7 @@ finished_same false false e = refl
 finished_same true false e = absurd cc
 finished_same false true e = absurd cc
 
--- The own lines, the turns and the end of a part, and what stands after it.
+-- The own lines, the turns and the end of a part, and the text after it.
 record Same (ls ms : List Line) (t u : ℕ) (b c : Bool) (rs ss : List (Row RunForm)) : Type 0 where
   lines : ls ≡ ms
   turns : t ≡ u
@@ -122,7 +122,7 @@ own_same (l ∷ ls) [] t u b c rs ss e = absurd (clash (ap (λ (r : Row RunForm)
 own_same (l ∷ ls) (m ∷ ms) t u b c rs ss e = let s = own_same ls ms t u b c rs ss (tail_rows _ _ _ _ e) in let here = line_same l m (head_row _ _ _ _ e) in
     record { lines = λ k. here k ∷ s.lines k; turns = s.turns; finished = s.finished; rest = s.rest }
 
--- A part's rows, with what stands after them.
+-- A part's rows, with the text after them.
 opened : (p : Part) (ps : List Part) (end : List (Row RunForm)) → rows_of_parts (p ∷ ps) ++ end ≡ row Peer (p.peer ∷ []) [] ∷ (map own_row p.lines ++ (rest_of p.turns p.finished ++ (rows_of_parts ps ++ end)))
 opened p ps end = let own = map own_row p.lines in let rest = rest_of p.turns p.finished in
     ap (λ rs. rs ++ end) (flat_map-cons rows_of_part p ps) ∙ (append_assoc (row Peer (p.peer ∷ []) [] ∷ own ++ rest) (rows_of_parts ps) end ∙ ap (λ rs. row Peer (p.peer ∷ []) [] ∷ rs) (append_assoc own rest (rows_of_parts ps ++ end)))

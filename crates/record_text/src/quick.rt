@@ -6,8 +6,8 @@ ghost use Rattle.record_text.specs.Quick.{IsLineOf};
 
 use lawful_history::Line;
 
-/// The number of 32 bits in front of these bytes, and the bytes after its digits. There is none
-/// where it isn't in its one spelling.
+/// The number of 32 bits in front of these bytes, and the bytes after its digits. There is none if
+/// it isn't in its one spelling.
 fn number_in_front(bytes: &[u8]) -> Option<(u32, &[u8])>
     ensures { IfSome result (λ p. bytes.now ≡ decimal p.0 ++ p.1.now) }
 {

@@ -25,8 +25,8 @@ receiver_of a = record {
   gathered = take (4 * words_read a.place) a.buffer.items;
 }
 
--- The invariant of a receiver. The sections end at or before byte 2^24 of the region, both buffers
--- hold the longest frame, and the values of the place passed their checks.
+-- The invariant of a receiver. The sections end at or before byte 2^24 of the region, and both
+-- buffers hold the longest frame. The values of the place passed their checks.
 pub record IsWellFormed (a : Inside) : Type 0 where
   pub queue : IsQueue a.queue
   pub bounds : HasBounds a.queue

@@ -30,7 +30,7 @@ first_law g past first others law =
 read_is : (g : Shape) (past : List Line) (p word value : ℕ) (mark : Option PortMark) → MemoryLaw g (reverse (step_lines p (port_step (access.Read word) value mark)) ++ past) → value ≡ last_write past word
 read_is g past p word value mark law = first_law g past (Read p word value) (mark_lines p mark) law
 
--- Two steps by which a call goes on after the same lines are equal.
+-- Two steps by which a call continues after the same lines are equal.
 same_goes : (g : Shape) (past : List Line) (p : ℕ) (tree : PortTree) (step step' : PortStep) (new new' : PortTree) → Goes tree step new → Goes tree step' new' →
     MemoryLaw g (reverse (step_lines p step) ++ past) → MemoryLaw g (reverse (step_lines p step') ++ past) → (step ≡ step') × (new ≡ new')
 same_goes g past p Ended step step' new new' goes goes' law law' = absurd goes

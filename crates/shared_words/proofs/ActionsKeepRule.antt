@@ -61,7 +61,7 @@ module _ (n : ℕ) (seat : ℕ → ℕ) (acc : ℕ → List (Action (MemoryOp Ca
   grows : acc from ≡ l → Appends acc (put acc from (l ++ a ∷ [])) from a
   grows e = record { here = put_here acc from from _ refl ∙ ap (λ m. m ++ a ∷ []) (sym e); neighbour_word = λ q n. put_else acc from q _ n }
 
--- A number that is written where it stands.
+-- A number that is written to its own place.
 pub put_back : (ws : List ℕ) (i n : ℕ) → n ≡ get_or ws i 0 → set ws i n ≡ ws
 put_back ws i n e = ap (set ws i) e ∙ set-get_or ws i 0
 

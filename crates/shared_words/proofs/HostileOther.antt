@@ -1,5 +1,5 @@
--- An honest peer beside a hostile one, whose session word stays 0: no session of the honest one
--- carries a number.
+-- An honest peer opposite to a hostile one, whose session word stays 0: no session of the honest
+-- one carries a number.
 use Rattle.std.proofs.Common.{◌≡◌, ℕ, ◌-◌, Bool, true, false, List, ◌∷◌, refl, sym, ap, ◌∙◌, subst}
 use mathlib.Core.Logic.{dite}
 use native.Mathlib.Decide.{ℕ_discrete}

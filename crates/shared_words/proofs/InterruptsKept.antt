@@ -20,7 +20,7 @@ set_bit n k bit = let was : bit_at (bit_or n (2 ^ k)) bit ≡ max (bit_at n bit)
     (λ e. let one : rings_bit {A = MemoryOp CallAccess} 0 bit (rang 0 k) ≡ 1 = ap (λ (j : ℕ). rings_bit {A = MemoryOp CallAccess} 0 bit (rang 0 j)) (sym e) ∙ rings_here (MemoryOp CallAccess) 0 bit in let low : bit_at (2 ^ k) bit < 2 = bit_at-lt (2 ^ k) bit in omega arith)
     (λ ne. let none : bit_at (2 ^ k) bit ≡ 0 = bit_at-pow_other k bit ne in omega arith)
 
--- The lists of one-shot targets go on so.
+-- The lists of one-shot targets with one more action.
 leave_keeps : (key : RunSetup) (acc next : ℕ → List (Action (MemoryOp CallAccess))) (p : ℕ) (t : Action (MemoryOp CallAccess)) → Appends acc next p t →
     ((target : ℕ) → target < key.geometry.peers → IsOneShot key target → count_in (rings_target target) (acc p) ≤ count_in (clears_set_bit target) (acc p) → count_in (rings_target target) (acc p) + rings_target target t ≤ count_in (clears_set_bit target) (acc p) + clears_set_bit target t) →
     ((target q : ℕ) → target < key.geometry.peers → q < key.geometry.peers → IsOneShot key target → FollowsClears target (acc q)) → (target q : ℕ) → target < key.geometry.peers → q < key.geometry.peers → IsOneShot key target → FollowsClears target (next q)

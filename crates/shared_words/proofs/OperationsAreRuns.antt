@@ -26,7 +26,7 @@ pub begun_numbers : (config : EndConfig) (s : DerivedState) (call : Option Call)
 begun_numbers config s None = refl
 begun_numbers config s (Some call) = refl
 
--- One end goes on, wherever the other stands.
+-- One end acts, in each state of the other.
 module _ (link_config : LinkConfig) (honest : ℕ → Bool) (words : ℕ → ℕ) (st : ℕ → DerivedState) (p : ℕ) (p2 : p < 2) (hp : honest p ≡ true) where
   abbrev R : (ℕ → ℕ) → DerivedState → Type 0
   R memory s = Reached link_config honest memory words (put st p s)
@@ -59,8 +59,8 @@ module _ (link_config : LinkConfig) (honest : ℕ → Bool) (words : ℕ → ℕ
   settle : (memory : ℕ → ℕ) (s : DerivedState) → R memory s → R memory (settled s)
   settle memory s k = settle_at memory s.end s.place s.numbers s.wake k
 
-  -- An honest end begins its call, takes the step of its place, and rings at once where it comes to
-  -- a doorbell.
+  -- An honest end begins its call, makes the step at its place, and rings at once if that step
+  -- leads to a doorbell.
   pub on_goes : (memory after : ℕ → ℕ) (s : DerivedState) (t : CallAccess) → Begins link_config s t.begins → is_open (begun_if (config_of link_config p) s t.begins).place ≡ true →
       ReadsMemory memory (access_at (config_of link_config p) (begun_if (config_of link_config p) s t.begins).place) t.value → MemoryAfter p memory (access_at (config_of link_config p) (begun_if (config_of link_config p) s t.begins).place) after →
       IsNumbered s.numbers (access_at (config_of link_config p) (begun_if (config_of link_config p) s t.begins).place) → R memory s → R after (after_access (config_of link_config p) s t)

@@ -8,7 +8,7 @@ use Rattle.link_invariant.specs.Steps.{Stored, IsUntouched, ReadsMemory, MemoryA
 use Rattle.pair_sessions.specs.Numbers.{IsNumbered}
 use Rattle.shared_words.specs.DerivedStates.{DerivedState, initial_derived_state, begun, moved, numbers_stored, numbers_loaded, derived_state_after_reset}
 
--- End p comes to stand so, and the other stays.
+-- End p changes to this state, and the other stays.
 pub record OnlyComes (st next : ℕ → DerivedState) (p : ℕ) (s : DerivedState) : Type 0 where
   pub here : next p ≡ s
   pub neighbour_word : (q : ℕ) → q ≢ p → next q ≡ st q

@@ -24,7 +24,7 @@ use Rattle.call_grammar.specs.Places.{Place, Closed, ReadingOtherState, Clearing
 
 -- Which steps change what is asked for and what is missed.
 
--- Marks among which no look is; and none of which is one, nor the first one the end of a call.
+-- Marks without a look. Marks without a look of which the first isn't the end of a call.
 abbrev pub HasNoLook : List Mark → Type 0
 HasNoLook [] = Unit {0}
 HasNoLook (Look count ∷ marks) = ⊥
@@ -143,7 +143,7 @@ kept_missed config event n m w place value is = plain_wake_missed event n m w (a
 
 -- Where a step leads
 
--- Neither to a look nor to the write of the own event, nor to the read of the other's.
+-- The step leads to no look, no write of the own event, and no read of the other's.
 abbrev pub is_still : Place → Bool
 is_still (WritingAvailEvent taken) = false
 is_still (ReadingAvailEvent number) = false
@@ -217,8 +217,8 @@ pub pending_most : (place : Place) → unpublished place ≤ 1
 pending_most (ReadingAvailEvent number) = omega arith
 pending_most place = omega arith
 
--- The request of an end at its place. If it wrote its event word, it hasn't ended the call since,
--- nor accepted or returned a frame. Before a look the event is set.
+-- The request of an end at its place. If it wrote its event word, it has ended no call, accepted no
+-- frame and returned no frame since. Before a look the event is set.
 
 abbrev pub AsksAt : (Stands : ℕ → Type 0) → DoorbellRequest → Place → Type 0
 AsksAt Stands a Closed = a ≢ Written

@@ -96,10 +96,9 @@ FollowsClears target list = (n : ℕ) → count_in (rings_target target) (take n
 abbrev pub MayRing : {A : Type 0} → (target : ℕ) → List (Action A) → Type 0
 MayRing target list = count_in (rings_target target) list < count_in (clears_set_bit target) list
 
--- For each target and bit the looks that found the bit, plus one if it is set now, are at most the
--- rings of all peers. Bit 0 of the target's Interrupt Control, plus the number of clears of all
--- peers that found it set, equals this bit at the start. At a one-shot target each ring comes after
--- such a clear.
+-- For each target and bit the looks that found the bit, plus one if it is set now, are at most all
+-- rings. Bit 0 of the target's Interrupt Control, plus the number of clears of all peers that found
+-- it set, equals this bit at the start. At a one-shot target each ring comes after such a clear.
 pub record Interrupts {A : Type 0} (key : RunSetup) (memory : ℕ → ℕ) (acc : ℕ → List (Action A)) : Type 0 where
   pub rung : (target bit : ℕ) → target < key.geometry.peers →
       count_in (finds_bit bit) (acc target) + bit_at (memory (interrupt_word key target)) bit ≤ sum_below key.geometry.peers (λ p. count_in (rings_bit target bit) (acc p))

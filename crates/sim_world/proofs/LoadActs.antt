@@ -91,7 +91,7 @@ turn_at count j d inside =
     ∙ get_or-append-add (load_offers count) (load_rounds (200 + (count + 2) / 3)) j d
     ∙ round_at_from 0 (200 + (count + 2) / 3) j d inside
 
--- an offer of any load stands in the load of 768 frames
+-- An offer of any load is in the load of 768 frames.
 pub offer_again : (count at : ℕ) (act : Act) → 2 ≤ at → at < 2 + count → act ≡ get_or (load_acts 768) (2 + (at - 2) % 768) act → act ≡ get_or (load_acts count) at act
 offer_again count at act after before is =
     let k = at - 2 in

@@ -17,7 +17,8 @@ use Rattle.lawful_history.specs.Device.{interrupts_of_access, step_interrupts}
 use Rattle.lawful_history.specs.History.{step_by, moved_by}
 use Rattle.simulator.specs.WorldState.{GaveLast, accessed}
 
--- A step by which a call goes on is the computed one, if its read returned the value written last.
+-- A step by which a call continues is the computed one, if its read returned the value written
+-- last.
 pub by_tree : (world : World) (p : ℕ) (driver : Driver) (peer : Peer) (tree : CallTree) (step : Step) (new : CallTree) (past : List Line) → Goes tree step new →
     ((word : ℕ) → step.access ≡ access.Read word → step.value ≡ last_write past word) → (step_by world p driver tree past ≡ Some step) × (moved_by peer tree past ≡ stepped peer step new)
 by_tree world p driver peer Ended step new past goes known = absurd goes

@@ -119,7 +119,7 @@ impl Simulator {
         self.world_state.write_msix(peer, offset, value)
     }
 
-    /// Adds one to the interrupts that the peer will lose.
+    /// Adds one to the interrupts that the peer is to lose.
     pub fn lose(&mut self, peer: u32)
         requires seated { HasPeer self.old.world_state peer }
         requires room { slice_index self.old.world_state.unspent peer < 2 ^ 64 - 1 }

@@ -1,5 +1,5 @@
 //! A peer's direct accesses to its device: configuration space, register page and MSI-X region.
-//! Repeated interrupts, and interrupts that will be lost.
+//! Repeated interrupts, and interrupts that are to be lost.
 ghost use Rattle.std.specs.Prelude.{◌≡◌, ℕ, ◌<◌, ◌-◌, ◌^◌, List, ◌∷◌, true, OnOk, slice_index};
 ghost use Rattle.pci_space.specs.Fields.{is_access};
 ghost use Rattle.lawful_history.specs.declared.line.Line.TheVariants.{Interrupt};
@@ -130,7 +130,7 @@ impl WorldState {
         self.record_mark(Line::Interrupt { peer: me, vector })
     }
 
-    /// Adds one to the interrupts that the peer will lose.
+    /// Adds one to the interrupts that the peer is to lose.
     pub fn lose(&mut self, me: u32)
         requires seated { HasPeer self.old me }
         requires room { slice_index self.old.unspent me < 2 ^ 64 - 1 }

@@ -21,14 +21,14 @@ use lawful_history::Line;
 use section_map::Region;
 use split_ring::steps::Access;
 
-/// The region, the devices, the interrupts that will be lost, and the history so far.
+/// The region, the devices, the interrupts that are to be lost, and the history so far.
 #[derive(Drop)]
 pub struct WorldState {
     /// The words of the region.
     pub region: Region,
     /// The devices of all peers.
     pub device: Device,
-    /// The number of interrupts that will be lost, for each of 8 peers.
+    /// The number of interrupts that are to be lost, for each of 8 peers.
     pub unspent: [u64; 8],
     /// The lines.
     pub log: Log,

@@ -72,7 +72,7 @@ data_area_len q = q.out - data_area_start q
 abbrev pub slot_of : Sizes → ℕ
 slot_of q = up64 (FRAME_OVERHEAD + q.mtu)
 
--- The number of slots: as many as the data area holds, and at most the number of descriptors.
+-- The number of slots: the number that the data area holds, and at most the number of descriptors.
 unfoldable pub slots_of : Sizes → ℕ
 slots_of q = min (size_of q) (data_area_len q / slot_of q)
 

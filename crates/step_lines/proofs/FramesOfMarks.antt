@@ -143,7 +143,7 @@ same_marks one other delivered (note.Down ∷ notes) none = ap (λ ms. mark_betw
 same_marks one other delivered (note.Refuse refused ∷ notes) none = ap (λ ms. mark_between one delivered (note.Refuse refused) ∷ ms) (same_marks one other delivered notes none)
 same_marks one other delivered (note.Over ∷ notes) none = ap (λ ms. mark_between one delivered note.Over ∷ ms) (same_marks one other delivered notes none)
 
--- The marks of a step; the frame offered is the one before the step or, if the call goes on, the
+-- The marks of a step. The frame offered is the one before the step or, if the call continues, the
 -- one after it.
 pub marks_after : (config : EndConfig) (place : Place) (value : ℕ) (old new delivered : List ℕ) (notes : List Note) (busy : Bool) → marks_between old delivered notes ≡ marks_at config place value → busy ≡ is_open (next_place config place value) →
     (busy ≡ true → new ≡ old) → marks_between new delivered notes ≡ marks_at config place value

@@ -287,7 +287,7 @@ const STORM: &[u8] =
     b"ivshm 1\npeers 2\ntable 4096\ncommon 0\nout 16384\nmtu 256\nirq msix 2\npeer 0 honest\npeer 1 hostile\nbegin\nauto 0 1\nstorm 1 7\nturn 0 200\nturn 1 200\nend\n";
 
 /// The first draws of seed 7, computed by hand from the generator's formula. They are a write to a
-/// word of the section, State 7, a further write to a word of the section, and one to its rings.
+/// word of the section, State 7, another write to the section, and one to its rings.
 #[test]
 fn a_storm_runs_beside_an_end(rt: HostRuntime) -> Result<(), Fail> {
     let sights = [

@@ -1,4 +1,4 @@
--- A record's text beside the lawful history, line by line.
+-- A record's text and the lawful history, line by line.
 use Rattle.std.proofs.Common.{◌≡◌, ℕ, ◌+◌, Bool, true, false, List, [], ◌∷◌, ◌++◌, length, Option, Some, None, Result, Ok, Err, refl, sym, ap, subst, ◌∙◌, arith, length-append}
 use Rattle.scenario_text.specs.Scenario.{World}
 use Rattle.scenario_text.specs.declared.scenarios.Scenario.{Scenario}
@@ -32,7 +32,7 @@ pub stayed : (bytes : List ℕ) (version : ℕ) (world : World) (before lines : 
 stayed bytes version world before lines false now is_false past = past
 stayed bytes version world before lines true now is_false past = absurd cc
 
--- The expected run and the reader go on by the same lines.
+-- The expected run and the reader continue by the same lines.
 pub both_go_on : (bytes : List ℕ) (expected_run expected_run' : ExpectedRun) (reader : Reader) (lines : List Line) → expected_run'.scenario ≡ expected_run.scenario → expected_run'.version ≡ expected_run.version →
     IsReading bytes expected_run.version (world_in expected_run) lines reader → GoesOn lines expected_run' → IsBeside bytes expected_run' reader
 both_go_on bytes expected_run expected_run' reader lines scenario version reads goes = record {

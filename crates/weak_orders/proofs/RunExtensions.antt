@@ -1,4 +1,4 @@
--- A weak run goes on by a list of actions of one end, whose loads give the words at its view.
+-- A weak run continues by a list of actions of one end, whose loads give the words at its view.
 use Rattle.std.proofs.Common.{◌≡◌, ℕ, suc, ◌+◌, ◌-◌, ◌<◌, ◌≤◌, inl, true, false, List, [], ◌∷◌, length, refl, sym, ap, ◌∙◌, subst, arith}
 use Rattle.split_ring.specs.declared.steps.Access.{Access}
 use Rattle.split_ring.specs.declared.steps.Access.TheVariants as access

@@ -24,8 +24,8 @@ pub data Action : Type 0 where
   Receives : (k : ℕ) → Action
   Resets : Action
 
--- An end after an action: its words as it stored them, the end and its place, its view, and the
--- moment of its last full fence. `owed` is true if it makes a full fence before its next step.
+-- An end after an action: its own words, the end and its place, its view, and the moment of its
+-- last full fence. `owed` is true if it makes a full fence before its next step.
 pub record Moment : Type 0 where
   pub action : Action
   pub words : ℕ → ℕ

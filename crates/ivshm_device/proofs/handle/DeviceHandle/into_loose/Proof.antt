@@ -1,4 +1,4 @@
--- `into_loose` tests the pointer, and moves the fields where it isn't null.
+-- `into_loose` tests the pointer, and moves the fields if the pointer isn't null.
 use Rattle.raw_box.proofs.Steps.{◌≡◌, List, [], ◌∷◌, ◌++◌, refl, sym, subst, lit<, Some, None, Val, vptr, vnull, vcons, vnil, SProp, ent, emp, id⊢, ftrue, WpFn, ‵, raw, ◌⊛◌, at_ret, ◌$◌, ◌∵◌, !, qed, by, move, keep, split, fsplit, fjoin, suffices, use0, use1, stop, fld, lit, of_opd, bin, no_more, and_then, first, branches, exec, returns, enter, alloc_all, pass_all, free_all, look_at, get, get_in, sets, sets_last, env, agg, sub, whole, live, fact, fact_i, tables, yes, RattleType, owns, block_ptr, tests_null, types_at, type_at, plain, nothing, layout, Stays, stay_dropped, walk_of, Goes-dropped, after, Good, Some-of, none_of, ghosts, proved_at, leaves, and_tt}
 use Rattle.std.proofs.alloc.Global.TheLaws as heap_laws
 use Rattle.raw_box.proofs.Values.{both, Loose, loose_good, loose_in}

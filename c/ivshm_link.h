@@ -42,7 +42,7 @@
 
 #define IVSHM_LINK_ALL 0xffffffffu /* the budget of a poll that takes all frames */
 
-/* What the program provides. Functions that aren't needed are NULL. */
+/* The values and functions that the program provides. A function that isn't needed is NULL. */
 typedef struct ivshm_link_setup {
     ivshm_found found; /* what ivshm_walk found */
     uint32_t peers;    /* the Maximum Peers register */
@@ -66,7 +66,7 @@ typedef struct ivshm_link_setup {
     void (*write_state)(void *context, uint32_t state);
     /* writes the Doorbell register: peer << 16 | vector */
     void (*ring)(void *context, uint32_t peer, uint32_t vector);
-    /* a frame came; it is gone after the call */
+    /* takes a delivered frame, whose bytes are valid during the call only */
     void (*deliver)(void *context, const uint8_t *frame, size_t length);
     /* for records: after each step, and for each note of it, with the frame if the note is
      * IVSHM_ACCEPT or IVSHM_DELIVER */
@@ -86,7 +86,7 @@ typedef struct ivshm_link_counts {
     uint64_t accepted_bytes;
     uint64_t full;            /* offers that found no room */
     uint64_t down;            /* calls outside RUN */
-    uint64_t delivered;       /* frames that came */
+    uint64_t delivered;       /* frames delivered */
     uint64_t delivered_bytes;
     uint64_t rings;           /* doorbells rung */
     uint64_t refusals;        /* values refused */
@@ -273,6 +273,7 @@ static inline uint32_t ivshm_link_write_offer(ivshm_link *link) {
     return bursts[0].count + 5;
 }
 
+/* Writes a burst other than an offer's, and returns the number of its words, or 0. */
 static inline uint32_t ivshm_link_write_burst(ivshm_link *link, const ivshm_burst *burst) {
     uint8_t *room = (uint8_t *)link->setup.room;
     size_t bytes = 4 * (size_t)burst->count;
@@ -283,7 +284,8 @@ static inline uint32_t ivshm_link_write_burst(ivshm_link *link, const ivshm_burs
     return ivshm_end_took_writes(&link->end, burst->count) == IVSHM_DONE ? burst->count : 0;
 }
 
-/* A read that leaves no word of a frame, and before which none was read, is of the whole frame. */
+/* Reads a burst into the room, and returns the number of its words, or 0. A read that leaves no
+ * word of a frame, and before which none was read, is of the whole frame. */
 static inline uint32_t ivshm_link_read_burst(ivshm_link *link, const ivshm_burst *burst, uint32_t ahead, ivshm_notes *notes) {
     uint32_t *room = link->setup.room;
     if (!ivshm_link_has(link, link->other, burst->word, burst->count)) return 0;
@@ -316,6 +318,7 @@ static inline uint32_t ivshm_link_burst(ivshm_link *link, const ivshm_access *ac
     return made > 0 ? made : ivshm_link_write_burst(link, &burst);
 }
 
+/* Passes a delivered frame to the program. */
 static inline void ivshm_link_delivered(ivshm_link *link, const ivshm_note *note) {
     ivshm_link_setup *setup = &link->setup;
     ivshm_view view;

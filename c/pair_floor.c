@@ -1,6 +1,6 @@
 /* pair_floor OUT MTU FRAMES SIZE BURST: the floor of pair.c between two processes. Each sends
  * FRAMES frames of SIZE bytes in plain C (plain_rings.h), without an end, and polls after BURST of
- * them. The frames are made beforehand, and compared as pair.c compares them. The program prints
+ * them. The frames are made before the start, and compared as in pair.c. The program prints
  * frames a second each way. It has exit number 1 if a frame was lost or changed. */
 #include "plain_rings.h"
 
@@ -12,9 +12,10 @@
 static struct kept_frames kept;
 static struct side sides[2];
 
+/* Whether a delivered frame is the next one that the other peer sent. */
 static int is_right(const struct side *s, const uint8_t *frame, size_t length) { return is_kept(&kept, s == sides, s->delivered, frame, length); }
 
-/* Sends and takes all frames of this peer, and returns the seconds that it took. */
+/* Sends and receives all frames of this peer, and returns the time in seconds. */
 static double run(uint32_t me, uint64_t frames, uint64_t burst) {
     struct side *s = &sides[me];
     take_processor(me);

@@ -5,9 +5,9 @@
  *     cc -O2 -o sizes sizes.c storage.o LIB
  *
  * For sections and MTUs of many sizes and each version, a new end allocates six blocks, and none
- * later. They fit IVSHM_END_BYTES. The number of bytes is printed as in ivshm_c.h. Then ends come
- * and go ROUNDS times over storage.c: an array for three ends of equal sizes serves three ends, and
- * their blocks don't overlap. */
+ * later. They fit IVSHM_END_BYTES. The number of bytes is printed as in ivshm_c.h. Then ends are
+ * made and freed ROUNDS times over storage.c. An array for three ends of equal sizes serves three
+ * ends, and their blocks don't overlap. */
 #include <inttypes.h>
 #include <stdio.h>
 #include <stdlib.h>
@@ -34,19 +34,20 @@ struct rattle_block rattle_alloc(size_t size, size_t align) {
 
 void rattle_dealloc(void *at) { storage_dealloc(at); }
 
+/* Ends the program with a message unless the test was right. */
 static void expect(int right, const char *what) {
     if (right) return;
     printf("sizes: wrong: %s\n", what);
     exit(1);
 }
 
-/* An end of these sizes, which is to be made. */
+/* Makes an end of these sizes. The program ends if it can't. */
 static void make(ivshm_end *end, uint64_t out, uint32_t mtu, uint32_t version) {
     ivshm_found found = {.table = 4096, .out = out, .protocol = IVSHM_PROTOCOL};
     expect(ivshm_end_new_version(end, &found, 2, 0, mtu, 1, version) == IVSHM_DONE, "no end is made");
 }
 
-/* The bytes of an end, or 0 if there is none of these sizes. */
+/* Makes and frees an end of these sizes, and returns its bytes, or 0 if no end has these sizes. */
 static size_t measured(uint64_t out, uint32_t mtu, uint32_t version) {
     static const uint8_t frame[14] = {255, 255, 255, 255, 255, 255, 2};
     ivshm_found found = {.table = 4096, .out = out, .protocol = IVSHM_PROTOCOL};

@@ -14,14 +14,14 @@ struct guest {
     struct doorbell bell;
     struct peer_words peers[2];
     uint32_t said; /* the own State, as it was stored last */
-    uint64_t mended;
+    uint64_t mended; /* times that the own State was restored */
     void (*ring)(struct guest *, uint32_t peer, uint32_t vector); /* NULL: there are no doorbells */
     void (*deliver)(struct guest *, const uint8_t *frame, size_t length);
     void *context; /* of the program */
     uint32_t room[(IVSHM_LONGEST + 3) / 4];
 };
 
-/* A call that is to be done. */
+/* Ends the program unless the answer of a call is IVSHM_DONE. */
 static inline void must(uint32_t answer, const char *what) {
     if (answer == IVSHM_DONE) return;
     fprintf(stderr, "%s: answer %u\n", what, answer);
@@ -44,6 +44,7 @@ static inline void mend(struct guest *g) {
     say(g, g->said);
 }
 
+/* The three functions of the link: a write of State, a doorbell, and a delivered frame. */
 static inline void guest_writes_state(void *context, uint32_t state) {
     struct guest *g = context;
     say(g, state);
@@ -59,6 +60,7 @@ static inline void guest_delivers(void *context, const uint8_t *frame, size_t le
     g->deliver(g, frame, length);
 }
 
+/* Writes the Doorbell register of QEMU's device. */
 static inline void ring_doorbell(struct guest *g, uint32_t peer, uint32_t vector) {
     g->bell.registers[DOORBELL] = peer << 16 | vector;
 }
@@ -117,5 +119,6 @@ static inline int open_areas(struct bar areas[MOST_AREAS], struct peer_words pee
     return found.count;
 }
 
+/* Opens the device with doorbells. */
 static inline void open_bell(struct doorbell *bell) { open_doorbell(bell, find_devices().doorbell); }
 #endif

@@ -40,6 +40,7 @@ state_of Init = 1
 state_of Ready = 2
 state_of Run = 3
 
+-- The number of a field of the link, from 1.
 abbrev pub field_number : FieldName → ℕ
 field_number AvailIndex = 1
 field_number AvailEntry = 2
@@ -49,6 +50,7 @@ field_number DescFlags = 5
 field_number UsedIndex = 6
 field_number UsedId = 7
 
+-- The number of a memory order.
 abbrev pub order_number : Order → ℕ
 order_number Relaxed = 0
 order_number Acquire = 1
@@ -75,7 +77,7 @@ access_crossed (access.Write word value) reads writes ordering = numbered 2 word
 access_crossed (access.State value) reads writes ordering = numbered 3 0 value 0 ordering
 access_crossed (access.Ring target vector) reads writes ordering = numbered 4 target vector 0 ordering
 
--- One burst, and three bursts.
+-- A burst, and the three bursts of an offer.
 abbrev pub burst_crossed : Burst → crossed_burst.Burst
 burst_crossed s = record { word = s.word; count = s.count }
 
@@ -100,6 +102,7 @@ note_crossed note.Done = record { kind = 8; field = 0; value = 0 }
 note_crossed note.Down = record { kind = 9; field = 0; value = 0 }
 note_crossed (note.Refuse refused) = refusal_crossed refused
 
+-- The note at a place without a note.
 abbrev pub blank : crossed_note.Note
 blank = record { kind = 0; field = 0; value = 0 }
 
@@ -109,6 +112,7 @@ notes_crossed [] = record { count = 0; first = blank; second = blank }
 notes_crossed (a ∷ []) = record { count = 1; first = note_crossed a; second = blank }
 notes_crossed (a ∷ b ∷ more) = record { count = 2; first = note_crossed a; second = note_crossed b }
 
+-- The number of the outcome of an offer.
 abbrev pub outcome_number : Outcome → ℕ
 outcome_number outcome.Never = 0
 outcome_number outcome.Open = 1
@@ -118,15 +122,18 @@ outcome_number outcome.Refused = 4
 outcome_number outcome.Down = 5
 outcome_number outcome.Cut = 6
 
+-- The number of a refused value's field, and 0 if no value was refused.
 abbrev pub field_of : Option Refused → ℕ
 field_of None = 0
 field_of (Some refused) = field_number refused.field
 
+-- The refused value, and 0 if no value was refused.
 abbrev pub value_of : Option Refused → ℕ
 value_of None = 0
 value_of (Some refused) = refused.value
 
--- The state of an end.
+-- The numbers of an end's state: its refusal, its last delivered frame, its phase, its open call,
+-- its last offer, and the longest frame that may be offered.
 abbrev pub view_of : EndState → View
 view_of port = let end = port.endpoint in record {
   refused_value = value_of end.refused;

@@ -18,13 +18,13 @@ use Rattle.port_text.specs.Scenario.{IsAllowed}
 use Rattle.port_text.specs.Judge.{DraftView, world_of_draft, is_out_of_order, act_of, is_act, fits_sizes}
 use Rattle.port_text.proofs.RowTests.{CanFollow}
 
--- ---- the act of a row
-
+-- The act of a row with this form, these numbers and these bytes.
 pub record ActRow (form : Form) (ns bytes : List ℕ) : Type 0 where
   pub act : Act
   pub is_act_of : act_of form ns bytes ≡ Some act
   pub row_is : row_of_act act ≡ row form ns bytes
 
+-- Each row of an act form has an act.
 pub act_row : (form : Form) (ns bytes : List ℕ) → is_act form ≡ true → Fit (pieces_of form) ns → FitBytes (pieces_of form) bytes → ActRow form ns bytes
 act_row Publish ns bytes is fit none = record { act = acts.Publish (get_or ns 0 0) bytes; is_act_of = refl; row_is = ap (λ (ms : List ℕ). row Publish ms bytes) (list_1 ns (counted (pieces_of Publish) ns fit)) }
 act_row Sample ns bytes is fit none = record { act = acts.Sample (get_or ns 0 0) (get_or ns 1 0); is_act_of = refl; row_is = same_row Sample _ ns bytes (list_2 ns (counted (pieces_of Sample) ns fit)) (sym none) }
@@ -32,28 +32,32 @@ act_row Turn ns bytes is fit none = record { act = acts.Turn (get_or ns 0 0) (ge
 act_row Poke ns bytes is fit none = record { act = acts.Poke (get_or ns 0 0) (get_or ns 1 0) (get_or ns 2 0); is_act_of = refl; row_is = same_row Poke _ ns bytes (list_3 ns (counted (pieces_of Poke) ns fit)) (sym none) }
 act_row _ ns bytes is fit none = absurd cc
 
+-- The act of an act's row is that act.
 pub act_of-row : (a : Act) → act_of (row_of_act a).form (row_of_act a).numbers (row_of_act a).frame ≡ Some a
 act_of-row (acts.Publish p message) = refl
 act_of-row (acts.Sample p from) = refl
 act_of-row (acts.Turn p k) = refl
 act_of-row (acts.Poke p word value) = refl
 
+-- The row of an act completes no sizes.
 sizes_fit : (d : DraftView) (a : Act) → fits_sizes d (row_of_act a).form (row_of_act a).numbers ≡ true
 sizes_fit d (acts.Publish p message) = refl
 sizes_fit d (acts.Sample p from) = refl
 sizes_fit d (acts.Turn p k) = refl
 sizes_fit d (acts.Poke p word value) = refl
 
--- At the acts each act is in order.
+-- In the position after `begin` each act is in order.
 order_is : (d : DraftView) (a : Act) → d.position ≡ AtActs → is_out_of_order d (row_of_act a).form (fields_of_row pieces_of (row_of_act a)) ≡ false
 order_is d (acts.Publish p message) at = rw at (no_rule _)
 order_is d (acts.Sample p from) at = rw at (no_rule _)
 order_is d (acts.Turn p k) at = rw at (no_rule _)
 order_is d (acts.Poke p word value) at = rw at (no_rule _)
 
+-- An act is allowed if its row can follow.
 pub allowed_act : (d : DraftView) (a : Act) → CanFollow d (row_of_act a) → IsAllowed (world_of_draft d) a
 allowed_act d a can = record { values = can.values; bytes = can.bytes; range = can.range; peer = can.peer; message = can.message }
 
+-- The row of an allowed act can follow while turns are left.
 pub follows_act : (d : DraftView) (a : Act) → d.position ≡ AtActs → IsAllowed (world_of_draft d) a → turns_of d.acts + cost a ≤ MOST_TURNS → CanFollow d (row_of_act a)
 follows_act d a at is few = record {
   values = is.values;

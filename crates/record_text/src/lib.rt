@@ -17,7 +17,7 @@
 //!   scenario and the lines read so far. So a line that was read need not be stored, and a caller
 //!   chooses the lines to keep. The fault that the reader names is that of `parse` by the same
 //!   laws. `pass` says the same of lines that weren't read: their bytes are compared.
-//! - - A common line is recognized by its spelling. `quick_line` promises only that the bytes are
+//! - A common line is recognized by its spelling. `quick_line` promises only that the bytes are
 //!   the one spelling of the line found. The table of forms decides the rest. Since a spelling is
 //!   read as what it spells, no rule of the table is said twice.
 //! - `put_front`, `put_lines` and `put_count` put a text together for callers that keep no history.

@@ -14,7 +14,7 @@
 //!   gives the place of the grammar. A place of the grammar has a function, the lengths by their
 //!   numbers, which no value of a `Model` can have. Its step costs the same at every place, but
 //!   `next_step` repeats all earlier steps.
-//! - - In a byte ring the place of a frame is computed at each use, from the lengths of all frames
+//! - In a byte ring the place of a frame is computed at each use, from the lengths of all frames
 //!   up to it. Whether the frame fits is computed from the frames in flight. So a step of an offer
 //!   costs more later in the session. The ring is counted in blocks of 64 bytes, so that no sum
 //!   overflows, for all frame lengths (`specs/Blocks`).

@@ -6,7 +6,7 @@
 //!
 //! # Design
 //!
-//! - - A listing is a relation between an image and a text (`IsListing`). It has the lines of the
+//! - A listing is a relation between an image and a text (`IsListing`). It has the lines of the
 //!   header, the queue, the states, the sections and the end. Each line of a position is a frame
 //!   that is spelled there (`Spells` of `split_ring`) or the first field that a poll would refuse
 //!   (`IsFirstRefused`). The definitions don't follow the code's loops. That an image has one

@@ -7,7 +7,7 @@
 //! - The memory (`specs/Memory`) has single writers, so an end's past is a list of moments, one
 //!   after each of its actions. The order of an access is `order_at` of its place (`specs/Orders`),
 //!   the definition that the contract of `Endpoint::order` cites.
-//! - - The proof keeps the invariant of `link_invariant` at each consistent cut. A cut is a moment
+//! - The proof keeps the invariant of `link_invariant` at each consistent cut. A cut is a moment
 //!   of each end, so that neither end's view goes past the other's moment. The last two moments are
 //!   such a cut. A step goes from cut to cut by `link_invariant`'s own step. A load that acquires
 //!   holds at its own cut and at each later one; a relaxed load gives one result at each cut.

@@ -27,7 +27,7 @@
  *         ivshm_end_begin(&end, IVSHM_TICK), or _POLL, or ivshm_end_offer(&end, frame, length)
  *     }
  *
- * DUTIES OF THE CALLER. Nothing checks these. What the library promises holds if they are kept.
+ * DUTIES OF THE CALLER. Nothing checks these. The promises of the library hold if they are kept.
  *
  *  1. State 0 comes first. After ivshm_end_new and ivshm_end_reset a call is open whose one access
  *     is State 0. Make its step, as of any other call, before you begin another call. Until then

@@ -198,7 +198,7 @@ typedef struct ivshm_delivery {
     uint32_t vector; /* 0 with INTx */
 } ivshm_delivery;
 
-/* What the hypervisor has to do after a call: duties 4 and 5. */
+/* The work of the hypervisor after a call: duties 4 and 5. */
 typedef struct ivshm_effect {
     uint32_t writes_state; /* 1: the calling peer's word of the State Table becomes `state` */
     uint32_t state;        /* 0 if writes_state is 0 */
@@ -282,7 +282,7 @@ uint32_t ivshm_device_connect(ivshm_device *device, uint32_t peer);
 
 /* ---- how interrupts reach a peer ---- */
 
-/* Which doorbells a peer's registers let through now. */
+/* The doorbells that a peer's registers let through now. */
 typedef struct ivshm_route {
     uint64_t vectors;  /* bit n: a doorbell with vector n would be delivered if `enabled` were 1 */
     uint32_t intx;     /* 1: interrupts are raised by INTx, and the reported vector is 0 */

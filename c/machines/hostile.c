@@ -19,7 +19,8 @@ static _Atomic uint32_t *whole[MOST_AREAS];
 static uint64_t stayed[MOST_AREAS]; /* stores that changed a word */
 static struct peer_words peers[2];
 
-/* What the host keeps read-only may be mapped to write in the guest: QEMU then drops the stores. */
+/* The guest may map memory for writing that the host keeps read-only. QEMU then drops the
+ * stores. */
 static int map_all(uint32_t out) {
     int count = open_areas(areas, peers, out);
     for (int i = 0; i < count; i++) whole[i] = map_part(&areas[i], 0, areas[i].size, true);

@@ -315,7 +315,7 @@ static int ivshm_net_request_irqs(struct ivshm_net *n)
 
 /* ---- up and down ---- */
 
-/* Joins the link. What a driver before this one left in the registers is overwritten. */
+/* Joins the link. Values that an earlier driver left in the registers are overwritten. */
 int ivshm_net_up(struct ivshm_net *n)
 {
 	int error;

@@ -1,6 +1,7 @@
-/* How an interrupt comes to a guest. The protocol has INTx alone, as an eventfd for KVM. With MSI-X
- * an interrupt is a store of 32 bits, the message that the guest wrote into its table of vectors.
- * QEMU's -qtest socket makes that store, as KVM_SIGNAL_MSI would: FOLDER/qtestP of peer P. */
+/* The path of an interrupt to a guest. The protocol has INTx alone, as an eventfd for KVM. With
+ * MSI-X an interrupt is a store of 32 bits, the message that the guest wrote into its table of
+ * vectors. QEMU's -qtest socket makes that store, as KVM_SIGNAL_MSI would: FOLDER/qtestP of peer
+ * P. */
 #define _GNU_SOURCE
 #include <errno.h>
 #include <fcntl.h>

@@ -1,6 +1,6 @@
-/* What QEMU's x-pci-proxy-dev asks, in the messages of its multi-process protocol (QEMU 7.2,
- * hw/remote). A message is a head and `size` bytes; files come with it. A reply is a head and a
- * number of 64 bits. All numbers have the byte order of this machine. */
+/* The requests of QEMU's x-pci-proxy-dev, in the messages of its multi-process protocol (QEMU
+ * 7.2, hw/remote). A message is a head and `size` bytes; files come with it. A reply is a head
+ * and a number of 64 bits. All numbers have the byte order of this machine. */
 #define _GNU_SOURCE
 #include <stdio.h>
 #include <string.h>

@@ -1,4 +1,4 @@
--- What is read is a run, and the text is its spelling.
+-- A value that is read is a run, and the text is its spelling.
 use Rattle.std.proofs.Common.{◌≡◌, ℕ, List, Ok, refl, sym, ap, subst, ◌∙◌}
 use Rattle.line_format.specs.Rows.{text_of}
 use Rattle.line_format.specs.Machine.{read}

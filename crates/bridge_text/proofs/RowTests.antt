@@ -1,4 +1,4 @@
--- What a row that can follow says, test by test.
+-- The tests of a row that can follow, one by one.
 use Rattle.std.proofs.Common.{◌≡◌, ℕ, ◌<◌, true, false, List, None}
 use Rattle.std.specs.Prelude.{slice_index}
 use Rattle.std.proofs.lemmas.Bool.{ltb-true}

@@ -1,4 +1,4 @@
--- What each kind of event does to its peer, and that it spares the others.
+-- The effect of each kind of event on its peer. It spares the others.
 use Rattle.std.proofs.Common.{◌≡◌, ◌≢◌, ℕ, ◌/◌, ◌%◌, List, ◌∷◌, Some, None, refl, sym, ◌∙◌, ap, subst, inl, inr, eq-eqb}
 use Rattle.std.specs.Prelude.{Bool, true, false, ◌&&◌, not, ◌==◌, if◌then◌else◌, ◌⊎◌}
 use Rattle.std.proofs.lemmas.Bool.{ne_eqb, eqb-true}
@@ -136,7 +136,7 @@ module _ (w : Devices) (events : List Event) where
   reset_quiet false source = state_spares (state_in (bytes_after w events source)) source 0
   reset_quiet true source = state_spares (state_in (bytes_after w events source)) source 0
 
-  -- What it triggers at the others, by its old State.
+  -- The triggers at the others, by the peer's old State.
   pub reset_triggers : (disconnects : Bool) (source peer : ℕ) → vector_by (state_in (bytes_after w events source)) source 0 peer ≡ vector_of (bytes_after w events) (reset_event disconnects source) peer
   reset_triggers false source peer = refl
   reset_triggers true source peer = refl

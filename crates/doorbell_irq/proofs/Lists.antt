@@ -47,7 +47,7 @@ module _ {X : Type 0} where
   slice_get-within (x ∷ xs) zero inside = (x, refl)
   slice_get-within (x ∷ xs) (suc i) inside = slice_get-within xs i (omega arith)
 
-  -- What holds of each element below a place, and of a new one there.
+  -- A property of each element below a position, and of a new one there.
   pub set_more : (P : ℕ → X → Type 0) (xs : List X) (i : ℕ) (x : X) → i < length xs → P i x →
       ((j : ℕ) (y : X) → j < i → slice_get xs j ≡ Some y → P j y) → (j : ℕ) (y : X) → j < i + 1 → slice_get (set xs i x) j ≡ Some y → P j y
   set_more P xs i x inside here below j y less at = elim (nat_cases j i) [

@@ -17,7 +17,7 @@ module _ (wiring : Wiring) (trigger : Trigger) (initial now : List Registers) (p
   before_is : slice_get initial peer ≡ Some (get_or now peer d)
   before_is = sym (left peer (omega arith)) ∙ slice_get-get_or now peer d inside
 
-  -- What was taken up to this peer.
+  -- The deliveries up to this peer.
   pub taken_more : (vector : Option ℕ) (taken : Registers) → vector ≡ vector_at trigger peer → Takes wiring vector (get_or now peer d) taken →
       ((other : ℕ) (before after : Registers) → other < peer → slice_get initial other ≡ Some before → slice_get now other ≡ Some after →
       Takes wiring (vector_at trigger other) before after) →

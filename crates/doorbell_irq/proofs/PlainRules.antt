@@ -46,7 +46,7 @@ cleared old =
     let same : merged old 0 1 ≡ bit_and old 254 = or_zero_r (bit_and old 254) in
     ap (λ n. bit n 0) same ∙ ap (λ n. n == 1) even
 
--- What comes by a State change comes to another peer.
+-- A delivery by a State change is at another peer.
 by_state : (wiring : Wiring) (connected : Bool) (byte : Part → ℕ → ℕ) (old source value peer : ℕ) → is_some (delivery_by wiring connected byte (vector_by old source value peer)) ≡ true →
     (source == peer) ≡ false
 by_state wiring connected byte old source value peer came = cases (source == peer) refl where

@@ -35,7 +35,7 @@ module _ (w : Devices) (events : List Event) (peer : ℕ) (r : Registers) (is : 
       let found = slice_get-within r.entries n inside in
       ap (λ e. byte_in e k) found.1 ∙ (is.entries n found.0 found.1).bytes k
 
-  -- What lets a vector through.
+  -- The conditions under which a vector is let through.
   pub lets_through_same : (wiring : Wiring) → vector_count wiring ≤ length r.entries → (n : ℕ) → lets_through wiring (register_bytes r) n ≡ lets_through wiring (bytes_after w events peer) n
   lets_through_same Intx few n = ap (λ b. not (bit b 2)) (is.config.bytes 0x05)
   lets_through_same (Msix vectors) few n =
@@ -59,12 +59,12 @@ module _ (w : Devices) (events : List Event) (peer : ℕ) (r : Registers) (is : 
       ap₂ (λ (a b : Bool). if a && (b && lets_through wiring (register_bytes r) n) then Some (reported wiring n) else None) is.connected enabled_same
       ∙ ap (λ t. if is_connected events peer && (is_enabled (bytes_after w events peer) && t) then Some (reported wiring n) else None) (lets_through_same wiring few n)
 
-  -- What the register page reads.
+  -- The values that the register page reads.
   pub register_same : (offset : ℕ) → register_at (register_bytes r) offset ≡ register_at (bytes_after w events peer) offset
   register_same offset = ap (λ v. if offset % 4 == 0 && nat_lt offset 20 then v else 0)
       (number_from-same (register_bytes r Page) (bytes_after w events peer Page) offset 4 is.page.bytes)
 
-  -- What the MSI-X region reads.
+  -- The values that the MSI-X region reads.
   pub msix_same : (wiring : Wiring) → vector_count wiring ≤ length r.entries → (offset : ℕ) → msix_at wiring (register_bytes r) offset ≡ msix_at wiring (bytes_after w events peer) offset
   msix_same wiring few offset = elim (cases_lt (offset / 16) (vector_count wiring)) [
     | inl inside ↦ ap (λ v. if offset % 4 == 0 && nat_lt (offset / 16) (vector_count wiring) then v else 0)

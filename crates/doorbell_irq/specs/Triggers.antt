@@ -1,4 +1,4 @@
--- Which peers a call triggers, and the deliveries that follow.
+-- The peers that a call triggers, and the deliveries that follow.
 use Rattle.std.specs.Prelude.{ℕ, ◌==◌, if◌then◌else◌, List, Option, Some, None, slice_get}
 use Rattle.pci_space.specs.declared.wiring.Wiring.{Wiring}
 use Rattle.doorbell_irq.specs.Peer.{Registers}

@@ -1,6 +1,6 @@
-//! Which doorbells a peer's registers let through.
+//! The doorbells that a peer's registers let through.
 
-/// Which doorbells a peer's registers let through.
+/// The doorbells that a peer's registers let through.
 #[derive(Clone, Copy, Debug, Default, PartialEq, Eq)]
 pub struct Route {
     /// Bit n is set if a trigger with vector n would be delivered with Interrupt Control bit 0 set.

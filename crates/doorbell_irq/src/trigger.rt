@@ -1,4 +1,4 @@
-//! Which peers a call triggers, and the deliveries that follow.
+//! The peers that a call triggers, and the deliveries that follow.
 ghost use Rattle.std.specs.Prelude.{◌≡◌, ◌<◌, ◌≤◌, ℕ, not, ◌&&◌, ◌==◌, if◌then◌else◌, Some, None, length, slice_get};
 ghost use Rattle.doorbell_irq.specs.Peer.{Registers};
 ghost use Rattle.doorbell_irq.specs.Events.{doorbell_target, doorbell_vector};
@@ -13,7 +13,7 @@ use crate::registers::PeerDevice;
 use arrayvec::ArrayVec;
 use pci_space::Wiring;
 
-/// Which peers are triggered.
+/// The peers that are triggered.
 #[derive(Clone, Copy, Debug)]
 pub(crate) enum Trigger {
     /// No peer.

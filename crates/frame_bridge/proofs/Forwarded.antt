@@ -1,4 +1,4 @@
--- What goes to a port, arrival by arrival.
+-- The frames that go to a port, arrival by arrival.
 use Rattle.std.proofs.Common.{◌≡◌, ℕ, Bool, false, List, [], ◌∷◌, ◌++◌, not, ◌&&◌, refl, sym, ap, ◌∙◌, append_assoc, eq-eqb}
 use Rattle.std.specs.Prelude.{if◌then◌else◌}
 use Rattle.std.proofs.lemmas.List.{append-nil}

@@ -131,7 +131,7 @@ first_chosen Run Anew (x ∷ xs) delivered most frame is = let same : x ≡ fram
 first_chosen Run AfterOffer (x ∷ xs) delivered most frame is = absurd (cc)
 first_chosen Run AfterPoll (x ∷ xs) delivered most frame is = absurd (cc)
 
--- What a choice doesn't change: the end, the frames, and what was delivered.
+-- A choice doesn't change the end, the frames, and the deliveries.
 pub record SameAutoEnd (old new : AutoEnd) : Type 0 where
   pub end : new.end ≡ old.end
   pub frames : new.frames ≡ old.frames

@@ -77,7 +77,7 @@ is_sender (x ∷ xs) a s =
     (ap (λ (b : Bool). b || is_member same_address (senders xs) a) (alike a (source x.frame) s (same_address a (source x.frame)) refl) ∙
     ap (λ (b : Bool). is_from a x || b) (is_sender xs a s))
 
--- What is known after one more arrival
+-- The sources known after one more arrival.
 
 pub latest_here : (xs : List Arrival) (x : Arrival) (a : List ℕ) → is_from a x ≡ true → latest_port (xs ++ x ∷ []) a ≡ Some x.port
 latest_here xs x a here =
@@ -97,7 +97,7 @@ learned_seen xs ys a seen =
     ap (λ (b : Bool). single a && b && nat_lt (distinct_count same_address (senders (before_first p (xs ++ ys)))) most_known) there ∙
     ap (λ (l : List Arrival). single a && list_any p xs && nat_lt (distinct_count same_address (senders l)) most_known) (first_seen p xs ys seen)
 
--- What isn't a source isn't learned.
+-- An address that isn't a source isn't learned.
 pub unseen : (xs : List Arrival) (a : List ℕ) → list_any (is_from a) xs ≡ false → is_learned xs a ≡ false
 unseen xs a new =
     let few : Bool = nat_lt (distinct_count same_address (senders (before_first (is_from a) xs))) most_known in

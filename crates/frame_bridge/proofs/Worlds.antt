@@ -71,7 +71,7 @@ arrived_other port other (frame ∷ frames) apart =
     ap (λ (b : Bool). map (λ (a : Arrival). a.frame) (if b then arrival other frame ∷ filter (λ (a : Arrival). a.port == port) (map (arrival other) frames) else filter (λ (a : Arrival). a.port == port) (map (arrival other) frames)))
     (ne_eqb other port apart) ∙ arrived_other port other frames apart
 
--- What a turn delivers
+-- The deliveries of a turn.
 
 same_delivered : (config : EndConfig) (auto_end : AutoEnd) (c : Choice) → (with_choice config auto_end c).delivered ≡ auto_end.delivered
 same_delivered config auto_end ChoosesTick = refl
@@ -156,7 +156,7 @@ copies_sound sent forwarded copies link sound may = record { runs = runs; counte
     offered (suc zero) below = All-append (IsOffered link_config) forwarded copies (sound.offered 1 below) may
     offered (suc (suc p)) below = absurd (omega arith)
 
--- What the bridge's end delivered was offered by the station.
+-- Each frame that the bridge's end delivered was offered by the station.
 pub delivered_offered : (sent forwarded : List (List ℕ)) (link : Link) → Sound (given_to sent forwarded) link → All (IsOffered link_config) (link.auto_ends 1).delivered
 delivered_offered sent forwarded link sound =
     let all = deliver_lem link_config link.memory (ends_in link) (places_in link) is_link_config sound.runs in
@@ -243,7 +243,7 @@ link_after sent ports w t going there end port below =
     subst (λ (l : List (List ℕ)). Sound (given_to (frames_of port sent) l) (with_copies copies link)) (sym (forward_append w.arrivals (arriving w t) port))
     (copies_sound (frames_of port sent) (forward w.arrivals port) copies link (link_if sent ports w t port (port == t.port) going below end) may)
 
--- What the bridge's end of a port has delivered after a turn.
+-- The frames that the bridge's end of a port has delivered after a turn.
 recorded_after : (w : World) (t : Turn) (port end : ℕ) → end < 2 → t.port ≡ port → t.end ≡ end →
     ((turned end (w.links port)).auto_ends 1).delivered ≡ ((w.links port).auto_ends 1).delivered ++ arrived_at port (if end == 1 then map (arrival port) (observed_by 1 (w.links port)) else [])
 recorded_after w t port zero below at is = ap (λ (x : AutoEnd). x.delivered) (turned_other (w.links port) 0 1 (λ e. cc)) ∙ sym (append-nil ((w.links port).auto_ends 1).delivered)

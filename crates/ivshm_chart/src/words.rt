@@ -12,7 +12,7 @@ pub struct Span {
     pub last: u64,
 }
 
-/// How the picture is written.
+/// The form in which the picture is written.
 #[derive(Clone, Copy, Debug, PartialEq, Eq)]
 pub enum Kind {
     /// As an SVG file.

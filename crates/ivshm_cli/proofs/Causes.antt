@@ -29,7 +29,7 @@ refusal_of form before now before' now' ran w = from w.due.0 w.due.1 w.due.2 whe
 usage_alone : (status : Status) (before now : Input) (before' now' : Output) (ran : Option Ran) → WritesReply None before now before' now' ran status → status ≡ Usage
 usage_alone status before now before' now' ran w = w.due.0
 
--- What the work promises of a status.
+-- The promise of the work for a status.
 pub record Work (form : Option Command) (before now : Input) (before' now' : Output) (ran : Option Ran) (result : Status) : Type 0 where
   pub reply : IsTrue (has_reply result) → WritesReply form before now before' now' ran result
   pub write_fault : result ≡ WriteFault → SinkFailed before' now' × WritesFront form before now before' now' ran

@@ -1,4 +1,4 @@
--- What `replay` finds in a record, and that it finds one thing alone.
+-- The finding of `replay` in a record, and its uniqueness.
 use Rattle.std.proofs.Common.{◌≡◌, ◌≢◌, ℕ, ◌≤◌, List, length, refl, sym, ◌∙◌, ap, subst}
 use Rattle.std.proofs.lemmas.Bool.{ltb-false}
 use Rattle.std.specs.Prelude.{Bool, true, false, Option, Some, None, IfSome, MatchBool}

@@ -99,7 +99,7 @@ module _ (w : Devices) where
       (is_some (delivery_of w.wiring (is_connected events) (bytes_after w events) (WasConnected p) peer) && is_one_shot (bytes_after w events peer))
 
 module _ (peer : ℕ) where
-  -- What is known of a register write that may be left out.
+  -- The facts known of a register write that may be left out.
   record IsLeft (p offset value : ℕ) : Type 0 where
     other : (p == peer) ≡ false
     no_state : (offset == 0x10) ≡ false

@@ -3,7 +3,7 @@ use Rattle.std.proofs.Common.{◌≡◌, ℕ, zero, suc, List, [], ◌∷◌, �
 use Rattle.std.specs.Prelude.{slice_get}
 
 module _ {X : Type 0} where
-  -- What holds of each element, and of the new one.
+  -- A property of each element, and of the new one.
   pushed : (P : ℕ → X → Type 0) (xs : List X) (x : X) → P (length xs) x → ((k : ℕ) (y : X) → slice_get xs k ≡ Some y → P k y) →
       (k : ℕ) (y : X) → slice_get (xs ++ x ∷ []) k ≡ Some y → P k y
   pushed P [] x here each zero y at = let is : x ≡ y = cc in subst (P 0) is here

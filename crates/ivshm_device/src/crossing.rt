@@ -37,7 +37,7 @@ pub struct Effect {
     pub deliveries: [Delivery; 8],
 }
 
-/// Which doorbells a peer's registers let through.
+/// The doorbells that a peer's registers let through.
 #[repr(C)]
 #[derive(Clone, Copy)]
 pub struct Route {

@@ -1,4 +1,4 @@
--- How many lines a scenario has.
+-- The number of lines of a scenario.
 use Rattle.std.proofs.Common.{◌≡◌, ℕ, ◌+◌, List, [], ◌∷◌, ◌++◌, Bool, map, length, refl, ◌∙◌, arith, length-append}
 use Rattle.std.proofs.lemmas.List.{length-map}
 use Rattle.line_format.specs.Rows.{Row, row}

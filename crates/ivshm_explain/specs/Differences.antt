@@ -1,4 +1,4 @@
--- What the forms that read a record answer to it.
+-- The answers of the forms that read a record.
 use Rattle.std.specs.Prelude.{ℕ, ◌≡◌, List, Some, Err}
 use Rattle.scenario_text.specs.Spelling.{world_of}
 use Rattle.lawful_history.specs.Lawful.{IsLawfulIn}
@@ -25,7 +25,7 @@ pub record IsFound (d : Difference) : Type 0 where
   pub differs : IsDifference (world_of d.trace.scenario) d.trace.version d.trace.lines d.fault
   pub lawful : IsLawfulIn (world_of d.trace.scenario) d.trace.version d.lawful
 
--- What `replay` answers to a record.
+-- The answer of `replay` to a record.
 abbrev pub IsReplayed : Trace → Verdict → Type 0
 IsReplayed trace Accepted = IsLawfulIn (world_of trace.scenario) trace.version trace.lines
 IsReplayed trace (Differs d) = (d.trace ≡ trace) × IsFound d

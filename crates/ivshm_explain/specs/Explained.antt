@@ -1,4 +1,4 @@
--- What an explanation says for certain; the words after that are free.
+-- The proved part of an explanation. The words after that are free.
 use Rattle.std.specs.Prelude.{ℕ, ◌≡◌, ◌+◌, ◌⊎◌, List, [], ◌++◌, codes, Option, Some, None}
 use Rattle.ivs_base.specs.SourceAndSink.{Input, Output, Gave, GaveMany, HasEnded, Took, SourceFailed, SinkFailed}
 use Rattle.ivshm_explain.specs.declared.differences.Difference.{Difference}

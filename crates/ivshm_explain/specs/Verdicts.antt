@@ -1,4 +1,4 @@
--- What a form answers to bytes: by the first fault of their text, which is that of its grammar.
+-- The answer of a form to bytes, by the first fault of their text, which is that of its grammar.
 use Rattle.std.specs.Prelude.{ℕ, ◌≡◌, ◌<◌, ◌≤◌, ◌⊎◌, ⊤, List, Some, None, Err}
 use Rattle.scenario_text.specs.declared.faults.ScenarioFault.{ScenarioFault}
 use Rattle.scenario_text.specs.Scenario.{World}
@@ -90,7 +90,7 @@ IsDumpVerdict bytes _ = ⊥
 abbrev pub FeedsTooMuch : (peer : ℕ) → Capture → Type 0
 FeedsTooMuch peer capture = IsTooLarge (feed_world peer (offered_frames capture.packets))
 
--- What `feed P` answers to a capture.
+-- The answer of `feed P` to a capture.
 abbrev pub IsFed : (peer : ℕ) → Capture → Verdict → Type 0
 IsFed peer capture Accepted = ¬ FeedsTooMuch peer capture
 IsFed peer capture (Refused refusal) = FeedsTooMuch peer capture × (Some refusal ≡ whole TooLarge)

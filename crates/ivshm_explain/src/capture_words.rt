@@ -1,4 +1,4 @@
-//! What is wrong with a capture file, and what is due there, in words.
+//! The fault of a capture file, and the right bytes there, in words.
 
 use crate::places::{captured_in, from_place, packet_at};
 use byteorder::{BigEndian, ByteOrder, LittleEndian};
@@ -50,7 +50,7 @@ fn magic_words(alloc: Global, file: &[u8]) -> Result<String, AllocError> {
     format!(in alloc; "a capture file begins with d4c3b2a1 or a1b2c3d4; {kind}\n")
 }
 
-/// What is wrong with the file's header.
+/// The fault of the file's header, in words.
 fn header_words(alloc: Global, file: &[u8], reason: Reason) -> Result<String, AllocError> {
     match reason {
         Reason::Short if file.is_empty() => {
@@ -82,7 +82,7 @@ fn header_words(alloc: Global, file: &[u8], reason: Reason) -> Result<String, Al
     }
 }
 
-/// What is wrong with the packet with this number.
+/// The fault of the packet with this number, in words.
 fn packet_words(alloc: Global, file: &[u8], number: u64) -> Result<String, AllocError> {
     let packet = packet_at(file, number);
     let left = packet.len();
@@ -103,7 +103,7 @@ fn packet_words(alloc: Global, file: &[u8], number: u64) -> Result<String, Alloc
     )
 }
 
-/// What is wrong with the capture file.
+/// The fault of the capture file, in words.
 pub fn capture_words(alloc: Global, file: &[u8], refusal: Refusal) -> Result<String, AllocError> {
     match refusal.place {
         Place::Packet(number) => packet_words(alloc, file, number),

@@ -40,14 +40,14 @@ fn put_line_at(out: &mut Vec<u8>, lines: &[Line], number: u64) -> Result<(), All
     }
 }
 
-/// How many peers the scenario has.
+/// Returns the number of peers of the scenario.
 fn peer_count(scenario: &Scenario) -> u64
     ensures { result ≡ length scenario.now.honest }
 {
     scenario.honest.items().len() as u64
 }
 
-/// How many acts the scenario has.
+/// Returns the number of acts of the scenario.
 fn act_count(scenario: &Scenario) -> u64
     ensures { result ≡ length scenario.now.acts }
 {
@@ -83,7 +83,7 @@ fn verdict_by(alloc: Global, line: u64, law: &'static str) -> Result<Vec<u8>, Al
     Ok(text.into_bytes())
 }
 
-/// What `replay` answers to the record.
+/// The answer of `replay` to the record.
 fn verdict(alloc: Global, difference: &Difference) -> Result<Vec<u8>, AllocError>
     ensures { IfOk result (λ text. text.items ≡ verdict_of difference.now) }
 {

@@ -1,4 +1,5 @@
-//! What a difference means, in words: the law, the fields of the two lines, and the lines around.
+//! The meaning of a difference, in words: the law, the fields of the two lines, and the lines
+//! around.
 
 use crate::difference_text::line_in_record;
 use crate::differences::Difference;
@@ -12,10 +13,10 @@ use trace_replay::Law;
 /// The length of an Ethernet frame's header in bytes, which is that of the shortest frame.
 const HEADER: usize = SHORTEST_FRAME as usize;
 
-/// How many lines are shown before the differing one, and after it.
+/// The number of lines that are shown before the differing one, and after it.
 const AROUND: usize = 3;
 
-/// What a law says.
+/// The statement of a law.
 fn law_words(law: Law) -> &'static str {
     match law {
         Law::Order =>
@@ -108,7 +109,7 @@ fn put_around(alloc: Global, out: &mut Vec<u8>, difference: &Difference) -> Resu
     Ok(())
 }
 
-/// What the difference means.
+/// The meaning of the difference.
 pub fn difference_words(alloc: Global, difference: &Difference) -> Result<Vec<u8>, AllocError> {
     let line = difference.fault.line;
     let mut words = Vec::new(alloc);

@@ -1,4 +1,4 @@
-//! Where a record leaves the lawful history of its scenario.
+//! The first line at which a record leaves the lawful history of its scenario.
 ghost use Rattle.std.specs.Prelude.{◌≡◌, IfOk, true};
 ghost use Rattle.scenario_text.specs.Spelling.{world_of};
 ghost use Rattle.lawful_history.specs.Lawful.{IsLawfulIn};
@@ -22,11 +22,11 @@ pub struct Difference {
     pub fault: Unlawful,
     /// The record.
     pub trace: Trace,
-    /// What a record of its version has of the lawful history.
+    /// The lines of the lawful history that a record of its version has.
     pub lawful: Lines,
 }
 
-/// What a record of this version has of the scenario's lawful history.
+/// The lines of the scenario's lawful history that a record of this version has.
 fn lawful_lines(alloc: Global, scenario: &Scenario, version: u32) -> Result<Lines, NoMemory>
     requires { is_version version ≡ true }
     ensures { IfOk result (IsLawfulIn (world_of scenario.now) version) }
@@ -56,7 +56,7 @@ fn replayed(alloc: Global, trace: Trace) -> Result<Verdict, NoMemory>
     }
 }
 
-/// What the forms that read a record answer to the bytes.
+/// The answers to the bytes of the forms that read a record.
 pub fn record_verdict(alloc: Global, bytes: &[u8]) -> Result<Verdict, NoMemory>
     ensures { IfOk result (IsRecordVerdict bytes.now) }
 {

@@ -13,7 +13,7 @@ use ivs_base::NoMemory;
 use program_edge::{Command, Place, Reason, Refusal, Status};
 use std::alloc::{AllocError, Global};
 
-/// What is due to bytes that were read.
+/// The output due to bytes that were read.
 #[derive(Drop)]
 pub struct Reply {
     pub status: Status,
@@ -60,7 +60,7 @@ pub fn too_many(alloc: Global, form: Command) -> Result<Vec<u8>, AllocError>
     explained(alloc, form, b"", refusal)
 }
 
-/// What is said of bytes that the form accepts.
+/// The explanation of bytes that the form accepts.
 fn accepted(form: Command) -> &'static [u8] {
     match form {
         Command::Load(_) => b"`load` reads nothing, and is never refused\n",

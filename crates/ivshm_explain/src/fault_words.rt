@@ -1,4 +1,4 @@
-//! What is wrong with a refused text and what is due there, in words.
+//! The fault of a refused text and the right words there, in words.
 
 use crate::capture_words::capture_words;
 use crate::image_words::image_words;
@@ -63,7 +63,7 @@ fn frame_sizes(text: &FaultyText) -> (u64, u64) {
     }
 }
 
-/// What is wrong with the text as a whole.
+/// The fault of the text as a whole, in words.
 fn whole_words(alloc: Global, text: &FaultyText, reason: Reason) -> Result<String, AllocError> {
     match reason {
         Reason::NoEnd => no_end_words(alloc, text),
@@ -82,7 +82,7 @@ fn whole_words(alloc: Global, text: &FaultyText, reason: Reason) -> Result<Strin
     }
 }
 
-/// What is wrong with the line with this number.
+/// The fault of the line with this number, in words.
 fn line_words(
     alloc: Global,
     text: &FaultyText,
@@ -111,7 +111,7 @@ fn line_words(
     }
 }
 
-/// What is wrong with a text that a form refuses.
+/// The fault of a text that a form refuses, in words.
 fn text_words(
     alloc: Global,
     form: Command,
@@ -125,7 +125,7 @@ fn text_words(
     }
 }
 
-/// What is wrong with the bytes that a form refuses, and what is due there.
+/// The fault of the bytes that a form refuses, and the right bytes there, in words.
 pub fn fault_words(
     alloc: Global,
     form: Command,

@@ -1,4 +1,4 @@
-//! What is wrong with the image of a region, and what is due there, in words.
+//! The fault of the image of a region, and the right bytes there, in words.
 
 use crate::places::from_place;
 use crate::size_words::{Sizes, sizes_words};
@@ -77,7 +77,7 @@ fn need_words(alloc: Global, image: &[u8], need: u64) -> Result<String, AllocErr
     )
 }
 
-/// What is wrong with the image.
+/// The fault of the image, in words.
 pub fn image_words(alloc: Global, image: &[u8], refusal: Refusal) -> Result<String, AllocError> {
     match refusal.reason {
         Reason::BadHeader => header_words(alloc, image),

@@ -14,7 +14,7 @@ fn other_byte(line: &[u8]) -> Option<(u64, u8)> {
     None
 }
 
-/// What is wrong with a byte.
+/// The fault of a byte, in words.
 fn byte_words(alloc: Global, column: u64, byte: u8) -> Result<String, AllocError> {
     match byte {
         b'\r' => {
@@ -67,7 +67,7 @@ fn all_words(alloc: Global, grammar: Grammar) -> Result<String, AllocError> {
     Ok(words)
 }
 
-/// What another text begins with this word, and which form reads it.
+/// The other text that begins with this word, and the form that reads it.
 fn other_kind(word: &[u8]) -> &'static str {
     match word {
         b"ivshm" => "; this is a scenario, which `sim`, `run` and `config P` read",

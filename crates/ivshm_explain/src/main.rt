@@ -11,8 +11,9 @@
 //!   the simulator plays for the record's scenario. Both are kept whole in addition to the record.
 //!   A record of many millions of lines takes much memory.
 //! - An explanation begins with the line that `ivshm` answers and with the faulty line or bytes
-//!   (`IsExplained`). What follows is for people: it reads the lines anew by a table of their
-//!   forms, and no contract covers it. `checks/faults` holds it to words written by hand.
+//!   (`IsExplained`). The explanation after that is for people. It comes from a second reading of
+//!   the lines by a table of their forms, and no contract covers it. `checks/faults` holds it to
+//!   words written by hand.
 #![tactic(auto)]
 
 mod capture_words;

@@ -6,7 +6,7 @@ use line_format::number;
 use section_map::PAGE;
 use std::alloc::{AllocError, Global};
 
-/// What is wrong with a field that spells no number, or one out of its range.
+/// The fault of a field that spells no number, or one out of its range, in words.
 fn field_fault(field: &[u8]) -> &'static str {
     if field.is_empty() {
         "is empty"
@@ -75,7 +75,7 @@ fn form_range_words(
     Ok(None)
 }
 
-/// How many words the region of a scenario or of a schedule of ports has.
+/// Returns the number of words of the region of a scenario or of a schedule of ports.
 fn region_words(text: &FaultyText) -> u64 {
     let table = match text.grammar {
         Grammar::Ports => u64::from(PAGE),

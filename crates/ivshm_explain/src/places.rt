@@ -100,7 +100,7 @@ fn put_bytes(alloc: Global, out: &mut Vec<u8>, first: u64, some: &[u8]) -> Resul
     Ok(())
 }
 
-/// What is left of bytes from a place on.
+/// The bytes from a place on.
 pub fn from_place(bytes: &[u8], place: u64) -> &[u8]
     ensures { result.now ≡ drop place bytes.now }
 {
@@ -120,8 +120,8 @@ fn first_of(bytes: &[u8], count: u64) -> &[u8]
     &bytes[..count as usize]
 }
 
-/// How many bytes of a packet were captured, in the byte order of its file; 0 if the file doesn't
-/// have them.
+/// Returns the number of captured bytes of a packet, in the byte order of its file; 0 if the file
+/// doesn't have them.
 pub fn captured_in(file: &[u8], packet: &[u8]) -> u64
     ensures value { result ≡ captured_in file.now packet.now }
     ensures small { result < 2 ^ 32 }
@@ -135,7 +135,7 @@ pub fn captured_in(file: &[u8], packet: &[u8]) -> u64
     }
 }
 
-/// What is left of a capture file after as many packets.
+/// The bytes of a capture file after this number of packets.
 #[tactic(auto, using(crate::proofs::Packets::one_packet))]
 fn after_packets<'a>(file: &[u8], count: u64, left: &'a [u8]) -> &'a [u8]
     ensures { result.now ≡ after_packets file.now count left.now }

@@ -4,7 +4,7 @@ use frame_capture::MOST_ACTS;
 use pci_space::{MOST_VECTORS, SPACE_LEN};
 use section_map::PAGE;
 
-/// What the lines of a text are, for a reader of its faults.
+/// The lines of a text, for a reader of its faults.
 #[derive(Clone, Copy, Debug, PartialEq, Eq)]
 pub enum Grammar {
     Scenario,

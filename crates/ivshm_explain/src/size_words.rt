@@ -33,7 +33,7 @@ fn page_words(
     Ok(None)
 }
 
-/// How many peers a region has, and the bytes of its parts.
+/// The number of peers of a region, and the bytes of its parts.
 #[derive(Clone, Copy)]
 pub struct Sizes {
     pub peers: u64,

@@ -90,7 +90,7 @@ impl<'a> FaultyText<'a> {
         line_at(self.bytes, number)
     }
 
-    /// Which line of the head this is, from 1, if the head is so long.
+    /// The line of the head with this number, from 1, if the head is long enough.
     pub fn place_in_head(&self, number: u64) -> u64 {
         number.saturating_sub(self.before)
     }
@@ -106,7 +106,7 @@ impl<'a> FaultyText<'a> {
         0
     }
 
-    /// How many peers the head has lines for.
+    /// The number of peers for which the head has lines.
     pub fn peers(&self) -> u64 {
         match self.grammar {
             Grammar::Bridge => 0,

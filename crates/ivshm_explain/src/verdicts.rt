@@ -36,7 +36,7 @@ fn scenario_of(alloc: Global, bytes: &[u8]) -> Result<Result<Scenario, Refusal>,
     }
 }
 
-/// What `sim`, `run` or `config P` answers to a scenario.
+/// The answer of `sim`, `run` or `config P` to a scenario.
 fn scenario_verdict(form: Command, scenario: &Scenario) -> Verdict
     ensures { IsScenarioVerdict form (world_of scenario.now) result }
 {
@@ -56,7 +56,7 @@ fn scenario_verdict(form: Command, scenario: &Scenario) -> Verdict
     }
 }
 
-/// What `ports` answers to the bytes.
+/// The answer of `ports` to the bytes.
 fn ports_verdict(alloc: Global, bytes: &[u8]) -> Result<Verdict, NoMemory>
     ensures { IfOk result (IsPortsVerdict bytes.now) }
 {
@@ -69,7 +69,7 @@ fn ports_verdict(alloc: Global, bytes: &[u8]) -> Result<Verdict, NoMemory>
     }
 }
 
-/// What `bridge` answers to the bytes.
+/// The answer of `bridge` to the bytes.
 fn bridge_verdict(alloc: Global, bytes: &[u8]) -> Result<Verdict, NoMemory>
     ensures { IfOk result (IsBridgeVerdict bytes.now) }
 {
@@ -82,7 +82,7 @@ fn bridge_verdict(alloc: Global, bytes: &[u8]) -> Result<Verdict, NoMemory>
     }
 }
 
-/// What `dump` answers to the bytes.
+/// The answer of `dump` to the bytes.
 fn dump_verdict(alloc: Global, bytes: &[u8]) -> Result<Verdict, NoMemory>
     ensures { IfOk result (IsDumpVerdict bytes.now) }
 {
@@ -95,7 +95,7 @@ fn dump_verdict(alloc: Global, bytes: &[u8]) -> Result<Verdict, NoMemory>
     }
 }
 
-/// What `feed` answers to a capture.
+/// The answer of `feed` to a capture.
 fn fed(alloc: Global, peer: u32, capture: &Capture) -> Result<Verdict, NoMemory>
     requires { peer < 2 }
     ensures { IfOk result (IsFed peer capture.now) }
@@ -110,7 +110,7 @@ fn fed(alloc: Global, peer: u32, capture: &Capture) -> Result<Verdict, NoMemory>
     }
 }
 
-/// What `feed` answers to the bytes.
+/// The answer of `feed` to the bytes.
 fn feed_verdict(alloc: Global, peer: u32, bytes: &[u8]) -> Result<Verdict, NoMemory>
     requires { peer < 2 }
     ensures { IfOk result (IsFeedVerdict peer bytes.now) }
@@ -124,7 +124,7 @@ fn feed_verdict(alloc: Global, peer: u32, bytes: &[u8]) -> Result<Verdict, NoMem
     }
 }
 
-/// What the form answers to the bytes. `load` reads none.
+/// The answer of the form to the bytes. `load` reads none.
 pub fn verdict_of(alloc: Global, form: Command, bytes: &[u8]) -> Result<Verdict, NoMemory>
     requires { IsInRange form }
     ensures { IfOk result (IsVerdict form bytes.now) }

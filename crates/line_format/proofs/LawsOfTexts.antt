@@ -14,7 +14,7 @@ pub record HasLines {S C W E : Type 0} (m : Machine S C) (s : Sense S C W E) (li
   pub says : s.value at_end ≡ Ok w
   pub counted : 0 + length lines + 1 ≡ line_count w + 1
 
--- What each text has to prove.
+-- The facts that each text has to prove.
 abbrev pub IsForward : {S C W E : Type 0} → Machine S C → Sense S C W E → (W → List ℕ → Type 0) → (W → ℕ) → Type 0
 IsForward {S} {C} {W} m s Spells line_count = (w : W) (bytes : List ℕ) → Spells w bytes → HasLines m s line_count w bytes
 

@@ -86,7 +86,7 @@ pub record Keeps {S F C : Type 0} (g : Rules S F C) (before : S → List (Row F)
 abbrev pub AreKept : {S F C : Type 0} → Rules S F C → (S → List (Row F)) → (S → Type 0) → Type 0
 AreKept {S} {F} g before Good = (d : S) (r : Row F) → CanFollow g d r → Good d → Keeps g before Good d r
 
--- What holds after a line that was taken.
+-- The facts after a line that was taken.
 pub record Later {S F C : Type 0} (g : Rules S F C) (before : S → List (Row F)) (Good : S → Type 0) (d : S) (line : List ℕ) (e : S) : Type 0 where
   pub good : Good e
   pub text : (rest : List ℕ) → text_of g.pieces_of (before d) ++ (line ++ 10 ∷ rest) ≡ text_of g.pieces_of (before e) ++ rest
@@ -104,7 +104,7 @@ later {S} {F} g table before Good kept d line e good is =
           ∙ ap (λ (rs : List (Row F)). text_of g.pieces_of rs ++ rest) (sym rows);
     }
 
--- What holds at the end.
+-- The facts at the end.
 record Whole {S F C : Type 0} (g : Rules S F C) (before : S → List (Row F)) (Good : S → Type 0) (d : S) (lines : List (List ℕ)) (e : S) : Type 0 where
   good : Good e
   ended : g.ended e ≡ true

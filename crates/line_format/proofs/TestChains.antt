@@ -1,4 +1,4 @@
--- What a chain of tests says if all pass.
+-- The facts that a chain of tests gives if all pass.
 use Rattle.std.proofs.Common.{◌≡◌, Bool, true, false, cond, not, Option, Some, None, Result, Ok, Err, refl}
 use Rattle.line_format.specs.Steps.{◌>>=◌, some_or}
 

@@ -24,7 +24,7 @@ the_bytes test digits right =
       | None ↦ λ is. refl
     ] refl
 
--- What is read if the number of digits fits.
+-- The value that is read if the number of digits fits.
 pub sized_is : {V U : Type 0} (test : ℕ → Bool) (digits : List ℕ) (view : V → List ℕ) (r : Result (Option V) U) → test (length digits / 2) ≡ true → IfOk r (λ o. option_map view o ≡ hex_bytes digits)
     → IfOk r (λ o. option_map view o ≡ sized test (hex_bytes digits))
 sized_is test digits view (Ok o) right is = is ∙ the_bytes test digits right

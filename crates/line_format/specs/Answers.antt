@@ -1,5 +1,5 @@
--- What a call that reads a whole text returns, against the definitions. A failed allocation is the
--- one free answer.
+-- The result of a call that reads a whole text, by the definitions. A failed allocation is the one
+-- free answer.
 use Rattle.std.specs.Prelude.{◌≡◌, Bool, true, false, Result, Ok, Err}
 use Rattle.line_format.specs.declared.reading.TextFault.{TextFault}
 use Rattle.line_format.specs.declared.reading.TextFault.TheVariants.{NoMemory, At, After, NoEnd}

@@ -1,4 +1,4 @@
--- What reading returns, against the definitions. A failed allocation is the one free answer.
+-- The result of reading, by the definitions. A failed allocation is the one free answer.
 use Rattle.std.specs.Prelude.{◌≡◌, Result, Ok, Err}
 use Rattle.line_format.specs.declared.reading.LineFault.{LineFault}
 use Rattle.line_format.specs.declared.reading.LineFault.TheVariants as lines

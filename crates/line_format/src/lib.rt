@@ -1,8 +1,8 @@
 //! The common part of all texts. A text is read line by line, bytes are cut into lines and lines
 //! into fields, numbers are decimal and bytes hex digits. Forms of lines are tables of pieces.
 //! Short lines are built from their end, without a table. A text of such forms is a `Grammar`. The
-//! tests of its lines, their order, and the laws of all texts are here, once for all. What was read
-//! is kept in lists.
+//! tests of its lines, their order, and the laws of all texts are here, once for all. The values
+//! read are kept in lists.
 //!
 //! The crate uses `ivs_base`, `arrayvec`, `hex`, `itoa` and `memchr`. Its contracts promise for
 //! every table of forms that reading a form's fields and writing them are one relation, so each

@@ -96,8 +96,8 @@ is_reading_state_at _ = false
 abbrev pub is_reading_state : Engine → Bool
 is_reading_state e = is_reading_state_at e.place
 
--- How many of the next accesses read consecutive words, of which none before the last has a note. 0
--- if no burst of reads is next.
+-- The number of the next accesses that read consecutive words, of which none before the last has a
+-- note. 0 if no burst of reads is next.
 abbrev pub reads_ahead_at : Place → Receiver → ℕ
 reads_ahead_at Polling rx = receiver.reads_ahead rx.place
 reads_ahead_at _ rx = 0
@@ -105,7 +105,7 @@ reads_ahead_at _ rx = 0
 abbrev pub reads_ahead : Engine → ℕ
 reads_ahead e = reads_ahead_at e.place e.receiver
 
--- How many of the next accesses write consecutive words. None of them has a note.
+-- The number of the next accesses that write consecutive words. None of them has a note.
 abbrev pub writes_ahead_at : Place → EndConfig → Sender → Receiver → ℕ
 writes_ahead_at Offering config tx rx = sender.writes_ahead tx.place
 writes_ahead_at Polling config tx rx = receiver.writes_ahead rx.place
@@ -159,7 +159,7 @@ abbrev pub is_tick : Call → Bool
 is_tick Tick = true
 is_tick _ = false
 
--- What is refused after these notes, if `refused` was refused before them.
+-- The refused value after these notes, if `refused` was refused before them.
 abbrev pub refused_after : List Note → Option Refused → Option Refused
 refused_after [] refused = refused
 refused_after (note.Refuse found ∷ notes) refused = refused_after notes (Some found)

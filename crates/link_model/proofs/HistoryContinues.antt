@@ -28,7 +28,7 @@ use Rattle.link_model.specs.ExpectedRun.{world_in, recorded_of, IsPlayed, IsAlon
 use Rattle.link_model.proofs.DifferingLines.{none_begins}
 use Rattle.link_model.proofs.PlayedActs.{no_turns}
 
--- What a record has of lines begins with what it has of the first of them.
+-- The lines that a record has begin with those of the first part.
 begins_by_test : (world : World) (a b : List Line) (test : Bool) →
     (more : List Line) × ((if test then with_sessions world [] (a ++ b) else a ++ b) ≡ (if test then with_sessions world [] a else a) ++ more)
 begins_by_test world a b true = (with_sessions world (reverse a ++ []) b, with_sessions-append world [] a b)
@@ -158,7 +158,7 @@ no_head : (lines : List Line) → head_of lines ≡ None → lines ≡ []
 no_head [] none = refl
 no_head (line ∷ lines) none = absurd (cc)
 
--- Where none waits, the lines taken are the history.
+-- If no line waits, the lines taken are the history.
 pub is_whole : HistoryIsLawfulIn → (lines : List Line) (c : ExpectedRun) → GoesOn lines c → slice_get (kept_lines c.simulator) c.passed ≡ None → IsLawfulIn (world_in c) c.version lines
 is_whole exists lines c goes none =
     let after = expects lines c goes in

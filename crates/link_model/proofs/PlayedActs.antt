@@ -1,4 +1,4 @@
--- What an expected run plays, turn by turn and act by act.
+-- The turns and acts that an expected run plays.
 use Rattle.std.proofs.Common.{◌≡◌, ℕ, zero, suc, ◌<◌, ◌+◌, ◌-◌, List, [], ◌∷◌, ◌++◌, length, get_or, take, drop, replicate, refl, sym, ◌∙◌, ap, subst, arith, append_assoc}
 use Rattle.std.proofs.lemmas.Grind.{common_steps}
 use Rattle.std.proofs.lemmas.List.{append-nil, length-append}
@@ -29,7 +29,7 @@ turn_played output c s some happens played = record {
   peer = λ more. played.peer some;
 }
 
--- Where no turn is left, the events are those of the acts so far.
+-- If no turn is left, the events are those of the acts so far.
 pub no_turns : (events acts : List Event) (turn : Event) (left : ℕ) → left ≡ 0 → events ++ replicate left turn ≡ acts → events ≡ acts
 no_turns events acts turn left none scheduled = sym (append-nil events) ∙ ap (λ n. events ++ replicate n turn) (sym none) ∙ scheduled
 
@@ -87,7 +87,7 @@ at_first c runs at left passed = record {
   taken = ap (λ n. take n (kept_lines c.simulator)) passed;
 }
 
--- Where none of the lines that the simulator keeps was taken, more of them may come.
+-- If none of the lines that the simulator keeps was taken, more of them may come.
 pub played_on : (lines : List Line) (c c' : ExpectedRun) (along : IsAlong lines c) → c.passed ≡ 0 → c'.passed ≡ c.passed → IsPlayed along.output c' → IsAlong lines c'
 played_on lines c c' along none same played = record {
   output = along.output;

@@ -1,4 +1,4 @@
--- How a run is seen.
+-- The view of a run.
 use Rattle.std.proofs.Common.{◌≡◌, ℕ, ◌+◌, ◌-◌, List, ◌∷◌, [], ◌++◌, length, take, sym, ◌∙◌, ap, subst}
 use Rattle.std.specs.Prelude.{Option, Result, Ok, Err, OnOk, IfErr, MatchResult}
 use Rattle.scenario_text.specs.Scenario.{World}

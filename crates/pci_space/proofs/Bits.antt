@@ -9,7 +9,7 @@ use Rattle.pci_space.specs.declared.field.Field.{Field}
 use Rattle.pci_space.specs.Numbers.{number_byte}
 use Rattle.pci_space.specs.Fields.{merged, mask_byte, reset_byte, merged_byte, reaches, KeepsUnmasked}
 
--- What a mask lets through has none of the other bits.
+-- The bits that a mask lets through are none of the other bits.
 apart : (new mask : ℕ) → mask ≤ 255 → bit_and (bit_and new mask) (255 - mask) ≡ 0
 apart new mask small =
     let e : 255 - (255 - mask) ≡ mask = omega arith in

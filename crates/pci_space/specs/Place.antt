@@ -1,4 +1,4 @@
--- Where the region of a world is, and the fields that depend on it (the device's specification; PCI
+-- The place of a world's region, and the fields that depend on it (the device's specification; PCI
 -- 3.0, 6.2.5.1 for the register).
 use Rattle.std.specs.Prelude.{ℕ, ◌-◌, ◌^◌, ◌<◌, ◌≤◌, Option, Some, None}
 use Rattle.pci_space.specs.declared.field.Field.{Field}

@@ -1,4 +1,4 @@
--- How the devices of a world raise interrupts.
+-- The wiring of a world's devices: MSI-X or INTx.
 use Rattle.std.specs.Prelude.{ℕ, ◌-◌, ◌≤◌}
 use Rattle.pci_space.specs.declared.sizes.TheConstants.{MOST_VECTORS}
 use Rattle.pci_space.specs.declared.wiring.Wiring.{Wiring}

@@ -1,4 +1,4 @@
-//! Where the region of a world is, and the fields that depend on it.
+//! The place of a world's region, and the fields that depend on it.
 ghost use Rattle.std.specs.Prelude.{◌≡◌, ℕ};
 ghost use Rattle.pci_space.specs.declared.field.Field.{Field};
 ghost use Rattle.pci_space.specs.Place.{IsRegionPlace, capability_length, place_row, usual_place};
@@ -8,7 +8,7 @@ use crate::field::Field;
 /// The Base Address of the program's devices: 4 GiB (profile).
 pub const USUAL_BASE: u64 = 0x1_0000_0000;
 
-/// Where guests find the region of a world.
+/// The place at which guests find the region of a world.
 ///
 /// Each function that has a place as an argument requires that a window has 12 to 63 bits.
 #[derive(Clone, Copy, Debug, PartialEq, Eq)]

@@ -1,8 +1,8 @@
-//! How interrupts are raised, and the fields that depend on it.
+//! The wiring of interrupts, and the fields that depend on it.
 ghost use Rattle.std.specs.Prelude.{◌≡◌};
 ghost use Rattle.pci_space.specs.Wiring.{IsWiring, if_msix, last_vector};
 
-/// How a world's devices raise interrupts.
+/// The means by which a world's devices raise interrupts.
 ///
 /// Each function that has a wiring as an argument requires 1 to `MOST_VECTORS` vectors.
 #[derive(Clone, Copy, Debug, PartialEq, Eq)]

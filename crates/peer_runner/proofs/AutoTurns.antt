@@ -84,7 +84,7 @@ pub opened_in : (config : EndConfig) (r : Runner) (answer : Option Choice) (fram
     RefinesAt end config r.end (place_for config r.end r.place (call_chosen_by answer frames)) → RefinesAt end config r.end (place_in config r)
 opened_in config r answer frames end is = subst (λ (c : Option Call). RefinesAt end config r.end (place_for config r.end r.place c)) (recorded_call answer frames (chosen r) is)
 
--- What is known of a choice of the code's peer at the runner's place: the end stays as it is.
+-- The facts of a choice of the code's peer at the runner's place: the end stays as it is.
 pub record Chose (r : Runner) (old new : AutoEndpoint) (answer : Option Choice) : Type 0 where
   pub end : new.end ≡ old.end
   pub matches : Matches answer new.auto.frames (chosen r)
@@ -405,7 +405,7 @@ stands_touched key me routes value r hp touch refines = let config = config_in k
     ap (λ l. derived_state key me (accesses_in (r.actions ++ l))) (touched routes call a value touch) ∙ (ap (derived_state key me) (accesses_snoc r.actions (accessed (called (call_access call a value)))) ∙ (standing_snoc key me (accesses_in r.actions) (called (call_access call a value))
     ∙ (stand_honest key me (derived_state key me (accesses_in r.actions)) (called (call_access call a value)) hp ∙ (ap (λ (s : DerivedState). after_access config s (call_access call a value)) refines ∙ after_touch routes config r value touch))))
 
--- What is no access to the region leaves it.
+-- An action that is no access to the region leaves the region as it is.
 stays_standing : (key : RunSetup) (me : ℕ) (r : Runner) (acts : List (Action (MemoryOp CallAccess))) → accesses_in acts ≡ [] → derived_state key me (accesses_in r.actions) ≡ derived_state_of r → derived_state key me (accesses_in (r.actions ++ acts)) ≡ derived_state_of r
 stays_standing key me r acts none refines = ap (derived_state key me) (accesses_both r.actions acts ∙ (ap (λ l. accesses_in r.actions ++ l) none ∙ append-nil (accesses_in r.actions))) ∙ refines
 
@@ -432,7 +432,7 @@ stands_looked key me r found refines = stays_standing key me r (looked found ∷
     looked_none : (found : ℕ) → accesses_in {A = MemoryOp CallAccess} (looked found ∷ []) ≡ []
     looked_none found = accesses_snoc [] (looked found) ∙ ap (λ l. l ++ []) accesses_none
 
--- What a peer does besides its calls leaves it where the runner is.
+-- The actions of a peer outside its calls leave it in the runner's state.
 stands_snoc : (key : RunSetup) (me : ℕ) (r : Runner) (d : MemoryOp CallAccess) → honest_of key me ≡ true → derived_state key me (accesses_in r.actions) ≡ derived_state_of r → derived_state key me (accesses_in (r.actions ++ accessed d ∷ [])) ≡ after_memory_op (config_in key me) (derived_state_of r) d
 stands_snoc key me r d hp refines = ap (derived_state key me) (accesses_snoc r.actions (accessed d)) ∙ (standing_snoc key me (accesses_in r.actions) d
     ∙ (stand_honest key me (derived_state key me (accesses_in r.actions)) d hp ∙ ap (λ (s : DerivedState). after_memory_op (config_in key me) s d) refines))
@@ -517,7 +517,7 @@ bytes_in key me routes r answer old p turns = let plan = p.driven.auto in
     let fits : FitsIf key.queue.mtu (call_chosen (chosen r)) = subst (FitsIf key.queue.mtu) (recorded_call answer plan.frames (chosen r) turns.matches) (fits_recorded key.queue.mtu answer plan.frames planned) in
     place_bytes (config_in key me) r.end r.place (call_chosen (chosen r)) fits turns.there.refines.bytes
 
--- Where a doorbell is to be done in two turns, its call is open.
+-- If a doorbell takes two turns, its call is open.
 
 first_silent : (routes : List Route) (config : EndConfig) (end : End) (call : Call) → is_guarded (doorbell_path_in routes (access_at config (first_place config end call))) ≡ false
 first_silent routes config end calls.Tick = refl
@@ -558,7 +558,7 @@ may_come key me routes ringing r end a s same at is = let config = config_in key
 list_after : (old pass : PassView) (l acts : List (Action (MemoryOp CallAccess))) → length acts ≤ 1 → pass ≡ made old acts → old.lists ≡ l ∷ [] → pass.lists ≡ (l ++ acts) ∷ []
 list_after old pass l acts one is was = ap (λ (h : PassView). h.lists) is ∙ made_lists old l acts one was
 
--- Where nothing is met, nothing is to come of it.
+-- If no value is read, no session number is due.
 none_met : (r : Runner) → r.met ≡ None → HasMet r
 none_met r none = record { stored = λ number at is. none_some number (sym none ∙ is); loaded = λ number at is. none_some number (sym none ∙ is) }
   where
@@ -650,7 +650,7 @@ met_before word place None is = refl
 met_before word (WritingState state) (Some number) is = absurd (cc)
 met_before word place (Some number) is = absurd (cc)
 
--- Where its list leaves the peer as the pass has it.
+-- The peer's list leads to the state that the pass has.
 derived_state_in : (key : RunSetup) (me : ℕ) (routes : List Route) (r : Runner) (old : PassView) (end : Engine) → IsThere key me routes r old end → derived_state key me (accesses_in (front old.lists)) ≡ derived_state_of r
 derived_state_in key me routes r old end there = ap (λ ls. derived_state key me (accesses_in (front ls))) there.lists ∙ there.refines.derived_state
 
@@ -661,7 +661,7 @@ meets_at key me routes r old end word there due = ap (λ (s : DerivedState). s.p
 pub opened_at : (key : RunSetup) (me : ℕ) (routes : List Route) (r : Runner) (old : PassView) (end : Engine) → IsThere key me routes r old end → r.numbers.log.opened ≡ (derived_state key me (accesses_in (front old.lists))).numbers.log.opened
 opened_at key me routes r old end there = ap (λ (s : DerivedState). s.numbers.log.opened) (sym (derived_state_in key me routes r old end there))
 
--- What was met is what its session word holds, or what it loaded.
+-- The number read is that of its session word, or the one that it loaded.
 met_has : (word : SessionWord) (r : Runner) (number : ℕ) → r.place ≡ WritingState (state_for word) → HasMet (met_on word r number)
 met_has Own r number place = record { stored = λ n at is. refl; loaded = λ n at is. absurd (two_three (sym place ∙ at)) }
   where
@@ -755,7 +755,8 @@ pub lines_held : (config : EndConfig) (r : Runner) (done : Done) (a : Access) �
 lines_held config r done a held at = let place = place_in config r in ap (λ (x : Access). access_lines config.me x 0) at ∙ (given_line config.me (access_at config place) 0
     ∙ (ap (λ n. access_lines config.me (access_at config place) (value_given (access_at config place) n)) (sym (held_value done held)) ∙ sym (held_line config.me (is_first r) r.numbers.log.opened r.met (value_in config r done) done held)))
 
--- Which turn a step is: the State step with 3, which bears the numbers of its session, or another.
+-- The kind of a step's turn: the State step with 3, which has the numbers of its session, or
+-- another.
 
 pub record IsEntering (config : EndConfig) (r : Runner) (value : ℕ) : Type 0 where
   pub other : ℕ

@@ -1,4 +1,4 @@
--- What a hostile peer stores keeps the rule.
+-- Each store of a hostile peer keeps the rule.
 use Rattle.std.proofs.Common.{◌≡◌, ◌≢◌, ℕ, ◌^◌, ◌<◌, ◌⊎◌, inl, inr, false, List, [], ◌∷◌, ◌++◌, set, refl, sym, ◌∙◌, subst}
 use Rattle.std.specs.Prelude.{None}
 use Rattle.section_map.specs.MayWrite.{InSection}

@@ -237,7 +237,7 @@ takes_by config storm Waits peer after step took = goes_by (opened config peer).
 takes_by config storm (Chooses auto) peer after step took = goes_by (opened config peer).left took.0 step took.1
 
 module _ (routes : List Route) (p target v : ℕ) (intx : Bool) (line_is : (route_to routes target).intx ≡ intx) where
-  -- How often its ring is one of this bit at this target.
+  -- The number of its rings of this bit at this target.
   abbrev ringing_by : Access → ℕ
   ringing_by a = count_in (rings_bit target v) (acted_by routes a 0)
 

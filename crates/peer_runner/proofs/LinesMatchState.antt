@@ -1,5 +1,4 @@
--- What the lines of a running peer record of its end, its sessions and its doorbells is what its
--- turns leave.
+-- The end, sessions and doorbells by a running peer's lines are those that its turns leave.
 use Rattle.std.proofs.Common.{◌≡◌, ◌≢◌, ℕ, zero, suc, ⊎_elim, Bool, true, false, List, [], ◌∷◌, ◌++◌, refl, sym, ap, ◌∙◌, subst}
 use Rattle.std.specs.Prelude.{Some, None, ◌==◌, not, nat_le, if◌then◌else◌, map, ◌%◌}
 use Rattle.std.specs.Int.{bit_at}
@@ -49,7 +48,7 @@ unfolding reader_after_lines
 reports_both event t [] ys = refl
 reports_both event t (x ∷ xs) ys = reports_both event (reader_after_line event t x) xs ys
 
--- What the lines record of an end and of its sessions.
+-- An end and its sessions, by the lines.
 record Keeps (t : RecordReader) (end : End) (own : Log) : Type 0 where
   state : t.state ≡ state_of end.handshake.phase
   accepted : t.accepted ≡ end.accepted
@@ -133,7 +132,7 @@ plain p event t (m ∷ marks) is = let rest = no_look p event (record t { asked 
 abbrev wake_of : RecordReader → Wake
 wake_of t = record { asked = t.asked; missed = t.missed }
 
--- What is asked for and missed after the step.
+-- The requests and the missed frames after the step.
 abbrev woken : ℕ → RecordReader → Access → List Mark → Wake
 woken event t a marks = wake_after event (accepted_last t.log t.accepted) (delivered_next t.log t.delivered) (wake_of t) a marks
 
@@ -201,7 +200,7 @@ plain_step p event first n t a v marks word_is is free = by (is_quiet first a ma
         let recorded : reader_after_lines event t (lines_of p first a v marks) ≡ reader_after_lines event s (map (mark_line p) marks) = ap (λ (b : Bool). reader_after_lines event t (if b then [] else all)) quiet ∙ reports_both event t (access_lines p a v) (map (mark_line p) marks) in
         subst (λ (u : RecordReader). Steps event n t u a marks) (sym recorded) (counts_steps event n t _ _ a marks word_is is (ap (lapsed_by marks) c.asked ∙ same) (counts_both t s _ _ _ marks c (plain p event s marks is)))
 
--- Where a step is taken
+-- The place of a step
 
 abbrev PlaceAsks : DoorbellRequest → Place → Type 0
 PlaceAsks a place = AsksAt (λ taken. Unit {0}) a place

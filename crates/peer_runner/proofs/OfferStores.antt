@@ -1,4 +1,4 @@
--- What the open offer of an honest peer has stored.
+-- The stores of an honest peer's open offer.
 use Rattle.std.proofs.Common.{◌≡◌, ℕ, zero, suc, ◌+◌, ◌*◌, ◌/◌, ◌%◌, ◌<◌, ◌≤◌, ◌⊎◌, inl, inr, ⊎_elim, true, List, [], ◌∷◌, ◌++◌, length, refl, sym, ap, ◌∙◌, subst, arith, append-nil}
 use Rattle.std.specs.Prelude.{Option, Some, None, Contains}
 use Rattle.std.proofs.lemmas.List.Elements.{Contains-append_cases}
@@ -142,7 +142,7 @@ module _ (key : RunSetup) (fit : IsFit key) (p : ℕ) (hp : honest_of key p ≡ 
   stored_at memory end (WritingAvailIndex j) value pending w a e c = absurd (none_some pending (sym (report_none (config_of (link_config_of key) p) j.number) ∙ e))
   stored_at memory end place value pending w a e c = absurd (none_some pending (goes_on (config_of (link_config_of key) p) place value pending e))
 
-  -- What it had stored as it came to a place.
+  -- The stores of the offer up to a place.
   abbrev Had : List ℕ → Place → PendingOffer → Type 0
   Had writes place pending = ((w : ℕ) → Contains writes w → IsOfFrame key p pending w) × (IsReading place → writes ≡ [])
 

@@ -1,4 +1,4 @@
--- What two honest peers keep between them.
+-- The invariant of two honest peers.
 use Rattle.std.proofs.Common.{◌≡◌, ◌≢◌, ℕ, zero, suc, ◌+◌, ◌-◌, ◌%◌, ◌<◌, ◌≤◌, ◌⊎◌, inl, inr, ⊎_elim, true, false, List, [], length, refl, sym, ap, ◌∙◌, subst, arith, length-append}
 use Rattle.std.specs.Prelude.{nat_lt, replicate}
 use Rattle.std.proofs.lemmas.List.{length-replicate}
@@ -43,8 +43,8 @@ freed_shut : (link_config : LinkConfig) (memory : ℕ → ℕ) (p : ℕ) (end : 
 freed_shut link_config memory p end (ReadingUsedId pending freed more) h out = absurd (out h.0)
 freed_shut link_config memory p end place h out = refl
 
--- What is sent is spelled in every phase: as of an end in RUN with these counts, whose state word
--- is 3.
+-- Each sent frame is spelled in every phase, as of an end in RUN with these counts, whose state
+-- word is 3.
 sent_spells : (link_config : LinkConfig) (memory : ℕ → ℕ) (p k freed returned : ℕ) (accepted : List (List ℕ)) → IsLinkConfig link_config → p < 2 → OwnSection link_config (fields link_config memory p) accepted freed returned → freed ≤ length accepted → length accepted ≤ freed + limit_of link_config.sizes →
     freed ≤ k → k < length accepted → SectionSpells link_config memory p k (frame_at accepted k)
 sent_spells link_config memory p k freed returned accepted is p2 sent few room low high = let after = put memory p 3 in let start = section_of link_config p in
@@ -98,13 +98,13 @@ module _ (key : RunSetup) (fit : IsFit key) (a : honest_of key 0 ≡ true) (b : 
             subst (λ x. memory (x + word_offset key.queue (LayoutUsedId i)) ≡ k % limit_of key.queue) (sym start) (field_read link_config memory q (UsedId i) (memory (section_of link_config q + word_offset key.queue (LayoutUsedId i))) at refl ∙ link.named k low high);
       }
 
-  -- What a call holds.
+  -- The values of a call.
   pub sent_lem : (memory words : ℕ → ℕ) (acc : ℕ → List (MemoryOp CallAccess)) → OperationsMade key memory words acc → (p : ℕ) → p < 2 → ReadValuesAreAsSent key memory acc p
   sent_lem memory words acc m p p2 = let link_config = link_config_of key in let o2 : 1 - p < 2 = omega arith in let back : 1 - (1 - p) ≡ p = omega arith in let end = end_by key acc p in let place = place_by key acc p in let q = 1 - p in
       let pair = pair_at memory words acc m in as_sent link_config memory p end place (fields link_config memory (1 - q)) (end_by key acc q).accepted (end_by key acc q).returned (alone_at key fit memory words acc m p (both p p2))
       (λ run. subst (λ x. Polls link_config (fields link_config memory (1 - q)) (end_by key acc q).accepted (place_by key acc x)) back (pair.link q o2 (inr (subst (λ x. IsAttached (end_by key acc x) (place_by key acc x)) (sym back) (inl run)))).polls)
       (λ run. (pair.link p p2 (inl (inl run))).returns)
 
--- What one asks for, the other doesn't miss.
+-- The other doesn't miss a requested frame.
 pub woken_lem : (key : RunSetup) → IsFit key → honest_of key 0 ≡ true → honest_of key 1 ≡ true → (memory words : ℕ → ℕ) (acc : ℕ → List (MemoryOp CallAccess)) → OperationsMade key memory words acc → (p : ℕ) → p < 2 → AskedIsRung key memory acc p
 woken_lem key fit a b memory words acc m p p2 = λ ev frame asked. never_missed (link_config_of key) (is_link_config key fit) ev (honest_of key) a b memory words (λ q. derived_state key q (acc q)) (reached_by key fit memory words acc m) p frame p2 asked

@@ -90,7 +90,7 @@ pub met_silent : (me number : ℕ) (word : SessionWord) → lines_in me (turn_me
 met_silent me number Own = refl
 met_silent me number Others = refl
 
--- What a turn asks of the pass.
+-- The requirements of a turn on the pass.
 pub seated : (id : TableId) (key : RunSetup) (me : ℕ) (routes : List Route) (plan : Plan) (spans : List ℕ) (r : Runner) (pass : PassView) (p : AutoPeer) → IsOnTrajectory id key me routes plan spans r pass p → IsPassOf id key pass × (pass.from ≡ me) × (0 < length pass.lists)
 seated id key me routes plan spans r pass p on = (on.of, on.there.from, (let one = ap length on.there.lists in omega arith))
 
@@ -108,7 +108,7 @@ pub record IsInSpan (id : TableId) (key : RunSetup) (me : ℕ) (routes : List Ro
   pub turns_are : turns ≡ length next.turns
   pub recorded : lines ≡ lines_of_turns me next.turns
 
--- Where a turn of it is left.
+-- A turn that is left.
 pub left_in_span : (spans : List ℕ) (left : ℕ) (rest : List ℕ) → spans ≡ left ∷ rest → 0 < left → has_turn_left spans ≡ true
 left_in_span spans left rest is some = ap has_turn_left is ∙ lt-ltb 0 left some
 
@@ -219,7 +219,7 @@ module _ (id : TableId) (key : RunSetup) (me : ℕ) (routes : List Route) (plan 
     recorded = took.2.0;
   }
 
-  -- What was done there, as it is driven.
+  -- The actions there, as it is driven.
   pub pass_at : (first pass : PassView) (p : AutoPeer) (r : Runner) → IsPassOf id key first → IsOnTrajectory id key me routes plan spans r pass p → pass ≡ held first.table_id me (r.actions ∷ [])
   pass_at first pass p r of on = lent pass me r.actions on.there.from on.there.lists ∙ ap (λ i. held i me (r.actions ∷ [])) (on.of.0 ∙ sym of.0)
 

@@ -1,4 +1,4 @@
--- What the acts of a scenario in running form say of a peer.
+-- A peer by the acts of a scenario in running form.
 use Rattle.std.proofs.Common.{◌≡◌, ℕ, zero, suc, ◌+◌, ◌<◌, ◌≤◌, nat_le, nat_lt, Bool, true, false, ◌&&◌, ◌||◌, All, List, [], ◌∷◌, ◌++◌, length, take, drop, refl, sym, ap, ◌∙◌, subst, arith, append-nil, append_assoc, ⊎_elim, ◌⊎◌, inl, inr, get_or}
 use Rattle.std.specs.Prelude.{Option, Some, None, ◌==◌, ◌^◌, not, if◌then◌else◌, slice_get, slice_index, slice_index_or, sum}
 use Rattle.std.specs.List.{list_any, AllByRecursion}
@@ -382,7 +382,7 @@ pub few_turns : (w : World) (p : ℕ) (spans : List ℕ) → IsWorld w → not_r
 few_turns w p spans is running are = let most = is.turns in let count = spans_cost w.acts p in let few = spans_few w.acts [] (first_line w) p running in
     let a : sum spans ≡ sum (spans_of w.acts p) = ap sum are in let b : length spans ≡ length (spans_of w.acts p) = ap length are in omega arith
 
--- What drives a peer
+-- The driver of a peer
 
 no_any : (f : Act → Bool) (acts : List Act) → ((k : ℕ) (a : Act) → slice_get acts k ≡ Some a → f a ≡ false) → list_any f acts ≡ false
 no_any f [] none = refl

@@ -1,4 +1,4 @@
--- What an open call holds of what it has read.
+-- The values that an open call has read.
 use Rattle.std.proofs.Common.{◌≡◌, ℕ, ◌≤◌, List, arith}
 use Rattle.link_handshake.specs.declared.Phase.TheVariants.{Run}
 use Rattle.call_grammar.specs.Ends.{End}

@@ -1,4 +1,4 @@
--- What the list of an honest peer says of its words and of its phase.
+-- The words and the phase of an honest peer, by its list.
 use Rattle.std.proofs.Common.{◌≡◌, ◌≢◌, ℕ, zero, suc, ◌+◌, ◌-◌, ◌<◌, ◌⊎◌, inl, inr, ⊎_elim, Bool, true, false, List, [], ◌∷◌, ◌++◌, refl, sym, ap, ◌∙◌, subst, arith}
 use mathlib.Core.Logic.{dite}
 use native.Mathlib.Decide.{ℕ_discrete}
@@ -102,7 +102,7 @@ still phase (access.Ring target vector) was none quiet e = none e
 still phase access.Nothing was none quiet e = none e
 
 module _ (key : RunSetup) (fit : IsFit key) (p : ℕ) (hp : honest_of key p ≡ true) where
-  -- What it wrote last.
+  -- Its last write.
   pub written_is : (memory words : ℕ → ℕ) (acc : ℕ → List (MemoryOp CallAccess)) → OperationsMade key memory words acc → (w : ℕ) → (end_by key acc p).written w ≡ last_written (acc p) w
   written_is = along key fit p hp (λ l. (w : ℕ) → (derived_state key p l).end.written w ≡ last_written l w) (λ w. ap (λ (s : DerivedState). s.end.written w) (standing_none key p))
       (λ memory after words acc next t k m here turn was w. written_after key p memory after (acc p) t turn w ∙ (ap (λ n. left_in w n t.access) (was w) ∙ sym (fold_more (λ n (x : MemoryOp CallAccess). left_in w n (access_of x)) 0 (acc p) (called t))))

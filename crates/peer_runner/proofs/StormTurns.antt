@@ -82,7 +82,7 @@ blowing x ringing opened spans = record { peer = storming x; looks = Some 0; rin
 quiet_first : (config : EndConfig) (own : Route) (x : ℕ) (ringing : Bool) (opened : ℕ) (spans : List ℕ) → looks_next config own (blowing x ringing opened spans) ≡ false
 quiet_first config own x ringing opened spans = elim own.enabled as (λ b. (b && is_below (Some 0) 0) ≡ false) [ true ↦ refl | false ↦ refl ]
 
--- How many sessions its State steps opened.
+-- The number of sessions that its State steps opened.
 opened_done : (opened : ℕ) (a : Access) → Done → ℕ
 opened_done opened a done = if awaits_ring done then opened else opened + opens a
 
@@ -109,7 +109,7 @@ restart_blows : (x : ℕ) (ringing : Bool) (opened : ℕ) (spans : List ℕ) →
 restart_blows x true opened spans = refl
 restart_blows x false opened spans = refl
 
--- What holds of the turns so far, from the seed on.
+-- The facts of the turns so far, from the seed on.
 pub record Blown (key : RunSetup) (routes : List Route) (p seed : ℕ) (spans : List ℕ) (at : ℕ) (ringing : Bool) (left : List ℕ) (list : List (Action (MemoryOp CallAccess))) (turns : List Turn) : Type 0 where
   pub opened : ℕ
   pub takes : TakesTurns (config_in key p) (storm_in key p) routes (comes_to (storming seed) spans) turns (blowing at ringing opened left)
@@ -255,7 +255,7 @@ module _ (id : TableId) (key : RunSetup) (routes : List Route) (first : Storm) (
     recorded = e ∙ at.recorded;
   }
 
-  -- What a turn asks.
+  -- The requirements of a turn.
   pub storm_seated : (P : List ℕ → Type 0) (words : TableId) (start pass : PassView) (storm : Storm) (ringing : Bool) (turns : ℕ) (lines : List Line) → IsPassOf words key start → start.table_id ≡ id → start.from ≡ first.peer → start.lists ≡ [] ∷ [] → StormAt id key routes first spans P pass storm ringing turns lines →
       IsPassOf words key pass × (pass.from ≡ storm.peer) × (0 < length pass.lists)
   storm_seated P words start pass storm ringing turns lines of same from lists at = (
@@ -319,7 +319,7 @@ module _ (id : TableId) (key : RunSetup) (routes : List Route) (first : Storm) (
         recorded = ap (λ q. lines ++ line.Reset q ∷ []) (ap (λ (s : Storm). s.peer) at.storm_is) ∙ (ap (λ ls. ls ++ lines_in p Restarts) at.recorded ∙ sym (recorded_snoc p at.taken Restarts));
       }
 
-  -- What was done, as it is driven.
+  -- The actions, as it is driven.
   abbrev storm_did : (P : List ℕ → Type 0) (pass : PassView) (storm : Storm) (ringing : Bool) (turns : ℕ) (lines : List Line) → honest_of key first.peer ≡ false → (at : StormAt id key routes first spans P pass storm ringing turns lines) → Did key routes first.peer (storming first.at) spans at.list
   storm_did P pass storm ringing turns lines hostile at = record {
     turns = at.taken;

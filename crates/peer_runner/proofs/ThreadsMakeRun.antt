@@ -1,4 +1,4 @@
--- What peers did in threads is a run of their scenario.
+-- The actions of peers in threads are a run of their scenario.
 use Rattle.std.proofs.Common.{◌≡◌, ◌≢◌, ℕ, zero, suc, ◌+◌, ◌-◌, ◌<◌, ◌≤◌, Bool, true, false, All, List, [], ◌∷◌, ◌++◌, length, map, refl, sym, ap, ◌∙◌, subst, arith, append-nil, eq-eqb, ne_eqb, get_or, take}
 use Rattle.std.specs.Prelude.{if◌then◌else◌, filter, Contains}
 use Rattle.split_ring.specs.Layout.{has_events}
@@ -196,7 +196,7 @@ event_is world key made p = ap event_word (same_config world key p made)
 reader_matches_in : (world : World) (key : RunSetup) (parts : List Part) → IsMadeFor world key → (p : ℕ) (list : List (Action (MemoryOp CallAccess))) → Says key p list (lines_by parts p) → ReaderMatches (derived_state key p (accesses_in list)) (reader_of_part world parts p)
 reader_matches_in world key parts made p list says = subst (λ event. ReaderMatches (derived_state key p (accesses_in list)) (reader_of_lines event (lines_by parts p))) (event_is world key made p) says.recorded
 
--- What the lines record of two sides is what their lists leave.
+-- Two sides by the lines are those that their lists leave.
 delivers_by : (one other : RecordReader) (s o : DerivedState) → ReaderMatches s one → ReaderMatches o other → DeliversInOrder (own_side s.end) (own_side o.end) s.numbers.log o.numbers.log → DeliversInOrder (side_in one) (side_in other) one.log other.log
 delivers_by one other s o mine theirs d = subst (λ (x : Side). DeliversInOrder x (side_in other) one.log other.log) (sym mine.side) (subst (λ (x : Side). DeliversInOrder (own_side s.end) x one.log other.log) (sym theirs.side)
     (subst (λ (l : Log). DeliversInOrder (own_side s.end) (own_side o.end) l other.log) (sym mine.log) (subst (λ (l : Log). DeliversInOrder (own_side s.end) (own_side o.end) s.numbers.log l) (sym theirs.log) d)))
@@ -223,7 +223,7 @@ carries world key lists traces made two ran recorded p p2 one other = let honest
 
 -- Interrupts that came
 
--- What a list and the lines of its peer say of them.
+-- The facts of them by a list and the lines of its peer.
 record InterruptsAreFound (list : List (Action (MemoryOp CallAccess))) (lines : List Line) : Type 0 where
   each : (v : ℕ) → how_many (is_interrupt_by v) lines ≤ count_in (finds_bit v) list
   all : how_many is_interrupt lines ≤ sum_below 64 (λ v. count_in (finds_bit v) list)

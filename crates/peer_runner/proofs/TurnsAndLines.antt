@@ -308,7 +308,7 @@ cleared_same routes config r found = by (is_set found)
     by true = refl
     by false = steps_same routes config r (Cleared found)
 
--- What a State step sets.
+-- The State that a step sets.
 sets_is : (state : ℕ) (auto : Auto) (a : Access) → sets state (Chooses auto) a ≡ true → a ≡ access.State state
 sets_is state auto (access.Read word) is = absurd (clash is)
 sets_is state auto (access.Write word value) is = absurd (clash is)
@@ -429,7 +429,7 @@ restarts_same config r = λ i. record {
   spans = later r.spans;
 }
 
--- What a turn does to the words.
+-- The effect of a turn on the words.
 
 rung_shown : (doorbell_path : DoorbellPath) (target : ℕ) → shown (rung_by doorbell_path target) ≡ rung_by doorbell_path target
 rung_shown Silent target = refl
@@ -483,7 +483,7 @@ pub actions_on : (routes : List Route) (list : List (Action (MemoryOp CallAccess
     shown (list ++ done_of routes call a done) ≡ actions_in routes (turns ++ turn_of first opened met (mark.step_of a (value_done done) marks) done ∷ [])
 actions_on routes list turns call first opened met a done marks made = shown_on routes list (done_of routes call a done) turns _ (done_actions routes call first opened met a done marks) made
 
--- How many turns are left
+-- The number of turns left
 
 -- A turn of the span is one of all, and so is a reset.
 pub all_spent : (spans : List ℕ) → has_turn_left spans ≡ true → all_turns spans ≡ all_turns (spent spans) + 1
@@ -505,9 +505,9 @@ opens_one (access.State state) = elim (state == 2) as (λ b. (if b then 1 else 0
 opens_one (access.Ring target vector) = omega arith
 opens_one access.Nothing = omega arith
 
--- What holds of the turns so far.
+-- The facts of the turns so far.
 
--- How the runner goes in a turn: its actions and its turns, and what is left.
+-- The runner in a turn: its actions and its turns, and the rest.
 record TurnsTo (key : RunSetup) (me : ℕ) (routes : List Route) (r next : Runner) : Type 0 where
   acts : List (Action (MemoryOp CallAccess))
   turn : Turn
@@ -609,7 +609,7 @@ far_of follow key me routes plan spans r starts = far_first key me routes plan s
 far_of follow key me routes plan spans r (follows before next end comes refines on) = let far = far_of follow key me routes plan spans before comes in
     far_on key me routes plan spans before next (goes_so follow key me routes before next end refines far.recorded on) far
 
--- How many turns are taken
+-- The number of turns taken
 
 -- Their number is that of all turns except those that are left, and at least one for each session.
 pub record IsCounted (spans : List ℕ) (r : Runner) : Type 0 where

@@ -47,7 +47,7 @@ HasRoutes context = AreRoutes (setup_of context) context.routes.now
 abbrev pub HasPeerFirst : PeerContext → PassView → Type 0
 HasPeerFirst context pass = IsFirstIn context.words.now.shared.table_id (setup_of context) context.me pass
 
--- Where the list that the pass has of the peer leaves it.
+-- The state to which the pass's list of the peer leads.
 abbrev pub state_of : PeerContext → PassView → DerivedState
 state_of context pass = state_in (setup_of context) context.me pass
 

@@ -1,4 +1,4 @@
--- How the doorbells of running peers go, by the routes of the peers.
+-- The paths of running peers' doorbells, by the routes of the peers.
 use Rattle.std.specs.Prelude.{ℕ, Bool, true, false, Option, Some, None, List, [], ◌∷◌}
 use Rattle.split_ring.specs.declared.steps.Access.{Access}
 use Rattle.split_ring.specs.declared.steps.Access.TheVariants as access

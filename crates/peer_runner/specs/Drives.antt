@@ -1,4 +1,4 @@
--- What drives a peer, and what it did.
+-- The driver of a peer, and its actions.
 use Rattle.std.specs.Prelude.{ℕ, suc, ◌≡◌, ◌<◌, ◌≤◌, ◌==◌, ◌^◌, Bool, true, false, if◌then◌else◌, Option, Some, None, All, List, [], ◌∷◌, ◌++◌, length, Result, Ok, IfOk}
 use Rattle.std.specs.List.{list_any}
 use Rattle.ivs_base.specs.declared.NoMemory.{NoMemory}
@@ -115,7 +115,7 @@ pub record Seeds (p : ℕ) (acts : List Act) (seed : ℕ) : Type 0 where
   pub none : has_storm acts p ≡ false → after_acts p at_start acts ≡ at_start
   pub start : has_storm acts p ≡ true → after_acts p at_start acts ≡ storming seed
 
--- What was done
+-- The actions
 
 -- The peer took these turns of its spans, and made these actions on the words.
 pub record Did (key : RunSetup) (routes : List Route) (p : ℕ) (start : Peer) (spans : List ℕ) (list : List (Action (MemoryOp CallAccess))) : Type 0 where

@@ -1,4 +1,4 @@
-//! What the turns of an automatic peer use and leave as it is.
+//! The values that the turns of an automatic peer use and leave as they are.
 use doorbell_irq::Route;
 use shared_words::Words;
 use std::alloc::Global;
@@ -12,6 +12,6 @@ pub struct PeerContext<'a> {
     pub words: &'a Words,
     /// The number of the peer.
     pub me: u32,
-    /// How doorbells reach each peer, by its number.
+    /// The routes of doorbells to each peer, by its number.
     pub routes: &'a [Route],
 }

@@ -20,7 +20,7 @@ pub enum DoorbellPath {
     Guarded(u32),
 }
 
-/// What one turn does of a step.
+/// The part of a step that one turn makes.
 #[derive(Clone, Copy, Debug, PartialEq, Eq)]
 pub enum Done {
     /// The whole step. The value is what a read gave, else 0.

@@ -1,4 +1,4 @@
-//! What each thread calls: the turns of one peer.
+//! The calls of each thread: the turns of one peer.
 ghost use Rattle.std.specs.Prelude.{ℕ, ◌≡◌, ◌∷◌, ◌++◌, ◌<◌, ◌^◌, [], Some, None, List, length, true, false, if◌then◌else◌, OnOk};
 ghost use Rattle.lawful_history.specs.declared.line.Line.TheVariants as line;
 ghost use Rattle.lawful_history.specs.Storm.{storm_after};
@@ -61,7 +61,7 @@ pub struct PeerPlan {
     pub spans: Spans,
     /// The driver, which chooses the peer's steps.
     pub driver: Driver,
-    /// How doorbells reach each peer, by its number.
+    /// The routes of doorbells to each peer, by its number.
     pub routes: ArrayVec<Route, 8>,
 }
 

@@ -1,6 +1,7 @@
 //! The calls that a running peer makes before its turns and after the last one.
 
-/// What a running peer calls. Several threads may call its methods at once, and each call returns.
+/// The calls of a running peer. Several threads may call its methods at once, and each call
+/// returns.
 pub trait Gate {
     /// The call before each turn of a peer, with the number of the turn, from 1.
     fn pass(&self, peer: u32, turn: u64);

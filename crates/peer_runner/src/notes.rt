@@ -75,7 +75,7 @@ fn is_quiet(first: bool, access: Access, end: &Endpoint, notes: &[Note]) -> bool
     }
 }
 
-/// What the lines of a step need of the peer as the step began.
+/// The state of the peer at the start of a step, as far as the step's lines need it.
 #[derive(Clone, Copy, Debug)]
 pub struct RecordedStep {
     /// Whether the call begins with the step.

@@ -1,4 +1,4 @@
--- What is read is a schedule, and the text is its spelling.
+-- A value that is read is a schedule, and the text is its spelling.
 use Rattle.std.proofs.Common.{◌≡◌, ℕ, ◌*◌, ◌/◌, ◌%◌, true, List, [], ◌∷◌, ◌++◌, map, Ok, refl, sym, ap, subst, ◌∙◌, arith}
 use Rattle.line_format.specs.Rows.{Row, row, text_of}
 use Rattle.line_format.specs.Machine.{read}

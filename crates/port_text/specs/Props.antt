@@ -1,4 +1,4 @@
--- That a value is a schedule of ports has at most one proof.
+-- The property of being a schedule of ports has at most one proof.
 use Rattle.std.proofs.Props.{props}
 use mathlib.Core.List.{is_set}
 use Rattle.scenario_text.specs.Props.{Fit-prop, FitBytes-prop}

@@ -1,6 +1,6 @@
-//! What the programs share at their edge: the words out of the arguments, the commands that they
-//! name, and the limits of what is read. So are the status with its exit number, the text that a
-//! call writes last, and the lines that refuse an input. What a program does is in its own crate.
+//! The common edge of the programs: the words out of the arguments, the commands that they name,
+//! and the limits of inputs. So are the status with its exit number, the text that a call writes
+//! last, and the lines that refuse an input. The work of a program is in its own crate.
 #![tactic(auto)]
 
 mod arguments;

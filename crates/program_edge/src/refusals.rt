@@ -11,7 +11,7 @@ use section_dump::{DumpFault, HEADER_LEN};
 use section_map::{GeometryFault, Part};
 use std::alloc::{AllocError, Global};
 
-/// Where a text or a file is faulty.
+/// The place of a fault in a text or a file.
 #[derive(Clone, Copy, Debug, PartialEq, Eq)]
 pub enum Place {
     /// The text as a whole.
@@ -24,7 +24,7 @@ pub enum Place {
     Packet(u64),
 }
 
-/// What is wrong there, by the name that `ivshm` gives it.
+/// The fault there, by the name that `ivshm` gives it.
 #[derive(Clone, Copy, Debug, PartialEq, Eq)]
 pub enum Reason {
     TooLong,
@@ -55,7 +55,7 @@ pub enum Reason {
     TooLarge,
 }
 
-/// Where a text is faulty, and what is wrong there.
+/// The place of a text's fault, and the fault.
 #[derive(Clone, Copy, Debug, PartialEq, Eq)]
 pub struct Refusal {
     pub place: Place,

@@ -40,7 +40,7 @@ Fields = RawPtr ∷ (heap.the_field).row ∷ []
 abbrev inside : Ptr → Z.Denot → List Val → Valss Fields → Fml
 inside at alloc vs vss = fsep (feq (List Val) vs (vstruct (of_list (flat Fields vss)) ∷ [])) (owns Fields (at, ((heap.the_field).into alloc, tt)) vss)
 
--- What a struct of these fields owns with `held`.
+-- The ownership of a struct of these fields with `held`.
 abbrev pub owned : (R : RattleType) → Ptr → Z.Denot → Option R.Denot → List Val → Fml
 owned R at alloc x vs = fsep (fex (Valss Fields) (inside at alloc vs)) (held R at alloc x)
 

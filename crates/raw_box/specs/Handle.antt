@@ -1,4 +1,4 @@
--- What a handle for a program in C owns, and what a call does to its value.
+-- The value that a handle for a program in C owns, and the effect of a call on it.
 use Rattle.std.specs.Prelude.{◌≡◌, Option, Some, None}
 use base.Fml.{Fml, ftrue, fex}
 use denote.RattleType.{RattleType}

@@ -88,7 +88,7 @@ fn one_write_text(
     format!(in alloc; "{name} = {value}")
 }
 
-/// How the lines of a row belong together.
+/// The relation between the lines of a row.
 #[derive(Clone, Copy, Debug, PartialEq, Eq)]
 pub enum Folded {
     One,

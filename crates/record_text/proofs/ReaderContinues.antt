@@ -42,7 +42,7 @@ abbrev whole_record : Part → Record
 whole_record (Whole version w lines) = record { version = version; world = w; lines = lines }
 whole_record p = record { version = 0; world = world_of_draft at_start; lines = [] }
 
--- What is read to its end is a record.
+-- A text that is read to its end is a record.
 pub is_record : (bytes : List ℕ) (version : ℕ) (world : World) (lines : List Line) → reading bytes ≡ Ok (Whole version world lines) → IsSpelling (record { version = version; world = world; lines = lines }) bytes
 is_record bytes version world lines is = elim (is_read bytes (Whole version world lines) is) [ HasSpelling n w ls same spelled ↦ subst (λ (r : Record). IsSpelling r bytes) (sym (ap whole_record same)) spelled ]
 

@@ -1,4 +1,4 @@
--- What running peers did.
+-- The actions of running peers.
 use Rattle.std.specs.Prelude.{◌≡◌, ℕ, Bool, List, map, filter}
 use Rattle.std.specs.List.{range_with_len}
 use mathlib.Core.List.{is_set}

@@ -1,4 +1,4 @@
-//! What the lines of a record so far say.
+//! The content of a record's lines so far.
 ghost use Rattle.std.specs.Prelude.{◌≡◌, [], true, false};
 ghost use Rattle.lawful_history.specs.Frames.{HaveFrames};
 ghost use Rattle.lawful_history.specs.Versions.{is_version};
@@ -10,7 +10,7 @@ ghost use Rattle.record_text.specs.Positions.{is_before_history};
 use lawful_history::Lines;
 use scenario_text::Draft;
 
-/// Which line comes next: `record V`, one of the scenario, one of the history, or none.
+/// The next line: `record V`, one of the scenario, one of the history, or none.
 #[derive(Clone, Copy, Debug, PartialEq, Eq)]
 pub enum RecordPosition {
     AtFirst,

@@ -1,4 +1,4 @@
-//! What peers did that ran in threads, each peer by itself.
+//! The actions of peers that ran in threads, each peer by itself.
 ghost use Rattle.std.specs.Prelude.{◌≡◌, ◌++◌, [], ◌∷◌, map, OnOk, OnErr};
 ghost use Rattle.record_text.specs.OwnParts.{part_of};
 

@@ -153,7 +153,7 @@ fn put_record(out: &mut Vec<u8>, trace: &Trace) -> Result<(), AllocError>
 //    the record. A record holds only values that have a spelling.
 pub fn print(alloc: Global, trace: &Trace) -> Result<Vec<u8>, NoMemory>
     ensures text { IfOk result (λ text. text.items ≡ spelling (record_of trace.now)) }
-    // What is written is read as the record.
+    // The text that is written is read as the record.
     ensures again { IfOk result (λ text. answer text.items ≡ Ok (record_of trace.now)) }
 {
     let mut out = Vec::new(alloc);

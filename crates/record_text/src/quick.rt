@@ -1,5 +1,5 @@
 //! Lines in their common spelling: a word and numbers of 32 bits, each read once from left to
-//! right, without the table of forms. What isn't found here is read by the table.
+//! right, without the table of forms. A line that isn't found here is read by the table.
 ghost use Rattle.std.specs.Prelude.{◌≡◌, ◌<◌, ◌^◌, ◌∷◌, ◌++◌, [], IfSome, decimal};
 ghost use Rattle.line_format.specs.Forms.{line_of};
 ghost use Rattle.record_text.specs.Quick.{IsLineOf};

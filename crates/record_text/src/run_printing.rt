@@ -36,7 +36,7 @@ fn put_own_lines(out: &mut Vec<u8>, lines: &[Line]) -> Result<(), AllocError>
     Ok(())
 }
 
-/// How many turns the peer took.
+/// The number of turns that the peer took.
 fn turns_of(trace: &OwnTrace) -> u64
     ensures value { result ≡ trace.now.turns }
     ensures fits { trace.now.turns < 2 ^ 64 }

@@ -10,9 +10,9 @@ use scenario_text::Scenario;
 /// a spelling: there is one trace for each peer with a turn line, ascending.
 #[derive(Debug, Drop)]
 pub struct RunTrace {
-    /// What was to happen.
+    /// The scenario.
     pub scenario: Scenario,
-    /// What each running peer did.
+    /// The actions of each running peer.
     pub peers: OwnTraces,
     pub ghost running: { peers_of peers ≡ running_peers (world_of scenario) } by { peers-prop _ _ },
 }

@@ -68,7 +68,7 @@ abbrev pub words_read : Place → ℕ
 words_read (ReadingFrameWord more entry address bytes at) = at
 words_read _ = 0
 
--- How many of the next accesses read the words left of a frame. 0 at every other place.
+-- The number of the next accesses that read the words left of a frame. 0 at every other place.
 abbrev pub reads_ahead : Place → ℕ
 reads_ahead (ReadingFrameWord more entry address bytes at) = words_for bytes - at
 reads_ahead _ = 0
@@ -78,7 +78,8 @@ abbrev pub frame_ahead : Place → Option ℕ
 frame_ahead (ReadingFrameWord more entry address bytes zero) = Some bytes
 frame_ahead _ = None
 
--- How many of the next accesses write the two words of a used element. 0 at every other place.
+-- The number of the next accesses that write the two words of a used element. 0 at every other
+-- place.
 abbrev pub writes_ahead : Place → ℕ
 writes_ahead (WritingUsedId more entry) = 2
 writes_ahead _ = 0

@@ -45,7 +45,7 @@ abbrev pub Latest : World → ℕ → List Line → List (List ℕ) → Type 0
 Latest world q past [] = Unit {0}
 Latest world q past (m ∷ older) = Spells world q past (length older + 1) m
 
--- What was written so far of the message that is being written.
+-- The part of the message being written that was written so far.
 abbrev pub Opened : World → ℕ → List Line → PortView → Place → Type 0
 Opened world q past port (place.WritingWord at more) =
     (last_write past (length_at world q (port.published + 1)) ≡ length port.hand) × ((j : ℕ) → j < at → last_write past (data_at world q (port.published + 1) j) ≡ frame_word port.hand j)

@@ -41,7 +41,7 @@ pub record Keeps (world : World) (me : ℕ) (peer_state : PeerState) (peer : Pro
   pub published : peer_state.port.published ≡ published_in peer.past
   pub lasts : (from : ℕ) → from < 8 → slice_index peer_state.port.lasts from ≡ last_got from peer.past
 
--- What a mark says of the numbers.
+-- The numbers by a mark.
 pub record Numbers (old new : PortView) (mark : Option PortMark) : Type 0 where
   pub published : new.published ≡ published_with mark old.published
   pub lasts : (from : ℕ) → from < 8 → slice_index new.lasts from ≡ last_with from mark (slice_index old.lasts from)

@@ -225,7 +225,7 @@ opened_lasts p peer_state past false [] lasts = lasts
 opened_lasts p peer_state past false (call.Publish message ∷ waiting) lasts = record { lasts = lasts.lasts; place = tt }
 opened_lasts p peer_state past false (call.Sample from ∷ waiting) lasts = record { lasts = lasts.lasts; place = tt }
 
--- What a turn records, and the states of the others.
+-- The lines of a turn, and the states of the others.
 record Turn (me : ℕ) (past new : List Line) (port : PortView) : Type 0 where
   all : NeverFallen new
   mine : Lasts me port new

@@ -158,7 +158,7 @@ opened_kept world me n peer_state false (call ∷ waiting) busy all small kept =
       few = omega arith;
     }
 
--- What a step leaves of the numbers.
+-- The numbers after a step.
 pub record Same (old new : PortView) : Type 0 where
   pub shape : new.shape ≡ old.shape
   pub me : new.me ≡ old.me

@@ -13,7 +13,7 @@ use Rattle.sampling_port.specs.Calls.{write_words, read_words, read_length, is_l
 use Rattle.sampling_port.specs.Views.{PortView, is_open, from_at, own, theirs, writing_place, reading_place, access_at, note_at, port_after, closed, got, left_at, left}
 use Rattle.sampling_port.specs.Laws.{PortsFollowCalls}
 
--- What is left at the places that a step leads to
+-- The rest of the call at the places after a step.
 
 writes_left : (port : PortView) (at count : ℕ) → left_at port (writing_place at count) ≡ write_words (own port) port.most (port.published + 1) port.hand at count
 writes_left port at zero = refl

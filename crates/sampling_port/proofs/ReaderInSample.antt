@@ -1,5 +1,5 @@
--- A reader in the middle of a sample of an honest writer. What it read is of the latest message, if
--- that is still the one of its first look.
+-- A reader in the middle of a sample of an honest writer. The words that it read are of the latest
+-- message, if that is still the one of its first look.
 use Rattle.std.proofs.Common.{◌≡◌, ◌≢◌, ℕ, zero, suc, ◌+◌, ◌-◌, ◌*◌, ◌<◌, ◌≤◌, Bool, true, false, List, [], ◌∷◌, ◌++◌, length, take, min, refl, sym, ◌∙◌, ap, subst, arith, eq-eqb}
 use Rattle.std.specs.Prelude.{◌==◌, nat_lt, if◌then◌else◌, Option, Some, None, slice_get, slice_index, slice_set}
 use Rattle.std.proofs.lemmas.Bool.{eqb-true, eqb-false}
@@ -61,7 +61,7 @@ looking_more world q p past number count word value l =
       published = l.published;
     }
 
--- What was read of the message with the number of the first look
+-- The words read of the message with the number of the first look.
 
 abbrev pub Number : ℕ → List (List ℕ) → Type 0
 Number number done = (1 ≤ number) × (number ≤ length done)
@@ -116,7 +116,7 @@ reader_published world q p past port done m r = record { last = omega (arith, r.
 
 -- The marks
 
--- What a reader got from the writer, after these lines, newest first.
+-- The messages that a reader got from the writer, after these lines, newest first.
 pub record GotFact (world : World) (q : ℕ) (messages : List (List ℕ)) (p : ℕ) (older : List Line) (number : ℕ) (message : List ℕ) : Type 0 where
   pub looked : Looking world q p older number (words_for (length message) + 2)
   pub some : 1 ≤ number
@@ -148,7 +148,7 @@ fact_before world q messages next (Wrote p word value) older fact = tt
 fact_before world q messages next (Denied p word) older fact = tt
 fact_before world q messages next (Idle p) older fact = tt
 
--- What holds with no next line holds with any next line.
+-- A fact with no next line is a fact with any next line.
 pub facts_before : (world : World) (q : ℕ) (messages : List (List ℕ)) (next : Option Line) (past : List Line) → Facts world q messages None past → Facts world q messages next past
 facts_before world q messages next [] facts = tt
 facts_before world q messages next (line ∷ older) facts = (fact_before world q messages next line older facts.0, facts.1)
@@ -165,7 +165,7 @@ pub record Looked (world : World) (q p : ℕ) (messages : List (List ℕ)) (past
 over : (world : World) (q p : ℕ) (past : List Line) (port : PortView) (done : List (List ℕ)) → slice_index port.lasts q ≤ length done → Reader world q p past (closed port) done
 over world q p past port done last = record { last = last; at = tt }
 
--- What is known of all peers before the read.
+-- The facts known of all peers before the read.
 pub record Before (world : World) (q : ℕ) (messages : List (List ℕ)) (past : List Line) (done : List (List ℕ)) : Type 0 where
   pub sequence : last_write past (head_of world q) ≡ length done
   pub latest : Latest world q past done

@@ -111,7 +111,7 @@ mark_is port p value note.Nothing is = refl
 mark_is port p value (note.Again first second) is = refl
 mark_is port p value (note.Refuse field v) is = refl
 
--- What a step of a port requires of the region.
+-- The requirements of a port's step on the region.
 pub can : (port : PortView) (a : Access) → IsPort port → IsPortAccess port a → CanPerform port.shape port.me a
 can port (access.Read word) is reach =
     let below = reach.1 in

@@ -1,4 +1,4 @@
--- What samples of an honest writer get, through the whole history.
+-- The messages that samples of an honest writer get, through the whole history.
 use Rattle.std.proofs.Common.{◌≡◌, ◌≢◌, ℕ, zero, suc, ◌+◌, ◌/◌, ◌%◌, ◌<◌, ◌≤◌, Bool, true, false, inl, inr, List, [], ◌∷◌, ◌++◌, length, replicate, refl, sym, ◌∙◌, ap, subst, arith, append_assoc}
 use Rattle.std.specs.Prelude.{◌==◌, ◌&&◌, nat_lt, nat_le, not, if◌then◌else◌, Option, Some, None, reverse, slice_get, slice_index, sum_by}
 use Rattle.std.specs.List.{AllByRecursion, flat_map}
@@ -372,7 +372,7 @@ own_section : (world : World) (me word : ℕ) → IsWorld world → MayWrite wor
 own_section world me word is (inl here) = here
 own_section world me word is (inr common) = let none = is.common in let low = common.0 in let high = common.1 in absurd (omega arith)
 
--- What such an event leaves.
+-- The state after such an event.
 record Poking (world : World) (q me : ℕ) (messages : List (List ℕ)) (past next : List Line) (done : List (List ℕ)) : Type 0 where
   facts : Facts world q messages None next
   counted : published_by q next ≡ length done

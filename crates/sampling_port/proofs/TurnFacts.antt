@@ -236,7 +236,7 @@ sample_step world q me messages past port done (place.AtSecond from sequence) wo
 abbrev pub Grown : List (List ℕ) → List (List ℕ) → Type 0
 Grown done new = (new ≡ done) ⊎ ((m : List ℕ) × (new ≡ m ∷ done))
 
--- What a step of a peer leaves.
+-- The state after a peer's step.
 pub record Stepped (world : World) (q me : ℕ) (messages : List (List ℕ)) (past next : List Line) (old new : PortView) (done : List (List ℕ)) : Type 0 where
   pub then_done : List (List ℕ)
   pub facts : Facts world q messages None next
@@ -246,7 +246,7 @@ pub record Stepped (world : World) (q me : ℕ) (messages : List (List ℕ)) (pa
   pub mine : me ≡ q → Writer world q next new then_done × (reverse then_done ++ hand_messages new ≡ reverse done ++ hand_messages old)
   pub beside : me ≢ q → Same world q past next × (then_done ≡ done)
 
--- What is known of the peer that steps.
+-- The facts known of the peer that makes the step.
 pub record Stands (world : World) (q me : ℕ) (port : PortView) (past : List Line) (done : List (List ℕ)) : Type 0 where
   pub port_is : IsPort port
   pub shape : port.shape ≡ world.geometry

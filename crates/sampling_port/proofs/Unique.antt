@@ -85,7 +85,7 @@ with_peer peers p next q = if p == q then next else peers q
 abbrev pub owner : EventRecord → ℕ
 owner entry = event_peer entry.event
 
--- What is known of the event records to come.
+-- The facts known of the event records to come.
 record Follows (world : World) (past : List Line) (peers : ℕ → Progress) (entries : List EventRecord) : Type 0 where
   law : MemoryLaw world.geometry (reverse (flat_map lines_of entries) ++ past)
   calls : (p : ℕ) → (end : Progress) × IsCallSequence world p (peers p) (own_entries p entries) end

@@ -1,4 +1,4 @@
--- What is read is a scenario, and the text is its spelling.
+-- A value that is read is a scenario, and the text is its spelling.
 use Rattle.std.proofs.Common.{◌≡◌, ℕ, ◌*◌, ◌/◌, ◌%◌, true, List, [], ◌∷◌, ◌++◌, map, Ok, refl, sym, ap, subst, ◌∙◌, arith}
 use Rattle.line_format.specs.Rows.{Row, row, text_of}
 use Rattle.line_format.specs.Machine.{read}
@@ -18,7 +18,7 @@ use Rattle.scenario_text.proofs.SizeTests.{HasRegion}
 use Rattle.scenario_text.proofs.FormsAreTable.{is_table}
 use Rattle.scenario_text.proofs.PositionInvariant.{PositionHolds, rows_before, rows_so_far, IsGood, are_kept, same_position}
 
--- What holds after a line that was taken.
+-- The facts after a line that was taken.
 pub after : (d : DraftView) (line : List ℕ) (e : DraftView) → PositionHolds d.position d → step d line ≡ Ok e → all.Later rules rows_so_far IsGood d line e
 after d line e good is = all.later rules is_table rows_so_far IsGood are_kept d line e good is
 

@@ -1,4 +1,4 @@
--- What a row that can follow says, test by test.
+-- The tests of a row that can follow, one by one.
 use Rattle.std.proofs.Common.{◌≡◌, ℕ, ◌+◌, ◌<◌, ◌≤◌, Bool, true, false, cond, not, ltb, eqb, ◌&&◌, List, length, Some, None, Ok, refl, sym, arith}
 use Rattle.std.specs.Prelude.{IsTrue, slice_index}
 use Rattle.std.proofs.lemmas.Bool.{le-ltb, ltb-false, ltb-true}

@@ -21,7 +21,7 @@ never : (b : Bool) → (b ≡ true → ⊥) → b ≡ false
 never true fails = absurd (fails refl)
 never false fails = refl
 
--- What the test of a geometry says.
+-- The facts of the test of a geometry.
 pub record HasRegion (peers table common out : ℕ) : Type 0 where
   pub count : IsPeerCount peers
   pub table_pages : IsSomePages table

@@ -1,4 +1,4 @@
--- What acts say, one by one and together.
+-- The conditions on acts, one by one and together.
 use Rattle.std.specs.Prelude.{ℕ, ◌==◌, Bool, false, List, sum_by}
 use Rattle.std.specs.List.{list_any}
 use Rattle.scenario_text.specs.declared.acts.Act.{Act}

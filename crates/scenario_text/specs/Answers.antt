@@ -1,4 +1,4 @@
--- What a call returns, against the definitions. A failed allocation is the one free answer.
+-- The result of a call, by the definitions. A failed allocation is the one free answer.
 use Rattle.std.specs.Prelude.{Bool, true, false, Result}
 use Rattle.line_format.specs.declared.reading.TextFault.{TextFault}
 use Rattle.line_format.specs.Answers as texts

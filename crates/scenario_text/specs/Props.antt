@@ -1,4 +1,4 @@
--- That a value is a scenario has at most one proof.
+-- The property of being a scenario has at most one proof.
 use Rattle.std.proofs.Common.{ℕ, List, [], ◌∷◌}
 use Rattle.std.proofs.Props.{props}
 use mathlib.Core.List.{is_set}

@@ -14,7 +14,7 @@ pub struct Scenario {
     pub geometry: Geometry,
     /// The layout of an output section and the MTU.
     pub queue: Queue,
-    /// How the devices raise interrupts.
+    /// The wiring of the devices' interrupts.
     pub wiring: Wiring,
     /// Whether each peer is honest, from peer 0.
     pub honest: Flags,

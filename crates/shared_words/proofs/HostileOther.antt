@@ -30,7 +30,7 @@ hostile_none key memory now next (made.stores _ words _ acc _ q number k may sto
 hostile_none key memory words next (made.loads _ _ acc _ q k may g) p h = hostile_none key memory words acc k p h
 hostile_none key after words next (made.resets memory _ _ acc _ q k lt stored g) p h = hostile_none key memory words acc k p h
 
--- What it carried, and what it has loaded for its next session.
+-- The number that it carried, and the one that it has loaded for its next session.
 record LoadsNone (n : Numbers) : Type 0 where
   log : CarriesNone n.log
   loaded : number_of n.loaded ≡ 0

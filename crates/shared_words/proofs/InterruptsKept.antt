@@ -118,14 +118,14 @@ cleared_keeps key memory after acc next p at n mask p_lt found without st g i = 
         (λ ne. let h : bit_at (after (control_word key target)) 0 ≡ bit_at (memory (control_word key target)) 0 = ap (λ m. bit_at m 0) (st.neighbour_word (control_word key target) (λ e. ne (omega arith))) in
         let none : clears_set_bit {A = MemoryOp CallAccess} target (cleared at n) ≡ 0 = wins_else (MemoryOp CallAccess) target at n ne in omega arith)
 
--- Where a clear found the bit, one ring more may be made.
+-- After a clear that found the bit, one more ring may be made.
 pub may_ring : (key : RunSetup) (memory : ℕ → ℕ) (acc next : ℕ → List (Action (MemoryOp CallAccess))) (p at n : ℕ) → p < key.geometry.peers → at < key.geometry.peers → Appends acc next p (cleared at n) → Interrupts key memory acc → IsOneShot key at → bit_at n 0 ≡ 1 → MayRing at (next p)
 may_ring key memory acc next p at n p_lt lt g i shot won = let b : count_in (rings_target at) (acc p) ≤ count_in (clears_set_bit at) (acc p) = behind_all at (acc p) (i.leave at p lt p_lt shot) in
     let a : count_in (rings_target at) (next p) ≡ count_in (rings_target at) (acc p) + rings_target {A = MemoryOp CallAccess} at (cleared at n) = weigh_here (rings_target at) acc next p (cleared at n) g in
     let w : count_in (clears_set_bit at) (next p) ≡ count_in (clears_set_bit at) (acc p) + clears_set_bit {A = MemoryOp CallAccess} at (cleared at n) = weigh_here (clears_set_bit at) acc next p (cleared at n) g in
     let x : rings_target {A = MemoryOp CallAccess} at (cleared at n) ≡ 0 = aims_cleared (MemoryOp CallAccess) at at n in let y : clears_set_bit {A = MemoryOp CallAccess} at (cleared at n) ≡ bit_at n 0 = wins_here (MemoryOp CallAccess) at n in omega arith
 
--- What the words keep says this of the lists.
+-- The invariant of the words gives this of the lists.
 pub are_rung : (key : RunSetup) (memory : ℕ → ℕ) (acc : ℕ → List (Action (MemoryOp CallAccess))) → Interrupts key memory acc → AreRung key acc
 are_rung key memory acc i = record {
   rung = λ target bit lt. let was : count_in (finds_bit bit) (acc target) + bit_at (memory (interrupt_word key target)) bit ≤ sum_below key.geometry.peers (λ q. count_in (rings_bit target bit) (acc q)) = i.rung target bit lt in omega arith;

@@ -28,7 +28,7 @@ by_honesty false f g = g refl
 differs : (key : RunSetup) (p q : ℕ) → honest_of key p ≡ false → honest_of key q ≡ true → q ≢ p
 differs key p q h hq e = clash (sym (ap (honest_of key) e ∙ h) ∙ hq)
 
--- Where the lists leave the ends, by their words.
+-- The states to which the lists lead the ends, by their words.
 pub reached_by : (key : RunSetup) → IsFit key → (memory words : ℕ → ℕ) (acc : ℕ → List (MemoryOp CallAccess)) → OperationsMade key memory words acc → R_of key memory words acc
 reached_by key fit memory words acc (made.starts _ _ _ zeros nulls none) = reaches.starts _ _ _ zeros nulls (λ p. ap (derived_state key p) (none p) ∙ standing_none key p)
 reached_by key fit after words next (made.makes memory _ _ acc _ p t k lt may meets leaves g) = let was = reached_by key fit memory words acc k in by_honesty (honest_of key p)

@@ -233,7 +233,7 @@ module _ (link_config : LinkConfig) (is : IsLinkConfig link_config) (ev : has_ev
   keep q e = let untouched : IsUntouched link_config memory after q = subst (IsUntouched link_config memory after) e (theirs_stay link_config memory after p is p2 (alone_kept.own link_config p memory after (st p).end (st p).place is p2 step.leaves (pair.alone p p2))) in
       fields_same link_config memory after q is untouched.section field.AvailEvent
 
-  -- What this end asks for.
+  -- The requests of this end.
   moved_mine : (f : FrameNumber) → after_p.wake.asked ≡ At f → Waits link_config after next p f
   moved_mine f e = ⊎_elim since looks (asked_from config event n m f value (st p).wake (st p).place e)
     where
@@ -411,7 +411,7 @@ module _ (link_config : LinkConfig) (is : IsLinkConfig link_config) (ev : has_ev
       same : (p : ℕ) → p < 2 → fields link_config after p field.AvailEvent ≡ fields link_config memory p field.AvailEvent
       same p p2 = fields_same link_config memory after p is (untouched p p2 (both_honest honest a b p p2)).section field.AvailEvent
 
-  -- What one asks for, the other hasn't missed.
+  -- The other hasn't missed a requested frame.
   pub never_missed : (memory words : ℕ → ℕ) (st : ℕ → DerivedState) → Reached link_config honest memory words st → (p : ℕ) (f : FrameNumber) → p < 2 → (st p).wake.asked ≡ At f → ¬ Contains (st (1 - p)).wake.missed f
   never_missed memory words st r p f p2 asked = let w = watched memory words st r in let q2 : 1 - p < 2 = omega arith in
       ⊎_elim (λ asks. not_missed link_config memory st p f ((pair_at memory words st r).alone (1 - p) q2).holds (w.own (1 - p) q2) asks) (λ past. past.1) (w.wakes p f p2 asked)

@@ -71,7 +71,7 @@ module _ (link_config : LinkConfig) (honest : ℕ → Bool) (words : ℕ → ℕ
       opened None b = k
       opened (Some call) b = begin_at memory s call b.0 b.1 b.2 k
 
--- Where the lists of all peers leave the ends.
+-- The states to which the lists of all peers lead the ends.
 abbrev pub R_of : RunSetup → (memory words : ℕ → ℕ) → (ℕ → List (MemoryOp CallAccess)) → Type 0
 R_of key memory words acc = Reached (link_config_of key) (honest_of key) memory words (λ p. derived_state key p (acc p))
 

@@ -31,8 +31,7 @@ nil_front : (front back : List (MemoryOp CallAccess)) → [] ≡ front ++ back �
 nil_front [] back e = refl
 nil_front (f ∷ front) back e = absurd (cc)
 
--- Where the mark is never borne at the end of lists that were made, it was borne nowhere along
--- them.
+-- If no end of lists that were made has the mark, no state along them has it.
 pub never_marked : (key : RunSetup) → ((memory words : ℕ → ℕ) (acc : ℕ → List (MemoryOp CallAccess)) → OperationsMade key memory words acc → NoneMarked key acc) →
     (memory words : ℕ → ℕ) (acc : ℕ → List (MemoryOp CallAccess)) → OperationsMade key memory words acc → (p : ℕ) → p < 2 → NeverMarked key p (acc p)
 never_marked key none memory words acc (starts _ _ _ zeros no_words empty) p p2 = λ front back e. ap (λ l. (derived_state key p l).end.handshake.mark) (nil_front front back (sym (empty p) ∙ e) ∙ sym (empty p)) ∙ none memory words acc (starts memory words acc zeros no_words empty) p p2

@@ -22,7 +22,7 @@ use Rattle.call_grammar.specs.Polls.{entry_in, published_by, is_last, look_marks
 use Rattle.shared_words.specs.DerivedStates.{FrameNumber, DoorbellRequest, Nowhere, Written, At, request_after_access, lapsed, request_after_look, request_after_mark, request_after_marks, missed_by, Wake, wake_after}
 use Rattle.call_grammar.specs.Places.{Place, Closed, ReadingOtherState, Clearing, WritingState, Refusing, NotInRun, ReadingUsedIndex, ReadingUsedId, WritingFrameWord, WritingAvailIndex, ReadingAvailEvent, RingingOffer, ReadingAvailIndex, WritingAvailEvent, ReadingAvailEntry, ReadingDescAddressLow, ReadingDescAddressHigh, ReadingDescLength, ReadingDescFlags, ReadingFrameWord, WritingUsedIndex, RingingPoll, first_place, access_at, next_place, marks_at, step_at, is_open, clear_place, tick_place, fill_place, ids_place, none_place, items_place, words_place}
 
--- Which steps change what is asked for and what is missed.
+-- The steps that change the requests and the missed frames.
 
 -- Marks without a look. Marks without a look of which the first isn't the end of a call.
 abbrev pub HasNoLook : List Mark → Type 0
@@ -141,7 +141,7 @@ kept_missed config event n m w Refusing value is = absurd (cc)
 kept_missed config event n m w RingingOffer value is = refl
 kept_missed config event n m w place value is = plain_wake_missed event n m w (access_at config place) (marks_at config place value) (plain_marks config place value is (λ e. cc))
 
--- Where a step leads
+-- The place after a step.
 
 -- The step leads to no look, no write of the own event, and no read of the other's.
 abbrev pub is_still : Place → Bool
@@ -356,7 +356,7 @@ module _ (config : EndConfig) (Stands : ℕ → Type 0) (event : ℕ) (n m : Fra
   asks_on Stood RingingPoll armed asks = asks
   asks_on Stood place armed asks = tt
 
--- Where a request at a frame comes from.
+-- The origin of a request at a frame.
 
 abbrev IsEmptyLook : List Mark → Type 0
 IsEmptyLook (Look zero ∷ marks) = Unit {0}
@@ -434,7 +434,7 @@ asked_from config event n m f value w (ReadingAvailEvent number) e = inl (access
 asked_from config event n m f value w RingingOffer e = inl (e, tt)
 asked_from config event n m f value w place e = inl (access_from event n m f w (access_at config place) (marks_at config place value) (none_empty (marks_at config place value) (plain_none (marks_at config place value) (plain_marks config place value refl (λ x. cc)))) e)
 
--- What it missed
+-- The frames that it missed.
 
 none_in : (k : ℕ) → Contains [] k → ⊥
 none_in k (i, lt, e) = omega arith
@@ -447,7 +447,7 @@ event_missed n was false f c = ⊎_elim (λ h. inl h) (λ h. inr (refl, one_in n
     one_in a b (zero, lt, e) = sym e
     one_in a b (suc k, lt, e) = absurd (omega arith)
 
--- What was missed before, or the frame whose event is read now and doesn't ask for it.
+-- The frames missed before, or the frame whose event is read now and doesn't want a doorbell.
 abbrev pub IsMissed : (n : FrameNumber) (value : ℕ) (f : FrameNumber) → Place → Type 0
 IsMissed n value f place = (number : ℕ) × (place ≡ ReadingAvailEvent number) × (wants_doorbell (low_half value) number ≡ false) × (f ≡ n)
 
@@ -464,7 +464,7 @@ missed_from config event n m f value w (ReadingAvailEvent number) c = ⊎_elim (
 missed_from config event n m f value w (ReadingAvailIndex taken last) c = inl (subst (λ l. Contains l f) (looked_missed n w.missed (published_by taken value) (high_half value) last (is_avail_index config.sizes (taken % 65536) (high_half value))) c)
 missed_from config event n m f value w place c = inl (subst (λ l. Contains l f) (kept_missed config event n m w place value refl) c)
 
--- Where it rings
+-- The steps that ring.
 
 if_rings : (b : Bool) → (if b then RingingOffer else Closed) ≡ RingingOffer → b ≡ true
 if_rings true e = refl

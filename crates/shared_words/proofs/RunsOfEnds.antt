@@ -1,4 +1,4 @@
--- Where running peers come is where the ends' runs come.
+-- The states of running peers are those of the ends' runs.
 use Rattle.std.proofs.Common.{◌≡◌, ◌≢◌, ℕ, zero, suc, ◌<◌, Bool, true, false, List, refl, sym, ap, ◌∙◌, subst, arith}
 use mathlib.Core.Logic.{dite}
 use native.Mathlib.Decide.{ℕ_discrete}
@@ -108,7 +108,7 @@ none_refuses whole agree key memory words acc is a b k p p2 =
     let st : ℕ → DerivedState = λ q. derived_state key q (acc q) in let link_config = link_config_of key in let honest = honest_of key in
     agree.never_refuse link_config memory (ends_of st) (places_of st) p p2 ((whole link_config honest memory (ends_of st) (places_of st) is (reached_runs link_config honest memory words st k)).pair a b)
 
--- What a pass that holds all lists learns.
+-- The facts that a pass with all lists learns.
 pub are_learned : RunsKeepInvariant → SessionsArePaired → HonestEndsAgree → (key : RunSetup) (memory words : ℕ → ℕ) (acc : ℕ → List (MemoryOp CallAccess)) → IsLinkConfig (link_config_of key) → honest_of key 0 ≡ true → honest_of key 1 ≡ true →
     Reached (link_config_of key) (honest_of key) memory words (λ p. derived_state key p (acc p)) → ((p : ℕ) → p < 2 → NeverMarked key p (acc p)) → SessionsAreLearned key acc
 are_learned whole paired agree key memory words acc is a b k never =

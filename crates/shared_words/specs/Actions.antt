@@ -1,4 +1,4 @@
--- What peers do to the words.
+-- The actions of peers on the words.
 use Rattle.std.specs.Prelude.{ℕ, List, [], ◌∷◌}
 use Rattle.std.specs.List.{flat_map}
 

@@ -34,7 +34,7 @@ call_access begins a value = record { begins = begins; access = a; value = value
 abbrev pub observed_of : CallAccess → ObservedAccess
 observed_of t = observed_access t.access (value_given t.access t.value)
 
--- What a peer does to the words of the region and of the sessions:
+-- The memory operations of a peer on the words of the region and of the sessions:
 -- * `called`: an access of a call, or of a storm;
 -- * `numbered`: a store of its session word, with the number of the session that it opens next;
 -- * `carried`: a load of the other's session word, which finds `number`; the peer's next session

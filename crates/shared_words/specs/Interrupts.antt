@@ -1,4 +1,4 @@
--- How often interrupt words were rung and looked at, and how often Interrupt Control was cleared.
+-- The counts of rings and looks of interrupt words, and of clears of Interrupt Control.
 use Rattle.std.specs.Prelude.{ℕ, zero, suc, ◌≡◌, ◌+◌, ◌*◌, ◌<◌, ◌≤◌, Bool, true, false, if◌then◌else◌, ◌==◌, ◌&&◌, List, [], ◌∷◌, ◌++◌, take, replicate, get_or}
 use Rattle.std.specs.Int.{bit_at}
 use Rattle.section_map.specs.Geometry.{word_count}

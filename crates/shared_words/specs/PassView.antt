@@ -1,5 +1,4 @@
--- What a contract sees of a pass: its words, the first peer of its range, and the list of each
--- peer's actions.
+-- The view of a pass: its words, the first peer of its range, and the list of each peer's actions.
 use Rattle.std.specs.Prelude.{ℕ, List}
 use Rattle.atomic_table.specs.Seated.{TableId}
 use Rattle.shared_words.specs.DerivedStates.{CallAccess, MemoryOp}

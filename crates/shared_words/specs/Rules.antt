@@ -139,9 +139,9 @@ abbrev pub NoneIsMissed : RunSetup → (ℕ → List (MemoryOp CallAccess)) → 
 NoneIsMissed key acc = (p : ℕ) (frame : FrameNumber) → p < 2 → (derived_state key p (acc p)).wake.asked ≡ At frame →
     ¬ Contains (derived_state key (1 - p) (acc (1 - p))).wake.missed frame
 
--- What is learned if all lists are here. Interrupts follow the rings of the lists. Two honest peers
--- agree, and in a link with events each rings for the other's requests. The sessions of an honest
--- peer whose other is hostile carry none.
+-- The facts that are learned if all lists are here. Interrupts follow the rings of the lists. Two
+-- honest peers agree, and in a link with events each rings for the other's requests. The sessions
+-- of an honest peer whose other is hostile carry none.
 pub record AllIsLearned (key : RunSetup) (acc : ℕ → List (Action (MemoryOp CallAccess))) : Type 0 where
   pub pair : honest_of key 0 ≡ true → honest_of key 1 ≡ true → SessionsAreLearned key (accesses_by acc)
   pub woken : has_events key.queue ≡ true → honest_of key 0 ≡ true → honest_of key 1 ≡ true → NoneIsMissed key (accesses_by acc)

@@ -1,4 +1,4 @@
-//! How doorbells reach the peers of a scenario, once its acts have set their devices.
+//! The routes of doorbells to the peers of a scenario, once its acts have set their devices.
 ghost use Rattle.std.specs.Prelude.{◌≡◌, ℕ, ◌++◌, List};
 ghost use Rattle.doorbell_irq.specs.Events.{Devices, Event};
 ghost use Rattle.doorbell_irq.specs.Refinement.{Refines, peer_count};

@@ -18,7 +18,7 @@ pub struct RunSetup {
     pub geometry: Geometry,
     /// The queue of an output section.
     pub queue: Queue,
-    /// How the devices raise interrupts.
+    /// The wiring of the devices' interrupts.
     pub wiring: Wiring,
     /// Whether peer 0 is honest.
     pub first_is_honest: bool,

@@ -13,7 +13,7 @@ use Rattle.sim_world.specs.declared.playing.Stopped.{Stopped}
 use Rattle.sim_world.specs.declared.playing.Stopped.TheVariants.{NoMemory, HasEnough}
 use Rattle.sim_world.specs.Playing.{output_of, HasStopped, StopsWithin}
 
--- Where the listener stopped the play, this holds.
+-- A fact of a play that the listener stopped.
 abbrev pub WhereStopped : {T : Type 0} → Result T Stopped → Type 0 → Type 0
 WhereStopped result P = IfErr result (λ why. why ≡ HasEnough → P)
 
@@ -22,7 +22,7 @@ pub passed_on : {T : Type 0} (why : Stopped) (result : Result T Stopped) (P : Ty
 passed_on why (Ok value) P gives so = tt
 passed_on why (Err e) P gives so = λ is. so (sym gives ∙ is)
 
--- Where memory ran out the listener didn't stop the play.
+-- If memory ran out, the listener didn't stop the play.
 pub by_memory : {T : Type 0} (result : Result T Stopped) (P : Type 0) → IsErrAnd result (λ e. e ≡ NoMemory) → WhereStopped result P
 by_memory (Ok value) P gives = tt
 by_memory (Err e) P gives = λ is. let same : NoMemory ≡ HasEnough = sym gives ∙ is in absurd cc

@@ -56,8 +56,7 @@ offer_choice (frame ∷ frames) c is = (frame, refl, is)
 replanned : (plan new : Plan) (auto : Auto) (round : Round) → IsPlanOf plan auto → new ≡ record plan { round = round } → IsPlanOf new (record auto { round = round })
 replanned plan new auto round is new_is = rw new_is (record { frames = is.frames; expected = is.expected; delivered = is.delivered; round = refl })
 
--- What is known of a choice: the link refined the peer, no call was open, and the plan made its
--- choice.
+-- The facts of a choice: the link refined the peer, no call was open, and the plan made its choice.
 pub record Chose (config : EndConfig) (peer : Peer) (link : Link) (plan new : Plan) (phase : Phase) (answer : Choice) : Type 0 where
   pub refines : LinkRefines config peer link
   pub shut : refines.place ≡ Closed

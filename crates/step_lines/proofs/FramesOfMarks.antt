@@ -31,7 +31,7 @@ either : (P : List Mark → Type 0) (b : Bool) (x y : List Mark) → P x → P y
 either P true x y one other = one
 either P false x y one other = other
 
--- What holds of each list of marks without a frame.
+-- A property of each list of marks without a frame.
 record Frameless (P : List Mark → Type 0) : Type 0 where
   none : P []
   saw : (v : ℕ) → P (Saw v ∷ [])
@@ -56,7 +56,7 @@ after_reclaim : (P : List Mark → Type 0) → Frameless P → (b : Bool) → P 
 after_reclaim P f true = f.reclaim 0
 after_reclaim P f false = f.reclaim_full
 
--- What holds of marks with a frame holds of all marks of a step.
+-- A property of marks with a frame is a property of all marks of a step.
 marks_hold : (P : List Mark → Type 0) → Frameless P → (config : EndConfig) (place : Place) (value : ℕ) → ((pending : PendingOffer) → place ≡ WritingAvailIndex pending → P (Accept pending.frame ∷ [])) →
     ((number more entry address bytes : ℕ) (read : List ℕ) (words : ℕ) → place ≡ ReadingFrameWord number more entry address bytes read words → P (Deliver (frame_in bytes (read ++ value ∷ [])) ∷ [])) → P (marks_at config place value)
 marks_hold P f config Closed value accepts delivers = f.none

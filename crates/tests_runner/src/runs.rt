@@ -10,7 +10,7 @@ use std::process::Abort;
 use std::test::Fail;
 use std::thread::Threads;
 
-/// What the tests look for in a line.
+/// The property of a line for which the tests look.
 #[derive(Clone, Copy, PartialEq, Eq)]
 enum Kind {
     Accept,
@@ -74,7 +74,7 @@ fn is_at(lines: &[Line], place: usize, wanted: Kind) -> bool {
     lines.get(place).is_some_and(|line| kind_of(line) == wanted)
 }
 
-/// What the part of a peer in a trace shows.
+/// The property of a peer's part of a trace.
 #[derive(Clone, Copy)]
 enum Sight {
     /// The number of the peer.
@@ -246,7 +246,7 @@ fn check_run<R: Threads + Sync + Abort, G: Gate + Sync>(
 const TWO_WAYS: &[u8] =
     b"ivshm 1\npeers 2\ntable 4096\ncommon 0\nout 16384\nmtu 256\nirq msix 2\npeer 0 honest\npeer 1 honest\nbegin\nauto 0 1\nauto 1 2\noffer 0 ffffffffffff0200000000010800\noffer 0 ffffffffffff0200000000010801\noffer 1 ffffffffffff0200000000020800\nturn 0 100000\nturn 1 100000\nend\n";
 
-/// What the parts of two peers show that deliver these frames.
+/// The parts of two peers that deliver these frames.
 const TWO_WAYS_SIGHTS: [(usize, Sight); 8] = [
     (0, Sight::Peer(0)),
     (1, Sight::Peer(1)),

@@ -56,7 +56,7 @@ abbrev pub is_open : Place → Bool
 is_open Closed = false
 is_open _ = true
 
--- How many of the next accesses write the words left of the frame, or the four words of its
+-- The number of the next accesses that write the words left of the frame, or the four words of its
 -- descriptor. 0 at every other place.
 abbrev pub writes_ahead : Place → ℕ
 writes_ahead (WritingFrameWord slot at more) = more + 1

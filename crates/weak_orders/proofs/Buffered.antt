@@ -11,8 +11,8 @@ use Rattle.weak_orders.specs.Runs as runs
 use Rattle.weak_orders.specs.Stronger.{IsFenced, BufferedRuns, starts, goes, StoreBufferRunsAreWeak}
 use Rattle.weak_orders.proofs.RunsKeepInvariant.{pick}
 
--- What has left a buffer is past. An end's view has left the other's buffer, and its last fence has
--- left its own buffer.
+-- A store that has left a buffer is past. An end's view has left the other's buffer, and its last
+-- fence has left its own buffer.
 record Sound (pasts : ℕ → ℕ → Moment) (now out : ℕ → ℕ) : Type 0 where
   left : (p : ℕ) → p < 2 → out p ≤ now p
   view : (p : ℕ) → p < 2 → (pasts p (now p)).view ≤ out (1 - p)

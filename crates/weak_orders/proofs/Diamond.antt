@@ -200,7 +200,7 @@ module _ (link_config : LinkConfig) (p : ℕ) (x y : ℕ → ℕ) (end end' : En
   faces (inl l) (inl k) b c (inl a) = subst (λ (e : End). Facing link_config (seen link_config p x y) p end' place' e w') (sym k.same) (ticks_theirs link_config (seen link_config p x y) p end' place' u w w' k.was k.goes (b.faces (inl a)))
   faces (inl l) (inl k) b c (inr a) = subst (λ (e : End). Facing link_config (seen link_config p x y) p e place' u' w') (sym l.same) (ticks_mine link_config (seen link_config p x y) p end place place' u' w' l.was l.goes (c.faces (inr a)))
 
-  -- What holds after either load holds after both.
+  -- A fact after either load is a fact after both.
   pub diamond : Looked end place end' place' → Looked u w u' w' → (Clash end' place' u' w' → ⊥) → (Clash u' w' end' place' → ⊥) → Cut link_config p x end' place' y u w → Cut link_config p x end place y u' w' → Cut link_config p x end' place' y u' w'
   diamond l k one two b c = record {
     before = record {

@@ -5,7 +5,7 @@ use Rattle.doorbell_irq.specs.Peer.{Registers}
 use Rattle.doorbell_irq.specs.Registers.{IsPeer}
 use Rattle.doorbell_irq.proofs.device.Device.new.Goals as goal
 
--- What holds of the first element, and of the others.
+-- A property of the first element, and of the others.
 first : {X : Type 0} (P : ℕ → X → Type 0) (x : X) (xs : List X) → P 0 x → ((i : ℕ) (y : X) → slice_get xs i ≡ Some y → P (suc i) y) →
     (i : ℕ) (y : X) → slice_get (x ∷ xs) i ≡ Some y → P i y
 first P x xs here others zero y at = let is : x ≡ y = cc in subst (P 0) is here

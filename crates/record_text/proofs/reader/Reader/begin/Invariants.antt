@@ -6,7 +6,7 @@ use Rattle.record_text.specs.Drafts.{part_view}
 use Rattle.record_text.proofs.ReadIsSpelled.{GoodPart}
 use Rattle.record_text.proofs.reader.Reader.begin.Given as goal
 
--- What is still to come gives what the text gives, and no line of the history was read.
+-- The rest of the text gives the record of the text, and no line of the history was read.
 abbrev pub invariant-loop-rest : goal.invariant-loop-rest
 invariant-loop-rest l = record {
   comes : read_pieces machine (part_view l.draft) l.number (cuts 10 l.rest) ≡ reading l.bytes;

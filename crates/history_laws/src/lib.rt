@@ -151,7 +151,7 @@ pub fn indexes_are_read_once()
 /// the next frame's number. An honest peer rings if the other's avail_event is the number of the
 /// frame that it accepts. So of two honest peers, one that found no frame is rung at the next one.
 // claim: In a link with events, a poll that found nothing leaves its peer's event at the next
-//    frame. If the event is at the frame that the honest partner accepts, and is not written or
+//    frame. If the event stands at the frame that the honest partner accepts, and is not written or
 //    cleared until that offer ends, the offer rings.
 pub fn wakes_are_rung()
     ensures { WakesAreRung }

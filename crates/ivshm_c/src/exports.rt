@@ -179,7 +179,7 @@ pub extern "C" fn ivshm_end_took(alloc: Global, end: &mut End, value: u32, notes
 //    ivshm_end_took_writes.answer, ivshm_end_took_writes.step: Completing a burst equals as many
 //    single steps of the endpoint. If there is no end, no call, another access, no word, not whole
 //    words or more than the count, the answer says so and the end is unchanged. A whole frame read
-//    at once is delivered as its first bytes; the view has their number.
+//    at once is delivered as its first bytes, as many as the view says.
 #[unsafe(no_mangle)]
 pub extern "C" fn ivshm_end_took_reads(
     alloc: Global,

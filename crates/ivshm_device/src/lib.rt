@@ -1,6 +1,7 @@
-//! The devices of a world for hypervisors in C. The crate uses `doorbell_irq` for the device's rules
-//! and `raw_box` for the pointer that a program in C holds. Its contracts promise for each export the
-//! exact status for all arguments, and the result and the new devices by the device's rules.
+//! The devices of a world for hypervisors in C. The crate uses `doorbell_irq` for the device's
+//! rules and `raw_box` for the pointer that a program in C holds. Its contracts promise for each
+//! export the exact status for all arguments, and the result and the new devices by the device's
+//! rules.
 //!
 //! # Design
 //!

@@ -109,7 +109,7 @@ pub fn honest_runs_deliver()
 /// doorbell for that frame. It wants the doorbell after every step of the other, except after the
 /// step that leads to that doorbell.
 // claim: Between two honest ends, a write of the event asks for a doorbell at the next frame, and
-//    so does an end that finds nothing while its event is set. What was asked stays so by each own
+//    so does an end that finds nothing while its event stands. What was asked stays so by each own
 //    step that writes no event and by each step of the other, except the one that rings.
 pub fn asked_doorbell_is_rung()
     ensures { AskedDoorbellIsRung }

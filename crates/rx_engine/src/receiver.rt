@@ -312,7 +312,7 @@ impl Rx {
     //    single steps, each with the word that four bytes spell, and no note before the last. The
     //    reads are of one word after the other, and of none past the frame's last.
     // claim frame with Rx::took_reads_into.frame: If all words of a frame are taken at once, the
-    //    frame delivered is their first bytes, whose number is in its descriptor.
+    //    frame delivered is their first bytes, as many as its descriptor says.
     pub fn took_reads(&mut self, words: &[u8]) -> Notes
         requires some { 0 < length words.now }
         requires whole { length words.now % 4 ≡ 0 }

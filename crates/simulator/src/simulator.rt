@@ -102,8 +102,8 @@ fn log_of(alloc: Global, scenario: &Scenario, version: u32) -> Log
 impl Simulator {
     /// Returns the initial simulator. Its lines are for a record of `version`, 1 or 2.
     // claim: The lines are those of a record of the simulator's version. In version 2 alone, the
-    //    mark of a session is before the `over` of a step by which an honest end enters RUN, with
-    //    the numbers of sessions opened.
+    //    mark of a session stands before the `over` of a step by which an honest end enters RUN,
+    //    with the numbers of sessions opened.
     pub fn new(alloc: Global, scenario: &Scenario, version: u32) -> Result<Simulator, NoMemory>
         requires { is_version version ≡ true }
         ensures { IfOk result (λ simulator. RunsTo (world_of scenario.now) (no_output version) [] simulator) }

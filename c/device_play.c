@@ -2,9 +2,9 @@
  *
  * It reads JSON lines of the form that tools/device_vectors writes. They are a world, then
  * accesses of its peers with the value or the effect of the device's rules. Any number of worlds
- * follow each other. It writes each line that differs, at most ten, and how many lines agree.
- * The status is 0 if all agree, 1 if one differs, 2 if a line can't be read. Link it with the
- * calls of a device (device_play.h); c/device_library.c has those of libivshm_device. */
+ * follow each other. It writes each line that differs, at most ten, and the number of lines that
+ * agree. The status is 0 if all agree, 1 if one differs, 2 if a line can't be read. Link it with
+ * the calls of a device (device_play.h); c/device_library.c has those of libivshm_device. */
 #include "device_play.h"
 
 #include <inttypes.h>

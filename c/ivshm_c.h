@@ -452,7 +452,7 @@ uint32_t ivshm_end_took_writes(ivshm_end *end, uint32_t count);
  * words of the frame, the four of its descriptor and the one with its available entry. They may
  * be made at once, in any order: all are relaxed, and the index, the next access, releases them. */
 
-/* Consecutive words: the number of the first, and how many there are. */
+/* Consecutive words: the number of the first, and their count. */
 typedef struct ivshm_burst {
     uint32_t word;
     uint32_t count;

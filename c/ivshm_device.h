@@ -67,7 +67,7 @@
  * memset, rattle_alloc and rattle_dealloc use. checks/c_device measures each call.
  *
  * MEMORY. ivshm_device_new and ivshm_device_new_at allocate one block for the peers, one for each
- * peer's MSI-X table if `vectors` is not 0, and one small block. No other call asks for memory.
+ * peer's MSI-X table if `vectors` is not 0, and one small block. No other call allocates memory.
  *
  * WHAT IS PROVED, for all arguments, if the duties are kept:
  *

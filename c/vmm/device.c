@@ -1,4 +1,4 @@
-/* The calls of the proved library, with what they ask for done and recorded. Each answer to a guest
+/* The calls of the proved library. Their effects are made and recorded. Each answer to a guest
  * is the library's. */
 #include <stdio.h>
 #include <stdlib.h>

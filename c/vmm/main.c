@@ -95,7 +95,7 @@ static void part(struct vmm *v, uint32_t peer) {
     fprintf(stderr, "vmm: peer %u is gone\n", peer);
 }
 
-/* Waits for what happens next: a guest that comes, asks or goes. */
+/* Waits for the next event: a guest that connects, sends a message or leaves. */
 static void serve(struct vmm *v, const sigset_t *unblocked) {
     struct pollfd files[2 * MOST_PEERS];
     uint32_t peers = v->world.peers;

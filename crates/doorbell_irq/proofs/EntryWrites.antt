@@ -23,7 +23,7 @@ module _ (entries : List Contents) (n : ℕ) where
       (sym (ap (λ b. if b then Some (record { offset = offset; width = 4; value = value }) else None) (ne_eqb n k (λ same. apart (sym same)))))
       (record { rows = ap (λ (s : Contents). s.rows) (sym is); bytes = λ i. ap (λ (s : Contents). slice_index s.bytes i) (sym is) })
 
-  -- The entries, where none has the number.
+  -- The entries, if none has the number.
   pub entry_left : (offset value : ℕ) → length entries ≤ n → (k : ℕ) (before after : Contents) → slice_get entries k ≡ Some before → slice_get entries k ≡ Some after →
       IsWritten (if n == k then Some (record { offset = offset; width = 4; value = value }) else None) before after
   entry_left offset value past k before after one other =

@@ -1,4 +1,4 @@
--- Peers that nothing comes to.
+-- Peers without a delivery.
 use Rattle.std.proofs.Common.{◌≡◌, ℕ, zero, suc, ◌<◌, ◌≤◌, List, ◌++◌, Some, None, refl, sym, ◌∙◌, ap, subst, inl, inr, arith}
 use Rattle.std.specs.Prelude.{Option, slice_get}
 use Rattle.std.proofs.lemmas.Bool.{cases_lt}
@@ -29,11 +29,11 @@ nobody : (wiring : Wiring) (o : Option Registers) → delivery_if wiring None o 
 nobody wiring None = refl
 nobody wiring (Some r) = refl
 
--- Nothing comes where no vector comes.
+-- Without a vector nothing is delivered.
 pub quiet : (wiring : Wiring) (trigger : Trigger) (registers : List Registers) (peer : ℕ) → vector_at trigger peer ≡ None → delivery_among wiring trigger registers peer ≡ None
 quiet wiring trigger registers peer none = ap (λ (v : Option ℕ). delivery_if wiring v (slice_get registers peer)) none ∙ nobody wiring (slice_get registers peer)
 
--- The same deliveries up to a later peer, where nothing comes between.
+-- The same deliveries up to a later peer, if nothing is delivered between.
 pub no_more : (at : ℕ → Option ℕ) (from to : ℕ) → from ≤ to → ((p : ℕ) → from ≤ p → p < to → at p ≡ None) → deliveries_below at from ≡ deliveries_below at to
 no_more at from zero le none = let is : from ≡ 0 = omega arith in ap (deliveries_below at) is
 no_more at from (suc to) le none =
@@ -46,7 +46,7 @@ no_more at from (suc to) le none =
           )
     ]
 
--- A peer that nothing comes to, and whose registers stayed.
+-- A peer without a delivery, whose registers stayed.
 pub stays : (wiring : Wiring) (trigger : Trigger) (old new : List Registers) (peer : ℕ) (before after : Registers) → vector_at trigger peer ≡ None → slice_get new peer ≡ slice_get old peer
     → slice_get old peer ≡ Some before → slice_get new peer ≡ Some after → Takes wiring (vector_at trigger peer) before after
 stays wiring trigger old new peer before after none same was is =

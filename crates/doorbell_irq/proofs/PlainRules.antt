@@ -57,7 +57,7 @@ by_state wiring connected byte old source value peer came = cases (source == pee
       cc
 
 module _ (w : Devices) (events : List Event) (peer : ℕ) where
-  -- An event that comes to a peer writes no register of it and doesn't reset it.
+  -- An event that delivers to a peer writes no register of it and doesn't reset it.
   Untouched : Event → Type 0
   Untouched event = (write_of w.wiring event peer Page ≡ None) × (resets event peer ≡ false)
 

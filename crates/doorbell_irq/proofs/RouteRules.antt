@@ -14,7 +14,7 @@ some_if : (b : Bool) (n : ℕ) → is_some (if b then Some n else None) ≡ b
 some_if true n = refl
 some_if false n = refl
 
--- A trigger would come to a connected peer where its registers let the vector through.
+-- A trigger is delivered at a connected peer if its registers let the vector through.
 pub comes_if : (wiring : Wiring) (connected : Bool) (byte : Bytes) (n : ℕ) → would_be_delivered wiring connected byte n ≡ (connected && lets_through wiring byte n)
 comes_if (Msix vectors) connected byte n = some_if (connected && lets_through (Msix vectors) byte n) n
 comes_if Intx connected byte n = some_if (connected && lets_through Intx byte n) 0

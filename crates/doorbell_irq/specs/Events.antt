@@ -7,8 +7,8 @@ use Rattle.pci_space.specs.declared.wiring.Wiring.TheVariants.{Msix, Intx}
 use Rattle.pci_space.specs.declared.place.RegionPlace.{RegionPlace}
 use Rattle.pci_space.specs.Device.{row, placed_rows}
 
--- The devices of a world: the geometry of its region, with the number of peers, how interrupts are
--- raised, and where guests find the region.
+-- The devices of a world: the geometry of its region, with the number of peers, the wiring of
+-- interrupts, and the region's place.
 pub record Devices : Type 0 where
   pub shape : Shape
   pub wiring : Wiring

@@ -28,7 +28,7 @@ differing (verdicts.Differs fault) = Some fault.line
 abbrev pub IsMark : List ℕ → Option ℕ → Type 0
 IsMark bytes differs = (verdict : Verdict) × IsVerdictOfText bytes verdict × (differs ≡ differing verdict)
 
--- The bytes spell a record, and the picture is one of the lines asked for, with its mark.
+-- The bytes spell a record, and the picture is one of the wanted lines, with its mark.
 abbrev pub Draws : Span → List ℕ → Option Drawn → Type 0
 Draws span bytes None = ⊥
 Draws span bytes (Some drawn) =

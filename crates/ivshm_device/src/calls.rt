@@ -29,8 +29,8 @@ fn wiring_of(vectors: u32) -> Wiring
     }
 }
 
-/// Returns where guests find a region of this size: at its base, or with base 0 in the smallest
-/// window that holds it.
+/// Returns the place at which guests find a region of this size: its base, or with base 0 the
+/// smallest window that holds it.
 fn place_of(bytes: u64, base: u64) -> RegionPlace
     requires few { bytes ≤ 2 ^ 24 }
     requires some { 4096 ≤ bytes }

@@ -30,7 +30,7 @@ IsReply form bytes Refused text = (refusal : Refusal) × IsVerdict form bytes (v
 IsReply form bytes Differs text = (difference : Difference) × IsVerdict form bytes (verdicts.Differs difference) × IsDifferenceText difference text
 IsReply form bytes _ text = ⊥
 
--- the input was read to its end, or nothing of it where no limit is given
+-- The input was read to its end, or nothing of it if no limit is given.
 abbrev pub IsReadTo : (limit : Option ℕ) → (before now : Input) → Type 0
 IsReadTo (Some most) before now = HasEnded now
 IsReadTo None before now = now ≡ before

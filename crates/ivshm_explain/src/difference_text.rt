@@ -1,5 +1,5 @@
-//! The text of a difference: what `ivshm` answers, where the line is, what was found there and what
-//! is due.
+//! The text of a difference: the answer of `ivshm`, the number of the line, the line found there
+//! and the lines due.
 ghost use Rattle.std.specs.Prelude.{◌≡◌, ◌+◌, ◌++◌, IfOk, IfSome, OnOk, length};
 ghost use Rattle.ivshm_explain.specs.DifferenceText.{law_name, line_said, line_in_record, verdict_by, verdict_of, certain_text, IsDifferenceText};
 

@@ -346,7 +346,7 @@ impl Endpoint {
         }
     }
 
-    /// Returns how many of the next accesses read consecutive words, beginning with the access of
+    /// Returns the number of the next accesses that read consecutive words, beginning with that of
     /// `next`. No access before the last has a note. Returns 0 if no burst of reads is next.
     pub fn reads_ahead(&self) -> u32
         ensures value { result ≡ reads_ahead self.now }
@@ -395,7 +395,7 @@ impl Endpoint {
         self.rx.took_reads_into(words, notes)
     }
 
-    /// Returns how many of the next accesses write consecutive words, beginning with the access of
+    /// Returns the number of the next accesses that write consecutive words, beginning with that of
     /// `next`. None of them has a note. Returns 0 if no burst of writes is next.
     pub fn writes_ahead(&self) -> u32
         ensures { result ≡ writes_ahead self.now }

@@ -137,7 +137,7 @@ breaks one exists lines c line fault goes other number law =
     } in
     record { none = none_begins (world_in c) c.version (lines ++ line ∷ []) fault differs within; differs = differs; within = within }
 
--- A line that waits is missing where no more are taken.
+-- A line that waits is missing if no more lines are taken.
 pub misses : HasOneHistoryIn → HistoryIsLawfulIn → (lines : List Line) (c : ExpectedRun) (due : Line) (fault : Unlawful) → GoesOn lines c → slice_get (kept_lines c.simulator) c.passed ≡ Some due →
     fault.line ≡ length lines + 1 → fault.law ≡ Order → Differs (world_in c) c.version lines fault
 misses one exists lines c due fault goes is number law = λ lawful lawful_too.

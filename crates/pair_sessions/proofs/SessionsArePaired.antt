@@ -228,7 +228,7 @@ is_two access.Nothing = inr (λ e. absurd (cc))
 load_like : (place place' : Place) (n n' : Numbers) (o o' : ℕ) → place' ≡ place → n' ≡ n → o' ≡ o → LoadIs place n o → LoadIs place' n' o'
 load_like place place' n n' o o' e f g h = subst (λ x. LoadIs x n' o') (sym e) (subst (λ x. LoadIs place x o') (sym f) (subst (LoadIs place n) (sym g) h))
 
--- End p gets an end, a place and numbers, by a step of its side, or by none.
+-- End p has a new end, a new place and new numbers, by a step of its side or by none.
 tied_moved : (link_config : LinkConfig) (words now : ℕ → ℕ) (ends after_ends : ℕ → End) (places after_places : ℕ → Place) (numbers next : ℕ → Numbers) (p : ℕ) (end : End) (place : Place) (n : Numbers) (new : Side) (log : Log) → p < 2 → (t : Tied link_config words ends places numbers) → Stepped link_config.sizes t.sides t.logs p new log →
     SideIs end place new → n.log ≡ log → WordIs end n (now p) → ((q : ℕ) → q ≢ p → now q ≡ words q) → (n.stored ≡ true → ¬ Attends (t.sides (1 - p))) → ((numbers (1 - p)).stored ≡ true → ¬ Attends new) → LoadIs place n (numbers (1 - p)).log.opened → LoadIs (places (1 - p)) (numbers (1 - p)) n.log.opened →
     OnlyEndChanges ends after_ends places after_places p end place → OnlyNumbers numbers next p n → Tied link_config now after_ends after_places next

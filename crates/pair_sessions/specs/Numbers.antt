@@ -57,7 +57,7 @@ abbrev pub IsNumbered : Numbers → Access → Type 0
 IsNumbered n (access.State state) = (state ≡ 2 → n.stored ≡ true) × (state ≡ 3 → n.loaded ≢ None)
 IsNumbered n _ = Unit {0}
 
--- End p gets these numbers, and the other's stay.
+-- End p has these numbers, and the other's stay.
 pub record OnlyNumbers (numbers next : ℕ → Numbers) (p : ℕ) (n : Numbers) : Type 0 where
   pub here : next p ≡ n
   pub neighbour_word : (q : ℕ) → q ≢ p → next q ≡ numbers q

@@ -1,4 +1,4 @@
--- A list of capabilities comes to one end.
+-- A list of capabilities has one end.
 use Rattle.std.proofs.Common.{◌≡◌, ◌≢◌, ℕ, ◌+◌, ◌<◌, ◌≤◌, List, ◌∷◌, refl, sym, ◌∙◌, ap, subst, arith, [], true, false}
 use Rattle.std.specs.Prelude.{Result, Ok, Err, Option, Some, None, MatchOption}
 use Rattle.pci_space.specs.declared.found.Found.{Found}

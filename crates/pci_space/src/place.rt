@@ -16,8 +16,8 @@ pub enum RegionPlace {
     /// At this Base Address, in bytes, which the vendor capability states.
     Address(u64),
     /// At the start of the window of Base Address Register 2, a 64-bit register (PCI 3.0, 6.2.5.1).
-    /// The number is how many low bits of an address are the offset in the window. The vendor
-    /// capability has its short form, without a Base Address.
+    /// The number is that of the low bits of an address that are the offset in the window. The
+    /// vendor capability has its short form, without a Base Address.
     Bar2(u32),
 }
 
@@ -39,7 +39,7 @@ impl RegionPlace {
         }
     }
 
-    /// Returns the row that says where the region is.
+    /// Returns the row of the region's place.
     pub(crate) fn row(self) -> Field
         requires { IsRegionPlace self }
         ensures { result ≡ place_row self }

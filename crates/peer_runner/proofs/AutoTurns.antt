@@ -74,7 +74,7 @@ recorded_call None frames (Some c) is = absurd is
 recorded_call (Some answer) frames None is = absurd is
 recorded_call (Some answer) frames (Some c) is = same_call answer frames c is
 
--- A choice is made where no call is open.
+-- A choice is made only if no call is open.
 chosen_where : (b : Bool) (c : automatic.Choice) (answer : Choice) (frames : List (List ℕ)) → Matches (Some answer) frames (if b then None else Some c) → (b ≡ false) × IsChoice answer frames c
 chosen_where true c answer frames is = absurd is
 chosen_where false c answer frames is = (refl, is)
@@ -398,7 +398,7 @@ after_touch : (routes : List Route) (config : EndConfig) (r : Runner) (value : �
 after_touch routes config r value touch = let place = place_in config r in let here = begun_at config r (call_chosen (chosen r)) place (settled_same config r touch) in
     ap (λ (s : DerivedState). settled (moved config s value)) here
 
--- An access to the region leads the peer where the turn does.
+-- An access to the region leads the peer to the state after the turn.
 stands_touched : (key : RunSetup) (me : ℕ) (routes : List Route) (value : ℕ) (r : Runner) → honest_of key me ≡ true → touches (access_at (config_in key me) (place_in (config_in key me) r)) ≡ true → derived_state key me (accesses_in r.actions) ≡ derived_state_of r →
     derived_state key me (accesses_in (stepped_on routes (config_in key me) r (Stepped value)).actions) ≡ derived_state_of (stepped_on routes (config_in key me) r (Stepped value))
 stands_touched key me routes value r hp touch refines = let config = config_in key me in let a = access_at config (place_in config r) in let call = call_chosen (chosen r) in
@@ -409,7 +409,7 @@ stands_touched key me routes value r hp touch refines = let config = config_in k
 stays_standing : (key : RunSetup) (me : ℕ) (r : Runner) (acts : List (Action (MemoryOp CallAccess))) → accesses_in acts ≡ [] → derived_state key me (accesses_in r.actions) ≡ derived_state_of r → derived_state key me (accesses_in (r.actions ++ acts)) ≡ derived_state_of r
 stays_standing key me r acts none refines = ap (derived_state key me) (accesses_both r.actions acts ∙ (ap (λ l. accesses_in r.actions ++ l) none ∙ append-nil (accesses_in r.actions))) ∙ refines
 
--- The longer list leaves the peer where the turn does.
+-- The longer list leads the peer to the state after the turn.
 stands_stepped : (key : RunSetup) (me : ℕ) (routes : List Route) (ringing : Bool) (done : Done) (r : Runner) → honest_of key me ≡ true → is_open (place_in (config_in key me) r) ≡ true → IsDone ringing (is_guarded (doorbell_path_in routes (access_at (config_in key me) (place_in (config_in key me) r)))) done →
     awaits_ring done ≡ false → derived_state key me (accesses_in r.actions) ≡ derived_state_of r → derived_state key me (accesses_in (stepped_on routes (config_in key me) r done).actions) ≡ derived_state_of (stepped_on routes (config_in key me) r done)
 stands_stepped key me routes ringing done r hp opens is goes refines = let config = config_in key me in let a = access_at config (place_in config r) in let call = call_chosen (chosen r) in let place = place_in config r in

@@ -83,7 +83,7 @@ pub not_so : (b : Bool) → (b ≡ true → ⊥) → b ≡ false
 not_so true never = absurd (never refl)
 not_so false never = refl
 
--- No ring is to come where the doorbell isn't guarded.
+-- No ring is to come if the doorbell isn't guarded.
 pub never_ringing : (routes : List Route) (target vector : ℕ) (doorbell_path : DoorbellPath) (ringing : Bool) (list : List (Action (MemoryOp CallAccess))) → doorbell_path_to routes target vector ≡ doorbell_path → is_guarded doorbell_path ≡ false → (ringing ≡ true → MayRingBy routes (access.Ring target vector) list) → ringing ≡ false
 never_ringing routes target vector doorbell_path ringing list is off may = not_so ringing (λ on. clash (sym (ap is_guarded is ∙ off) ∙ (may on).0))
 

@@ -31,7 +31,7 @@ use Rattle.shared_words.proofs.FoldOfOperations.{standing_none}
 use Rattle.shared_words.proofs.LinkOfSetup.{is_link_config}
 use Rattle.peer_runner.proofs.EndsAlong.{alone_at, noted_written, place_before, Turn, along}
 
--- Where an offer comes from
+-- The origin of an offer.
 
 -- No offer is open whose frame is to be accepted.
 abbrev OffersNone : Place → Type 0
@@ -116,7 +116,7 @@ goes_on config (ReadingFrameWord number more entry address bytes read words) val
 goes_on config (WritingUsedIndex number more) value = on_none (WritingUsedIndex number more) (items_place (number + 1) more) (items_none (number + 1) more)
 goes_on config place value = on_none place (next_place config place value) refl
 
--- How many ids an offer has read.
+-- The number of ids that an offer has read.
 
 none_of : (o : Option PendingOffer) → ((pending : PendingOffer) → o ≡ Some pending → ⊥) → o ≡ None
 none_of None none = refl

@@ -60,7 +60,7 @@ side_kept k = λ i. record initial_side { state = k.state i; accepted = k.accept
 
 -- The lines of marks
 
--- The lines record the frames of the marks, and what is asked for after them.
+-- The lines record the frames of the marks, and the requests after them.
 record Counts (t u : RecordReader) (request : DoorbellRequest) (marks : List Mark) : Type 0 where
   kept : (end : End) (log : Log) → Keeps t end log → Keeps u (with_marks end marks) log
   asked : u.asked ≡ request

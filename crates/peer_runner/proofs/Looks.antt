@@ -26,7 +26,7 @@ none_below : (looks : Option ℕ) → is_below looks 0 ≡ false
 none_below None = refl
 none_below (Some taken) = le-ltb taken 0 (omega arith)
 
--- No look is due where a call is open.
+-- No look is due if a call is open.
 pub looks_shut : (config : EndConfig) (own : Route) (r : Runner) → looks_now own (due_of config r) r.looks ≡ true → is_open r.place ≡ false
 looks_shut config own r is = by (is_open r.place) refl
   where
@@ -44,7 +44,7 @@ rings_open routes config RingingOffer list may = refl
 rings_open routes config RingingPoll list may = refl
 rings_open routes config place list may = absurd may
 
--- No ring is to come where no call is open.
+-- No ring is to come if no call is open.
 pub still_shut : (key : RunSetup) (me : ℕ) (routes : List Route) (r : Runner) (end : Engine) → RunnerRefines key me routes r end → is_open r.place ≡ false → r.ringing ≡ false
 still_shut key me routes r end s shut = by r.ringing refl
   where

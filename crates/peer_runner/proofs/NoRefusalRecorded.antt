@@ -1,4 +1,4 @@
--- A peer that never bears the mark of a refusal records no refusal.
+-- A peer that never has the mark of a refusal records no refusal.
 use Rattle.std.proofs.Common.{◌≡◌, ℕ, zero, suc, ◌==◌, ◌||◌, Bool, true, false, List, [], ◌∷◌, ◌++◌, map, refl, sym, ap, ◌∙◌, subst, append-nil, append_assoc}
 use Rattle.std.specs.Prelude.{Some, if◌then◌else◌}
 use Rattle.std.specs.Int.{bit_at}

@@ -53,7 +53,7 @@ trajectory_on id key me routes plan spans r next old pass p q on goes there is s
 pub recorded_further : (me : ℕ) (so_far now : List Turn) (turn : Turn) (old new : List Line) → now ≡ so_far ++ turn ∷ [] → old ≡ lines_of_turns me so_far → new ≡ old ++ lines_in me turn → new ≡ lines_of_turns me now
 recorded_further me so_far now turn old new grows recorded is = is ∙ (ap (λ ls. ls ++ lines_in me turn) recorded ∙ sym (ap (lines_of_turns me) grows ∙ recorded_snoc me so_far turn))
 
--- A choice moves the round alone, and not where the peer is finished.
+-- A choice changes the round alone, and not if the peer is finished.
 
 round_still : (auto : Auto) (c : Option automatic.Choice) → finishes c ≡ true → round_on auto c ≡ auto
 round_still auto None is = refl

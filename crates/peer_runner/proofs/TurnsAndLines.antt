@@ -249,7 +249,7 @@ step_takes follow routes config storm r done goes = let value = value_done done 
   ap (λ (x : Peer). stepped x (step_at config place value) left) (sym opens.0),
 )
 
--- No call is open of the own record where none is.
+-- The own record has no open call if none is open.
 first_place_is : PlacesFollowTrees → (config : EndConfig) (r : Runner) → has_ended (remaining config r.place) ≡ is_first r
 first_place_is follow config r = by (is_open r.place) refl
   where
@@ -257,7 +257,7 @@ first_place_is follow config r = by (is_open r.place) refl
     by true is = (goes_on (remaining config r.place) _ _ config (peer_of config r) (follow.comes config r.place 0 is)).1 ∙ sym (ap not is)
     by false is = ap (λ (p : Place). has_ended (remaining config p)) (shut r.place is) ∙ sym (ap not is)
 
--- A look comes next where the code says so.
+-- A look is next if the code says so.
 due_tree : (config : EndConfig) (end : End) (tree : CallTree) (auto : Auto) → looks_due config end tree (Chooses auto) ≡ (if has_ended tree then (if sleeps config end auto then 64 else 1) else 0)
 due_tree config end Ended auto = refl
 due_tree config end (Does a marks rest) auto = refl
@@ -274,7 +274,7 @@ due_place follow config r = due_tree config r.end (remaining config r.place) r.a
 pub looks_same : PlacesFollowTrees → (config : EndConfig) (own : Route) (r : Runner) → looks_next config own (running_of config r) ≡ looks_now own (due_of config r) r.looks
 looks_same follow config own r = ap (λ (n : ℕ). own.enabled && is_below r.looks n) (due_place follow config r)
 
--- A step opens a session where the numbers say so.
+-- A step opens a session if the numbers say so.
 opened_on : (n : Numbers) (end : End) (a : Access) → (numbers_after n end a).log.opened ≡ n.log.opened + opens a
 opened_on n end (access.Read word) = omega arith
 opened_on n end (access.Write word value) = omega arith
@@ -332,7 +332,7 @@ steps_to follow routes config storm r done ringing guarded now goes rings guards
   takes = step_takes follow routes config storm r done goes;
 }
 
--- A step that is no doorbell at a peer in one-shot mode: the State step with 3, which bears its
+-- A step that is no doorbell at a peer in one-shot mode: the State step with 3, which has its
 -- numbers, or another.
 step_takes_turn : PlacesFollowTrees → (routes : List Route) (config : EndConfig) (storm : ℕ → Step) (r : Runner) (value : ℕ) → IsNoLook config routes r → has_finished r ≡ false → r.ringing ≡ false →
     is_guarded (doorbell_path_in routes (access_at config (place_in config r))) ≡ false → IsEntering config r value ⊎ IsMaking config r value → TakesTurn config storm routes (running_of config r) (turn_on config r (Stepped value)) (running_of config (stepped_on routes config r (Stepped value)))
@@ -649,7 +649,7 @@ ends_where None frames (Some c) is = absurd is
 ends_where (Some answer) frames None is = absurd is
 ends_where (Some answer) frames (Some c) is = ends_choice answer frames c is
 
--- A call is open once the call chosen is opened, where the runner isn't finished.
+-- A call is open once the chosen call is opened, if the runner isn't finished.
 pub opened_busy : (answer : Option Choice) (r : Runner) (frames : List (List ℕ)) (end : Engine) → Matches answer frames (chosen r) → has_finished r ≡ false → is_busy end ≡ not (is_end_choice answer) → is_busy end ≡ true
 opened_busy answer r frames end matches goes opens = opens ∙ ap not (sym (ends_where answer frames (chosen r) matches) ∙ goes)
 

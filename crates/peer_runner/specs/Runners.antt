@@ -50,14 +50,14 @@ IsFrame mtu frame = (SHORTEST_FRAME ≤ length frame) × (length frame ≤ mtu +
 -- * `end`: its end;
 -- * `place`: its place in the open call;
 -- * `auto`: what it has to do;
--- * `looks`: how many looks it has taken since its last step;
+-- * `looks`: the number of its looks since its last step;
 -- * `ringing`: whether a ring is to come;
 -- * `numbers`: its sessions by their numbers;
 -- * `met`: the number that it stored or loaded for the State step that comes next;
 -- * `spans`: the turns left of its span, and those of the spans to come;
 -- * `actions`: its list of actions;
 -- * `turns`: the turns that it took;
--- * `wake`: which doorbells it asks for and didn't ring
+-- * `wake`: the doorbells that it requested and those that it didn't ring
 pub record Runner : Type 0 where
   pub end : End
   pub place : Place

@@ -246,7 +246,7 @@ interrupt_lines (suc n) me found = interrupt_lines n me found ++ interrupt_line 
 
 -- A quiet call finds nothing, in one step, a read. Quiet calls are:
 -- * a Tick that ends without a State step;
--- * a Poll that finds no frame and asks for no doorbell;
+-- * a Poll that finds no frame and requests no doorbell;
 -- * an Offer that reclaims none and meets a full ring
 abbrev pub finds_nothing : List Mark → Bool
 finds_nothing (Saw value ∷ Over ∷ []) = true

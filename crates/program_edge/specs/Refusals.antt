@@ -1,4 +1,4 @@
--- Why and where an input is refused, and the line that says so (profile).
+-- The reason and the place of a refusal of an input, and the line that states them (profile).
 use Rattle.std.specs.Prelude.{ℕ, List, ◌++◌, codes, decimal, Option, Some, None}
 use Rattle.scenario_text.specs.declared.faults.ScenarioFault.{ScenarioFault}
 use Rattle.scenario_text.specs.declared.faults.ScenarioFault.TheVariants as scenarios

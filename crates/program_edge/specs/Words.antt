@@ -1,4 +1,4 @@
--- The words that name a command of `ivshm`, and how many bytes each command reads.
+-- The words that name a command of `ivshm`, and the number of bytes that each command reads.
 use Rattle.std.specs.Prelude.{ℕ, ◌<◌, ◌≤◌, ◌-◌, ◌&&◌, nat_le, if◌then◌else◌, List, [], ◌∷◌, codes, Option, Some, None, option_and_then, option_map}
 use Rattle.std.specs.Str.{bytes_eq}
 use Rattle.line_format.specs.Numbers.{number_of}

@@ -1,4 +1,4 @@
-//! Why an input is refused, and where, and the line that says so.
+//! The reason and the place of a refusal of an input, and the line that states them.
 ghost use Rattle.std.specs.Prelude.{◌≡◌, IfOk};
 ghost use Rattle.program_edge.specs.Refusals.{place_line_of, count_line_of, refusal_line_of, number_of, name_of, verdict_of, at, whole, at_bytes, at_packet, of_scenario, of_record, of_ports, of_bridge, of_sizes, of_image, of_capture};
 
@@ -42,9 +42,9 @@ pub enum Reason {
     /// The record states `kept` lines and has `found`.
     BadCount { kept: u64, found: u64 },
     BadHeader,
-    /// The image's header asks for `need` bytes, and there are `found`, which are fewer.
+    /// The image's header requires `need` bytes, and the input has `found`, which are fewer.
     ShortImage { need: u64, found: u64 },
-    /// The image's header asks for `need` bytes, and there are `found`, which are more.
+    /// The image's header requires `need` bytes, and the input has `found`, which are more.
     LongImage { need: u64, found: u64 },
     Short,
     BadMagic,

@@ -1,6 +1,6 @@
 //! A box as its pointer and its allocator, and the box again. The crate uses the kit's `std_alloc`.
 //! Its contracts promise that the value is unchanged both ways. It serves the handles that cross to
-//! C, where no `Box` can cross: `specs/Handle` says what each of them owns.
+//! C, since no `Box` can cross. `specs/Handle` has the value that each of them owns.
 #![tactic(auto)]
 
 ghost use Rattle.std.specs.Prelude.{◌≡◌};

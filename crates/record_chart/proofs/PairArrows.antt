@@ -118,7 +118,7 @@ deliveries_are : (p : ℕ) (older : List Line) → delivery_count p older ≡ le
 deliveries_are p [] = refl
 deliveries_are p (line ∷ older) = ap (delivered_after p line) (deliveries_are p older) ∙ sym (told_delivered line p (side_of older p))
 
--- ---- where the frames of a side were accepted
+-- ---- the lines at which the frames of a side were accepted
 
 -- This is the number of a line, counted from 1, at which this frame was accepted.
 record IsAcceptance (q : ℕ) (before : List Line) (number : ℕ) (frame : List ℕ) : Type 0 where

@@ -59,7 +59,7 @@ rows_count storms n (line ∷ lines) =
     let one_more : 1 + count_of (rows_of storms (n + 1) lines) ≡ length (line ∷ lines) = omega (arith, later) in
     put_counts (goes_on_after storms line lines) n (rows_of storms (n + 1) lines) ∙ one_more
 
--- ---- the lines asked for
+-- ---- the wanted lines
 
 module _ (world : World) (front : List Line) (first last : ℕ) (picture : Picture) (is : IsPicture world front first last picture) where
   -- No line comes after them.
@@ -67,7 +67,7 @@ module _ (world : World) (front : List Line) (first last : ℕ) (picture : Pictu
   none_after count none [] number = subst (λ (ls : List Line). IsPicture world ls first last picture) (sym (append-nil front)) is
   none_after count none (line ∷ others) number = absurd (omega (arith, number, none))
 
-  -- The last line asked for is one of them.
+  -- The last wanted line is one of them.
   pub none_asked : (count : ℕ) → first ≤ last → last ≤ length front → IsPictureOfFront world front count first last picture
   none_asked count some within others number =
       let same : lines_between first last (front ++ others) ≡ lines_between first last front = ap (drop (first - 1)) (take-append-le last front others within) in
@@ -93,7 +93,7 @@ module _ (world : World) (front : List Line) (first last : ℕ) (picture : Pictu
             absurd (omega (arith, all, is.left_out, some))
       ]
 
-  -- Others are asked for, and left out too.
+  -- Others are wanted, and left out too.
   pub more_left_out : (count left_out : ℕ) → 0 < picture.left_out → length front < last → ((others : List Line) → length others ≡ count → left_out ≡ picture.left_out + length (take (last - length front) others)) →
       IsPictureOfFront world front count first last (record picture { left_out = left_out })
   more_left_out count left_out some beyond sum others number =

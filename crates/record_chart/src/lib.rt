@@ -7,7 +7,7 @@
 //!
 //! - A picture needs only the first lines of a record. A line at the end changes no row but the
 //!   last one. So once there are more rows than are drawn, further lines change only the number of
-//!   lines that are left out. Lines after the last one asked for change nothing. `picture_of_front`
+//!   lines that are left out. Lines after the last wanted one change nothing. `picture_of_front`
 //!   promises this, and returns nothing if more lines are needed. So `ivshm_chart` reads the rest
 //!   of a large record, judges it and drops it.
 //! - The rows are defined from the end. A line is put before the rows of the lines after it, into

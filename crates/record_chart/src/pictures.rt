@@ -18,7 +18,7 @@ use std::alloc::Global;
 pub struct Picture {
     /// The rows, at most 2,000.
     pub rows: Vec<Row>,
-    /// The number of lines that were asked for and come after the rows.
+    /// The number of wanted lines after the rows.
     pub left_out: u64,
     /// The peers that storm.
     pub storms: Vec<u32>,

@@ -39,7 +39,7 @@ pub fn put_lines(out: &mut Vec<u8>, lines: &[Line]) -> Result<(), AllocError>
     Ok(())
 }
 
-/// Puts the line that says how many lines a history has last.
+/// Appends the line with the number of a history's lines.
 #[tactic(auto, unfolding(line_format::specs::Rows::line_of_row))]
 pub fn put_count(out: &mut Vec<u8>, count: u64) -> Result<(), AllocError>
     ensures { OnOk result (out.new.items ≡ out.old.items ++ count_text count) }

@@ -38,7 +38,7 @@ head_same x y xs ys e = cc
 tail_same : (x y : Line) (xs ys : List Line) → x ∷ xs ≡ y ∷ ys → xs ≡ ys
 tail_same x y xs ys e = cc
 
--- Marks before another line determine where they end.
+-- Marks before another line determine their end.
 split_marks : (marks others : List Line) (line : Line) (rest after : List Line) → AreMarks marks → AreMarks others → is_session line ≡ false →
     marks ++ line ∷ rest ≡ others ++ line ∷ after → (marks ≡ others) × (rest ≡ after)
 split_marks [] [] line rest after are are' isnt e = (refl, tail_same line line rest after e)

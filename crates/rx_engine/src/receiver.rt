@@ -289,8 +289,8 @@ impl Rx {
         matches!(self.place, Place::Ringing)
     }
 
-    /// Returns how many of the next accesses read consecutive words of a frame, without a note
-    /// before the frame's last word. Returns 0 if no word of a frame is next.
+    /// Returns the number of the next accesses that read consecutive words of a frame, without a
+    /// note before the frame's last word. Returns 0 if no word of a frame is next.
     pub fn reads_ahead(&self) -> u32
         ensures value { result ≡ reads_ahead self.now.place }
         ensures reads { (config : EndConfig) (end : End) (place : laws.Place) (word : ℕ) → RefinesAt self.now config end place →
@@ -350,8 +350,8 @@ impl Rx {
         }
     }
 
-    /// Returns how many of the next accesses write consecutive words of a used element, without a
-    /// note: 2 or 0.
+    /// Returns the number of the next accesses that write consecutive words of a used element,
+    /// without a note: 2 or 0.
     pub fn writes_ahead(&self) -> u32
         ensures { result ≡ writes_ahead self.now.place }
     {

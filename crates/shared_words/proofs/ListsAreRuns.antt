@@ -1,4 +1,4 @@
--- Memory operations that peers do lead the honest ends where their calls reach.
+-- The memory operations of peers lead the honest ends to states of their calls.
 use Rattle.std.proofs.Common.{◌≡◌, ◌≢◌, ℕ, ◌+◌, ◌<◌, inl, inr, Bool, true, false, List, refl, sym, ap, ◌∙◌}
 use Rattle.split_ring.specs.declared.steps.Access.{Access}
 use Rattle.split_ring.specs.declared.steps.Access.TheVariants as access

@@ -1,4 +1,4 @@
--- Of two honest running ends: what one asks for, the other doesn't miss.
+-- Of two honest running ends, the other doesn't miss a frame that one requests.
 use Rattle.std.proofs.Common.{◌≡◌, ◌≢◌, ℕ, ◌+◌, ◌-◌, ◌<◌, ◌≤◌, ◌⊎◌, inl, inr, ⊎_elim, Bool, true, List, [], length, refl, sym, ap, ◌∙◌, subst, arith, ne_eqb}
 use mathlib.Core.Logic.{dite}
 use native.Mathlib.Decide.{ℕ_discrete}
@@ -48,7 +48,7 @@ record Own (link_config : LinkConfig) (memory : ℕ → ℕ) (p : ℕ) (s : Deri
   asks : AsksAt (EventIndexIs link_config memory p) s.wake.asked s.place
   missed : (f : FrameNumber) → Contains s.wake.missed f → IsOver s f
 
--- The frame is of the other's present session, and the words ask for it.
+-- The frame is of the other's present session, and the words request it.
 abbrev AsksFor : LinkConfig → (ℕ → ℕ) → (ℕ → DerivedState) → ℕ → FrameNumber → Type 0
 AsksFor link_config memory st p f = (f.session ≡ (st (1 - p)).numbers.log.opened) × Asks link_config memory (ends_of st) (places_of st) p f.number
 
@@ -94,7 +94,7 @@ event_stays link_config memory after p (access.Read word) is p2 same ne = ap (λ
 event_stays link_config memory after p (access.Ring target vector) is p2 same ne = ap (λ (m : ℕ → ℕ). fields link_config m p field.AvailEvent) same
 event_stays link_config memory after p access.Nothing is p2 same ne = ap (λ (m : ℕ → ℕ). fields link_config m p field.AvailEvent) same
 
--- A frame for which the words ask is none that the other missed.
+-- A frame that the words request is none that the other missed.
 not_missed : (link_config : LinkConfig) (memory : ℕ → ℕ) (st : ℕ → DerivedState) (p : ℕ) (f : FrameNumber) → PlaceInvariant link_config memory (1 - p) (st (1 - p)).end (st (1 - p)).place → Own link_config memory (1 - p) (st (1 - p)) → AsksFor link_config memory st p f → ¬ Contains (st (1 - p)).wake.missed f
 not_missed link_config memory st p f holds o asks c = ⊎_elim (λ over. let here = asks.0 in omega arith)
     (λ over. ⊎_elim (λ few. let h = over.1 in omega arith)
@@ -252,7 +252,7 @@ module _ (link_config : LinkConfig) (is : IsLinkConfig link_config) (ev : has_ev
           let asks = subst (Asks link_config memory (ends_of st) (places_of st) p) number (wake_lem.looks link_config memory (ends_of st) (places_of st) p taken value new.1 is p2 pair at step.meets new.3 stands) in
           waits_on link_config memory after st next p f (event_stays link_config memory after p a is p2 step.leaves (subst (λ (x : Place). LeavesEvent event (access_at config x)) (sym at) tt)) other_is (inl (session, asks))
 
-  -- And what the other asks for.
+  -- And the requests of the other.
   rings_at : (q : ℕ) (f : FrameNumber) → 1 - q ≡ p → AsksFor link_config memory st q f → fields link_config after q field.AvailEvent ≡ fields link_config memory q field.AvailEvent → (number : ℕ) → (st p).place ≡ ReadingAvailEvent number → wants_doorbell (low_half value) number ≡ true →
       next_place config (st p).place value ≡ RingingOffer → ¬ Contains (st p).wake.missed f → Waits link_config after next q f
   rings_at q f other asks same number at asks_it rings free = ⊎_elim few here (subst (λ x. (length (st x).end.accepted ≤ f.number) ⊎ ((st x).place ≡ ReadingAvailEvent f.number)) other asks.1.ahead)

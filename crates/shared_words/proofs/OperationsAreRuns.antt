@@ -1,4 +1,4 @@
--- A memory operation of a peer leads to where the ends' calls reach.
+-- A memory operation of a peer leads to states of the ends' calls.
 use Rattle.std.proofs.Common.{◌≡◌, ◌≢◌, ℕ, ◌-◌, ◌<◌, Bool, true, false, List, refl, sym, ap, ◌∙◌, subst}
 use mathlib.Core.Logic.{dite}
 use native.Mathlib.Decide.{ℕ_discrete}

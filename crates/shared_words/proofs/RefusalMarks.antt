@@ -1,4 +1,4 @@
--- An end that never bears the mark of a refusal where its lists lead never bore it along them.
+-- An end that never has the mark of a refusal in the states of its lists never had it along them.
 use Rattle.std.proofs.Common.{◌≡◌, ℕ, ◌<◌, ◌⊎◌, inl, inr, ⊎_elim, false, List, [], ◌∷◌, ◌++◌, refl, sym, ap, ◌∙◌, subst}
 use mathlib.Core.Logic.{dite}
 use native.Mathlib.Decide.{ℕ_discrete}
@@ -17,7 +17,7 @@ front_snoc (x ∷ list) (f ∷ front) back d e = let same : list ++ d ∷ [] ≡
 never_more : (key : RunSetup) (p : ℕ) (list : List (MemoryOp CallAccess)) (d : MemoryOp CallAccess) → NeverMarked key p list → (derived_state key p (list ++ d ∷ [])).end.handshake.mark ≡ false → NeverMarked key p (list ++ d ∷ [])
 never_more key p list d was here front back e = ⊎_elim (λ (s : (rest : List (MemoryOp CallAccess)) × (list ≡ front ++ rest)). was front s.0 s.1) (λ all. ap (λ l. (derived_state key p l).end.handshake.mark) all ∙ here) (front_snoc list front back d e)
 
--- No end of these lists bears the mark.
+-- No end of these lists has the mark.
 abbrev pub NoneMarked : RunSetup → (ℕ → List (MemoryOp CallAccess)) → Type 0
 NoneMarked key acc = (p : ℕ) → p < 2 → (derived_state key p (acc p)).end.handshake.mark ≡ false
 

@@ -101,7 +101,7 @@ reached_numbered link_config honest is a b memory words next (reaches.loads _ _ 
 reached_numbered link_config honest is a b after words st (reaches.others memory _ _ _ k untouched) =
     numbers.others memory after words (ends_of st) (places_of st) (numbers_of st) (reached_numbered link_config honest is a b memory words st k) (λ q q2. untouched q q2 (both_honest honest a b q q2))
 
--- Neither end is at a refusal or bears its mark.
+-- Neither end is at a refusal or has its mark.
 pub none_refuses : RunsKeepInvariant → HonestEndsAgree → (key : RunSetup) (memory words : ℕ → ℕ) (acc : ℕ → List (MemoryOp CallAccess)) → IsLinkConfig (link_config_of key) → honest_of key 0 ≡ true → honest_of key 1 ≡ true →
     Reached (link_config_of key) (honest_of key) memory words (λ p. derived_state key p (acc p)) → (p : ℕ) → p < 2 → ((derived_state key p (acc p)).place ≢ Refusing) × ((derived_state key p (acc p)).end.handshake.mark ≡ false)
 none_refuses whole agree key memory words acc is a b k p p2 =

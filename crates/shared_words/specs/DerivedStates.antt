@@ -66,11 +66,11 @@ accepted_last log accepted = record { session = log.opened; number = length acce
 abbrev pub delivered_next : Log → (delivered : List (List ℕ)) → FrameNumber
 delivered_next log delivered = record { session = log.carried; number = length delivered }
 
--- The doorbell that a receiver asks for by its event word, as it wrote that word last:
+-- The doorbell that a receiver requests by its event word, as it wrote that word last:
 -- * `Nowhere`: none;
 -- * `Written`: none yet. It wrote the word, and no mark has come since;
--- * `At`: a doorbell at this frame of the other. The look after that write found no frame.
--- No State write and no reset ends what was asked for
+-- * `At`: a doorbell at this frame of the other. The look after that write found no frame. No State
+--   write and no reset ends the request.
 pub data DoorbellRequest : Type 0 where
   Nowhere : DoorbellRequest
   Written : DoorbellRequest

@@ -72,7 +72,7 @@ impl Play<u8, View> for Looks {
     ghost then = { looks };
 }
 
-/// A call picks where the view is cut.
+/// A call picks the peer at which the view is cut.
 impl Split<View> for Brand {
     ghost left = { λ v. v };
 

@@ -133,8 +133,8 @@ fn learn_by<M: Play<u8, View>>(words: &Words, pass: &mut Pass)
 
 /// Gives what the rule says of the lists, if the pass has all peers. The pass is unchanged.
 ///
-/// - Two honest peers: their sessions are paired, neither refuses, and a doorbell that was asked
-///   for is rung.
+/// - Two honest peers: their sessions are paired, neither refuses, and a requested doorbell is
+///   rung.
 /// - An honest peer opposite a hostile one: its sessions carry none.
 /// - All peers: each interrupt that is found was rung.
 // claim same, learned: From the lists of all peers the rule follows, and the pass stays. Of two

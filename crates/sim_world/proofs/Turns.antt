@@ -27,7 +27,7 @@ module _ {L : Type 0} (before after : L → List Line → Type 0) (a : Act) (pee
   act_received (Ok t) turns = turns_received turns
   act_received (Err e) turns = tt
 
--- A stop within the turns is a stop within what the act asks for.
+-- A stop within the turns is a stop within the act's turns.
 module _ {L : Type 0} (before after : L → List Line → Type 0) (a : Act) (peer steps : ℕ) (old : Simulator) (is : a ≡ act.Turn peer steps) where
   pub act_stopped : {T : Type 0} (result : Result T Stopped) →
       ((began : L) (world : World) (version : ℕ) (events : List Event) → IsPermittedEvent world (TurnTaken peer) → HasReceived world version (before began) events old → WhereStopped result (HasStopped world version (after began) (events ++ replicate steps (TurnTaken peer)))) →

@@ -53,7 +53,7 @@ impl Pair {
 }
 
 /// Keeps two peers within `span` turns of each other, until one has ended. With a span of 0 they
-/// are in lockstep: neither begins a turn before the other has come to it.
+/// are in lockstep: neither begins a turn before the other has reached it.
 #[derive(Drop)]
 pub(crate) struct Near {
     span: u64,

@@ -112,7 +112,7 @@ fn automatic(
     Ok(text)
 }
 
-/// Checks that the run is done, and how many of its lines begin with each of these starts.
+/// Checks that the run is done, and the number of its lines that begin with each of these starts.
 fn check_counts(rt: &impl Abort, run_result: &RunResult, rows: &[(&str, usize)]) {
     assert!(rt; run_result.status == Status::Done);
     for at in 0..rows.len() {
@@ -208,9 +208,9 @@ const MEETINGS: [Exchange; 4] = [
     (IN_BYTES, [1000, 1000], 1_500_000),
 ];
 
-/// Both come to their first turn before either takes it, so they run at the same time. The
-/// scheduler decides how far one gets while the other waits for a processor. That both come to
-/// their end is checked with peers that are kept near each other.
+/// Both reach their first turn before either takes it, so they run at the same time. The scheduler
+/// decides how far one gets while the other waits for a processor. A check with peers that are kept
+/// near each other shows that both end.
 // claim ivshm_cli.ivshm.running
 #[test]
 fn peers_run_beside_one_another(rt: HostRuntime) -> Result<(), Fail> {

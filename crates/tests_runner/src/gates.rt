@@ -232,7 +232,7 @@ impl Gate for Relay {
     }
 }
 
-/// Holds the first turn of peers 0 and 1 until the other has come to its own first turn.
+/// Holds the first turn of peers 0 and 1 until the other has reached its own first turn.
 #[derive(Drop)]
 pub(crate) struct Meeting {
     come: Pair,

@@ -315,8 +315,8 @@ fn check_often<R: Threads + Sync + Abort, G: Gate + Sync>(
 }
 
 /// If the peers stay near each other, many of the sessions deliver frames, whether the first turns
-/// met or not. If they met and both run freely, the scheduler decides how many sessions do, and all
-/// are paired.
+/// met or not. If they met and both run freely, the scheduler decides the number of sessions that
+/// do, and all are paired.
 // claim peer_runner.sessions_are_paired
 // claim peer_runner.drive
 #[test]

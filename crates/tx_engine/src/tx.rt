@@ -277,7 +277,7 @@ impl Tx {
         matches!(self.place, Place::Ringing)
     }
 
-    /// Returns how many of the next accesses write consecutive words of the frame or of its
+    /// Returns the number of the next accesses that write consecutive words of the frame or of its
     /// descriptor, without a note. Returns 0 if no burst is next.
     pub fn writes_ahead(&self) -> u32
         ensures { result ≡ writes_ahead self.now.place }

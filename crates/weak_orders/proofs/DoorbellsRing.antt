@@ -1,4 +1,4 @@
--- The other's offer of the frame that an event names comes to its doorbell.
+-- The other's offer of the frame that an event names reaches its doorbell.
 use Rattle.std.proofs.Common.{◌≡◌, ◌≢◌, ℕ, zero, suc, ◌+◌, ◌-◌, ◌%◌, ◌<◌, ◌≤◌, inl, ⊎_elim, Bool, true, false, List, ◌++◌, length, length-append, refl, sym, ap, ◌∙◌, subst, arith, ◌⊎◌, inr}
 use mathlib.Core.Logic.{dite}
 use native.Mathlib.Decide.{ℕ_discrete, dec_lt}

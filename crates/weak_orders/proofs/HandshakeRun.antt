@@ -1,4 +1,4 @@
--- Two ends of the worked link come to RUN over sequentially consistent memory, by three Ticks each.
+-- Two ends of the worked link enter RUN over sequentially consistent memory, by three Ticks each.
 use Rattle.std.proofs.Common.{◌≡◌, ◌≢◌, ℕ, zero, suc, ◌+◌, ◌-◌, ◌<◌, ◌≤◌, true, false, [], refl, sym, ap, ◌∙◌, subst, arith, eq-eqb, ne_eqb}
 use Rattle.std.specs.Prelude.{◌==◌, if◌then◌else◌}
 use Rattle.link_handshake.specs.declared.Phase.{Phase}

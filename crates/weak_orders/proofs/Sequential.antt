@@ -31,7 +31,7 @@ module _ (link_config : LinkConfig) (is : IsLinkConfig link_config) where
   newest pasts now p new run p2 view fence loads = let h = (held_lem link_config pasts now is run).views p p2 (now p) (omega arith) in
       record { base = now (1 - p); rises = h; keeps = omega arith; known = omega arith; fence = fence; loads = loads }
 
-  -- The extended run comes to these two ends.
+  -- The extended run leads to these two ends.
   module _ (memory memory' : ℕ → ℕ) (ends ends' : ℕ → End) (places places' : ℕ → Place) (p : ℕ) (p2 : p < 2) (w : HasWeakRun link_config memory ends places) (new : Moment) where
     abbrev Mine : Moment
     Mine = w.pasts p (w.now p)

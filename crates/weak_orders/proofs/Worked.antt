@@ -20,7 +20,7 @@ use Rattle.weak_orders.proofs.Sequential.{newest, sequential_lem}
 use Rattle.weak_orders.proofs.HandshakeRun.{worked_is, idle, EndsAt, run_run, all_closed, both_run}
 use Rattle.weak_orders.proofs.RunExtensions.{after_action, CanAct, CanActs, HasMoments, plays}
 
--- The moments that an end has come to
+-- The moments that an end has reached.
 
 head : (p : ℕ) (past : ℕ → Moment) (from : ℕ) (m : Moment) (actions : List Action) → HasMoments worked_config p past from m actions → past from ≡ m
 head p past from m [] h = h

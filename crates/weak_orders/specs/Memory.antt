@@ -79,7 +79,7 @@ LoadsBy link_config p old new base theirs now value (access.Read word) = Gives l
 LoadsBy link_config p old new base theirs now value _ = Unit {0}
 
 -- ARM: a store-release is observed after all that comes before it in program order, a store to a
--- device as any other. Here: an end that receives a doorbell has the view come to it.
+-- device as any other. Here: the view of an end that receives a doorbell includes its store.
 abbrev pub Received : LinkConfig → ℕ → (new : Moment) → (theirs : ℕ → Moment) → ℕ → Type 0
 Received link_config p new theirs k = (access_of link_config (1 - p) (theirs k).place (theirs (suc k)).action ≡ access.Ring p link_config.vector) ×
     (is_release (theirs k).place (theirs (suc k)).action ≡ true → suc k ≤ new.view)

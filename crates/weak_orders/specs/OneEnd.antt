@@ -8,7 +8,7 @@ use Rattle.link_invariant.specs.EndInvariant.{EndInvariant}
 use Rattle.weak_orders.specs.Memory.{Moment, Resets, Does, is_own}
 use Rattle.weak_orders.specs.Runs.{IsFirst}
 
--- The end has come to its moment `now`.
+-- The end is at its moment `now`.
 pub record RunsAlone (link_config : LinkConfig) (p : ℕ) (past : ℕ → Moment) (now : ℕ) : Type 0 where
   pub first : IsFirst (past 0)
   pub does : (k : ℕ) → k < now → Does link_config p (past k) (past (suc k)) (past (suc k)).action

@@ -15,7 +15,7 @@ pub record IsFirst (m : Moment) : Type 0 where
   pub fenced : m.fenced ≡ 0
   pub owed : m.owed ≡ false
 
--- A run: an end takes one action at a time. End p has come to its moment `now p`.
+-- A run: an end takes one action at a time. End p is at its moment `now p`.
 pub data WeakRuns (link_config : LinkConfig) (pasts : ℕ → ℕ → Moment) : (ℕ → ℕ) → Type 0 where
   starts : (now : ℕ → ℕ) → ((p : ℕ) → now p ≡ 0) → ((p : ℕ) → IsFirst (pasts p 0)) → WeakRuns link_config pasts now
   goes : (now next : ℕ → ℕ) (p : ℕ) → WeakRuns link_config pasts now → p < 2 →

@@ -17,7 +17,7 @@ pub record IsMomentOf (link_config : LinkConfig) (memory : ℕ → ℕ) (p : ℕ
   pub place_is : m.place ≡ place
   pub words : (w : ℕ) → is_own link_config p w ≡ true → m.words w ≡ memory w
 
--- A weak run comes to these two ends.
+-- A weak run leads to these two ends.
 pub record HasWeakRun (link_config : LinkConfig) (memory : ℕ → ℕ) (ends : ℕ → End) (places : ℕ → Place) : Type 0 where
   pub pasts : ℕ → ℕ → Moment
   pub now : ℕ → ℕ
@@ -56,7 +56,7 @@ pub data BufferedRuns (link_config : LinkConfig) (pasts : ℕ → ℕ → Moment
 abbrev pub StoreBufferRunsAreWeak : Type 0
 StoreBufferRunsAreWeak = (link_config : LinkConfig) (pasts : ℕ → ℕ → Moment) (now out : ℕ → ℕ) → BufferedRuns link_config pasts now out → WeakRuns link_config pasts now
 
--- A weak run in which end p has come to this moment, and the other end to that one.
+-- A weak run in which end p is at this moment, and the other end at that one.
 pub record ComesTo (link_config : LinkConfig) (p : ℕ) (mine theirs : Moment) : Type 0 where
   pub pasts : ℕ → ℕ → Moment
   pub now : ℕ → ℕ

@@ -14,8 +14,8 @@ HasMovedOn past c now t = (k : ℕ) × (c < k) × (k ≤ now) × ((length (past 
 
 -- At moment c an end stores its event for frame t. At a later moment its load of the available
 -- index finds no frame. In the session to which the end is attached, the other accepts frame t and
--- loads the event. That offer comes to its doorbell, whichever of the two loads was first, unless
--- the end has moved on since moment c.
+-- loads the event. That offer reaches its doorbell, for each order of the two loads, unless the end
+-- has moved on since moment c.
 pub record DoorbellsRing (link_config : LinkConfig) (pasts : ℕ → ℕ → Moment) (now : ℕ → ℕ) (p : ℕ) : Type 0 where
   pub rings : (c a b t x v w : ℕ) (last : Bool) → c < a → suc a ≤ now p → suc b ≤ now (1 - p) →
       (pasts p c).place ≡ WritingAvailEvent t → (pasts p (suc c)).action ≡ Takes x →

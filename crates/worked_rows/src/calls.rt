@@ -8,7 +8,7 @@ use std::fmt::Debug;
 use std::io;
 use std::io::ErrorKind;
 
-/// Returns the bytes asked for: status 0.
+/// Returns the wanted bytes: status 0.
 fn answered(bytes: Result<Vec<u8>, NoMemory>) -> io::Result<Answer> {
     let output = bytes.map_err(|_| ErrorKind::OutOfMemory)?;
     Ok(Answer {

@@ -1,6 +1,6 @@
 //! Worked rows, which are data. The program reads the pages that standard input names, computes the
-//! answer to each row in them, and writes a line for each row. The line is the row's name, or where
-//! its answer differs from the page. docs/ROWS.md has the format of a page.
+//! answer to each row in them, and writes a line for each row. The line is the row's name, or the
+//! difference of its answer from the page. docs/ROWS.md has the format of a page.
 #![tactic(auto)]
 
 mod answers;

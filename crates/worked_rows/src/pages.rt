@@ -29,7 +29,7 @@ struct Next<'a> {
     words: &'a str,
 }
 
-/// Returns the question that the line asks about the output of the row before it, if it asks one.
+/// Returns the question of the line about the output of the row before it, if it has one.
 fn next_of(line: &str) -> Option<Next<'_>> {
     let (is_call, words) = match line.strip_prefix("then ") {
         Some(words) => (false, words),
@@ -101,7 +101,7 @@ impl Pages {
         Ok(answer.output)
     }
 
-    /// Returns the row that asks this about the output of the row before.
+    /// Returns the row with this question about the output of the row before.
     fn row_after<R: Threads + Sync + Print>(
         &mut self,
         rt: &R,
@@ -118,7 +118,7 @@ impl Pages {
         Ok(row)
     }
 
-    /// Ends a row. A row that asks nothing is a text for others to use.
+    /// Ends a row. A row without a question is a text for others to use.
     fn end_row<R: Threads + Sync + Print>(
         &mut self,
         rt: &R,

@@ -93,8 +93,8 @@ fn used_element_place(more: u32, count: u32) -> Place
 
 impl Rx {
     /// Returns a receiver for a peer whose own section begins at word `own` of the region, and the
-    /// other's at word `theirs`. Its doorbells have the target `target` and the vector `vector`.
-    /// Returns `Err(NoMemory)` if an allocation fails.
+    /// other's at word `theirs`. Its doorbells have the target `target` and the vector
+    /// `vector`. Returns `Err(NoMemory)` if an allocation fails.
     // claim value, refines with Rx::reset.value, Rx::reset.refines: A new receiver, and one that
     //    was reset, represents each end with a fresh session.
     pub fn new(

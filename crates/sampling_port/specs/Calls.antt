@@ -8,9 +8,9 @@ use Rattle.sampling_port.specs.Layout.{length_place, data_place}
 use Rattle.sampling_port.specs.Marks.{PortMark, Publish, Got, Nothing, Again, Refuse}
 use Rattle.sampling_port.specs.Trees.{PortTree, Ended, Does, Reads}
 
--- Below, `own` is the first word of the port's own section and `theirs` that of the peer `from`. A
--- message has at most `most` bytes. Each part of a call is named after its first step. The last
--- part is defined first.
+-- Below, `own` is the first word of the port's own section and `theirs` that of the peer
+-- `from`. A message has at most `most` bytes. Each part of a call is named after its first step.
+-- The last part is defined first.
 
 -- A publish
 

@@ -48,7 +48,8 @@ pub record Fits (peers : ℕ) (seat : ℕ → ℕ) (acc : ℕ → List (Action (
   pub mine : (k : ℕ) → k < length v.lists → seat (v.from + k) ≡ id
   pub known : (k : ℕ) (l : List (Action (MemoryOp CallAccess))) → get_elem? v.lists k ≡ some l → acc (v.from + k) ≡ l
 
--- Each peer has one holder, by `seat`, and one list of actions, by `acc`. The lists made the words.
+-- Each peer has one holder, by `seat`, and one list of actions, by `acc`. The lists made the
+-- words.
 pub record TableInvariant (key : RunSetup) (s : State ℕ View) : Type 0 where
   pub seat : ℕ → ℕ
   pub acc : ℕ → List (Action (MemoryOp CallAccess))

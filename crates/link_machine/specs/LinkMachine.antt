@@ -147,8 +147,8 @@ MarkRow sizes honest side other (Refuse refused) new =
     (honest ≡ false) × (side.state ≡ 3) × IsBeyond sizes side refused.field refused.value × (new ≡ record side { refused = true; read = [] })
 MarkRow sizes honest side other Over new = new ≡ record side { read = [] }
 
--- The row of a step of a side: `mine` and `theirs` are whether the side and the other are
--- honest. A hostile side has no marks. A reset clears a refusal; the lists stay until the next
+-- The row of a step of a side: `mine` and `theirs` are whether the side and the other
+-- are honest. A hostile side has no marks. A reset clears a refusal; the lists stay until the next
 -- session.
 abbrev pub Row : Sizes → (mine theirs : Bool) → Side → Side → SideEvent → Side → Type 0
 Row sizes mine theirs side other (Gave value) new = new ≡ record side { read = side.read ++ value ∷ [] }

@@ -9,9 +9,9 @@
 //!
 //! # Design
 //!
-//! - The table is a definition by cases, `move_on` of `specs/PhaseTable`, with a line for each arm
-//!   of `saw`. The laws of `phases_in_step` follow from it, but they don't determine each arm. A
-//!   must-fail edit does that for each arm.
+//! - The table is a definition by cases, `move_on` of `specs/PhaseTable`, with a line for each
+//!   arm of `saw`. The laws of `phases_in_step` follow from it, but they don't determine each arm.
+//!   A must-fail edit does that for each arm.
 #![tactic(auto)]
 
 ghost use Rattle.std.specs.Prelude.{◌≡◌, true, false};

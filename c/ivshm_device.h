@@ -267,9 +267,9 @@ uint32_t ivshm_device_mmio_write(ivshm_device *device, uint32_t peer, const ivsh
 
 /* ---- the life of a guest ---- */
 
-/* Gives all registers of a peer their reset values. State becomes 0 (duty 4). If State was another
- * value, all other peers are triggered with vector 0. A disconnected peer stays disconnected.
- * IVSHM_DEVICE_DONE, _EMPTY, _BAD_PEER. */
+/* Sets all registers of a peer to their reset values. State becomes 0 (duty 4). If State was
+ * another value, all other peers are triggered with vector 0. A disconnected peer stays
+ * disconnected. IVSHM_DEVICE_DONE, _EMPTY, _BAD_PEER. */
 uint32_t ivshm_device_reset(ivshm_device *device, uint32_t peer, ivshm_effect *effect);
 
 /* Resets a peer and disconnects it: nothing is delivered to it until ivshm_device_connect.

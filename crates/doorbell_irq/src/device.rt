@@ -196,7 +196,7 @@ impl Device {
         );
     }
 
-    /// Gives all registers of a peer their reset values.
+    /// Sets all registers of a peer to their reset values.
     ///
     /// The peer's State is 0 then. If it was another value, all other peers are triggered.
     // claim effect, refines: A reset gives every register of the peer its reset value, and triggers

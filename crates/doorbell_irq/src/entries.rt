@@ -18,7 +18,7 @@ pub fn write_at(entries: &mut [Space<4, 16>], n: u32, offset: u16, value: u32)
     }
 }
 
-/// Gives every entry of a slice its reset values.
+/// Sets every entry of a slice to its reset values.
 pub fn reset_all(entries: &mut [Space<4, 16>])
     ensures count { length entries.new ≡ length entries.old }
     ensures reset { (k : ℕ) (before after : Contents) → slice_get entries.old k ≡ Some before → slice_get entries.new k ≡ Some after → IsSpaceReset before after }

@@ -32,7 +32,7 @@ pub trait MsixTable {
         ensures written { (k : ℕ) (before after : Contents) → slice_get (entries self.old) k ≡ Some before → slice_get (entries self.new) k ≡ Some after →
             IsWritten (if n == k then Some (record { offset = offset; width = 4; value = value }) else None) before after };
 
-    /// Gives every entry its reset values.
+    /// Sets every entry to its reset values.
     fn reset(&mut self)
         ensures count { length (entries self.new) ≡ length (entries self.old) }
         ensures reset { (k : ℕ) (before after : Contents) → slice_get (entries self.old) k ≡ Some before → slice_get (entries self.new) k ≡ Some after →

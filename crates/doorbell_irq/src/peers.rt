@@ -163,7 +163,7 @@ pub fn msix_write<E: MsixTable + Drop>(
     registers[peer as usize].write_entry(wiring, offset, value);
 }
 
-/// Gives all registers of a peer their reset values.
+/// Sets all registers of a peer to their reset values.
 ///
 /// The peer's State is 0 then. If it was another value, all other peers are triggered.
 pub fn reset<E: MsixTable + Drop>(

@@ -120,7 +120,7 @@ impl<E: MsixTable + Drop> PeerDevice<E> {
         self.connected = true;
     }
 
-    /// Gives every register its reset value.
+    /// Sets every register to its reset value.
     fn clear(&mut self)
         ensures { IsReset self.old self.old.connected self.new }
     {

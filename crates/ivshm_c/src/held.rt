@@ -73,7 +73,7 @@ impl End {
         }
     }
 
-    /// Puts an end into a handle that has none.
+    /// Moves an end into a handle that has none.
     pub(crate) fn put(&mut self, port: Box<EndState>)
         requires { self.old.port ≡ None }
         ensures { self.new.port ≡ Some port.value }

@@ -71,7 +71,7 @@ impl DeviceHandle {
         }
     }
 
-    /// Puts devices into an empty handle.
+    /// Moves devices into an empty handle.
     pub(crate) fn put(&mut self, state: Box<DeviceState>)
         requires { self.old.state ≡ None }
         ensures { self.new.state ≡ Some state.value }

@@ -27,7 +27,7 @@ fn law_name(law: Law) -> &'static str
     }
 }
 
-/// Puts the history line with this number last, from 1, or that there is none.
+/// Appends the history line with this number, from 1, or the words for no line.
 fn put_line_at(out: &mut Vec<u8>, lines: &[Line], number: u64) -> Result<(), AllocError>
     ensures { OnOk result (out.new.items ≡ out.old.items ++ line_said lines.now number) }
 {

@@ -94,7 +94,7 @@ fn fields_at(
     }
 }
 
-/// Puts the lines around the differing one, each with its number in the record.
+/// Appends the lines around the differing one, each with its number in the record.
 fn put_around(alloc: Global, out: &mut Vec<u8>, difference: &Difference) -> Result<(), AllocError> {
     let lines = difference.trace.lines.items();
     let at = difference.fault.line.saturating_sub(1) as usize;

@@ -67,7 +67,7 @@ fn put_shown(out: &mut Vec<u8>, line: &[u8], left: u64) -> Result<(), AllocError
     put_shown(out, rest, left - 1)
 }
 
-/// Puts the number of a line last.
+/// Appends the number of a line.
 pub fn put_number(alloc: Global, out: &mut Vec<u8>, number: u64) -> Result<(), AllocError>
     ensures { OnOk result (out.new.items ≡ out.old.items ++ number_text number) }
 {
@@ -76,7 +76,7 @@ pub fn put_number(alloc: Global, out: &mut Vec<u8>, number: u64) -> Result<(), A
     Ok(())
 }
 
-/// Puts bytes last, as hexadecimal digits, or that the file has ended.
+/// Appends bytes as hexadecimal digits, or the words for the end of the file.
 fn put_digits(alloc: Global, out: &mut Vec<u8>, some: &[u8]) -> Result<(), AllocError>
     ensures { OnOk result (out.new.items ≡ out.old.items ++ digits some.now) }
 {
@@ -89,7 +89,7 @@ fn put_digits(alloc: Global, out: &mut Vec<u8>, some: &[u8]) -> Result<(), Alloc
     Ok(())
 }
 
-/// Puts bytes last, after their place.
+/// Appends the place of bytes, and the bytes.
 fn put_bytes(alloc: Global, out: &mut Vec<u8>, first: u64, some: &[u8]) -> Result<(), AllocError>
     ensures { OnOk result (out.new.items ≡ out.old.items ++ bytes_text first some.now) }
 {
@@ -157,7 +157,7 @@ pub fn packet_at(file: &[u8], number: u64) -> &[u8]
     after_packets(file, number.saturating_sub(1), packets)
 }
 
-/// Puts the place of a packet last, and the 16 bytes before its frame.
+/// Appends the place of a packet, and the 16 bytes before its frame.
 fn put_packet(alloc: Global, out: &mut Vec<u8>, bytes: &[u8], number: u64) -> Result<(), AllocError>
     ensures { OnOk result (out.new.items ≡ out.old.items ++ place_of bytes.now (Place.Packet number)) }
 {
@@ -167,7 +167,7 @@ fn put_packet(alloc: Global, out: &mut Vec<u8>, bytes: &[u8], number: u64) -> Re
     put_bytes(alloc, out, first, header)
 }
 
-/// Puts the number and the text of a line last.
+/// Appends the number and the text of a line.
 fn put_line(alloc: Global, out: &mut Vec<u8>, bytes: &[u8], number: u64) -> Result<(), AllocError>
     ensures { OnOk result (out.new.items ≡ out.old.items ++ place_of bytes.now (Place.Line number)) }
 {

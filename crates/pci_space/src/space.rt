@@ -56,7 +56,7 @@ impl<const N: usize, const B: usize> Space<N, B> {
         Space { table, bytes }
     }
 
-    /// Gives every field its reset value.
+    /// Sets every field to its reset value.
     pub fn reset(&mut self)
         ensures rows { self.new.rows ≡ self.old.rows }
         ensures bytes { (k : ℕ) → slice_index self.new.bytes k ≡ reset_byte self.old.rows k }

@@ -19,7 +19,7 @@ impl Page {
         }
     }
 
-    /// Puts blanks up to a column.
+    /// Appends blanks up to a column.
     fn pad(&mut self, column: usize) -> Result<(), NoMemory> {
         for _ in self.width..column.min(1000) {
             self.text.push(' ')?;
@@ -28,7 +28,8 @@ impl Page {
         Ok(())
     }
 
-    /// Puts words from a column on, or after one blank if the row is longer. No words put nothing.
+    /// Appends words from a column on, or after one blank if the row is longer. No words put
+    /// nothing.
     pub fn put(&mut self, column: usize, words: &str) -> Result<(), NoMemory> {
         if words.is_empty() || words == " " {
             return Ok(());
@@ -43,7 +44,7 @@ impl Page {
         Ok(())
     }
 
-    /// Puts words that end at a column.
+    /// Appends words that end at a column.
     pub fn put_left_of(&mut self, column: usize, words: &str) -> Result<(), NoMemory> {
         self.put(column.saturating_sub(words.len()), words)
     }

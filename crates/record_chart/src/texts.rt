@@ -46,7 +46,7 @@ fn call_sign(open: bool, line: &Line) -> (&'static str, bool) {
     }
 }
 
-/// Puts the heads of the columns: each peer's number, kind and State before the first row.
+/// Appends the heads of the columns: each peer's number, kind and State before the first row.
 fn put_heads(alloc: Global, page: &mut Page, trace: &Trace, first: u64) -> Result<(), NoMemory> {
     let lines = trace.lines.items();
     let before = first.saturating_sub(1).min(lines.len() as u64) as usize;
@@ -116,7 +116,7 @@ fn put_cells(
     Ok(())
 }
 
-/// Puts the rows.
+/// Appends the rows.
 fn put_rows(
     alloc: Global,
     page: &mut Page,

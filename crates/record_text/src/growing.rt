@@ -28,7 +28,7 @@ pub fn put_front(out: &mut Vec<u8>, version: u32, scenario: &Scenario) -> Result
     put_scenario(out, scenario)
 }
 
-/// Puts lines of a history last.
+/// Appends lines of a history.
 pub fn put_lines(out: &mut Vec<u8>, lines: &[Line]) -> Result<(), AllocError>
     ensures put { OnOk result (out.new.items ≡ out.old.items ++ history_text lines.now) }
     ensures fits { OnOk result (AllFit lines.now) }

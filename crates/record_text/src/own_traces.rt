@@ -34,7 +34,7 @@ impl OwnTraces {
         }
     }
 
-    /// Puts the trace last. After NoMemory the list is unchanged and the trace is dropped.
+    /// Appends the trace. After NoMemory the list is unchanged and the trace is dropped.
     // claim ok, err with OwnTraces::new, OwnTraces::items: A list has the items that were appended,
     //    in order; a failed call changes nothing.
     pub fn push(&mut self, item: OwnTrace) -> Result<(), NoMemory>

@@ -17,7 +17,7 @@ use scenario_text::put_scenario;
 use split_ring::{FieldName, Refused};
 use std::alloc::{AllocError, Global};
 
-/// Puts the line of a form without a frame last.
+/// Appends the line of a form without a frame.
 #[tactic(auto, unfolding(line_format::specs::Rows::line_of_row))]
 fn put(out: &mut Vec<u8>, form: LineForm, numbers: &[u64]) -> Result<(), AllocError>
     ensures { OnOk result (out.new.items ≡ out.old.items ++ line_of_row pieces_of (row form numbers.now [])) }
@@ -25,7 +25,7 @@ fn put(out: &mut Vec<u8>, form: LineForm, numbers: &[u64]) -> Result<(), AllocEr
     put_line(out, form.slots(), numbers, &[])
 }
 
-/// Puts the line of a refusal last.
+/// Appends the line of a refusal.
 #[tactic(auto, unfolding(line_format::specs::Rows::line_of_row))]
 fn put_refusal(out: &mut Vec<u8>, peer: u32, refused: &Refused) -> Result<(), AllocError>
     ensures { OnOk result (out.new.items ≡ out.old.items ++ line_of_row pieces_of (row_of_line (Line.Refuse peer refused.now))) }
@@ -59,7 +59,7 @@ fn value_of(refused: &Refused) -> u64
     refused.value
 }
 
-/// Puts a history line last.
+/// Appends a history line.
 #[tactic(auto, unfolding(line_format::specs::Rows::line_of_row))]
 pub fn put_history_line(out: &mut Vec<u8>, line: &Line) -> Result<(), AllocError>
     ensures put { OnOk result (out.new.items ≡ out.old.items ++ line_of_row pieces_of (row_of_line line.now)) }
@@ -133,7 +133,7 @@ pub fn put_history_line(out: &mut Vec<u8>, line: &Line) -> Result<(), AllocError
     }
 }
 
-/// Puts the text of the record last.
+/// Appends the text of the record.
 fn put_record(out: &mut Vec<u8>, trace: &Trace) -> Result<(), AllocError>
     ensures put { OnOk result (out.new.items ≡ out.old.items ++ spelling (record_of trace.now)) }
     ensures fits { OnOk result (AllFit trace.now.lines) }

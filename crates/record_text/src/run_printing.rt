@@ -17,7 +17,7 @@ use line_format::put_line;
 use scenario_text::put_scenario;
 use std::alloc::{AllocError, Global};
 
-/// Puts the line of a form last.
+/// Appends the line of a form.
 #[tactic(auto, unfolding(line_format::specs::Rows::line_of_row))]
 fn put(out: &mut Vec<u8>, form: RunForm, numbers: &[u64]) -> Result<(), AllocError>
     ensures { OnOk result (out.new.items ≡ out.old.items ++ line_of_row run_pieces_of (row form numbers.now [])) }
@@ -25,7 +25,7 @@ fn put(out: &mut Vec<u8>, form: RunForm, numbers: &[u64]) -> Result<(), AllocErr
     put_line(out, form.slots(), numbers, &[])
 }
 
-/// Puts a peer's own lines last.
+/// Appends a peer's own lines.
 fn put_own_lines(out: &mut Vec<u8>, lines: &[Line]) -> Result<(), AllocError>
     ensures put { OnOk result (out.new.items ≡ out.old.items ++ text_of run_pieces_of (map own_row lines.now)) }
     ensures fits { OnOk result (AllFit lines.now) }
@@ -44,7 +44,7 @@ fn turns_of(trace: &OwnTrace) -> u64
     trace.turns
 }
 
-/// Puts what one peer did last.
+/// Appends the actions of a peer.
 fn put_part(out: &mut Vec<u8>, trace: &OwnTrace) -> Result<(), AllocError>
     ensures put { OnOk result (out.new.items ≡ out.old.items ++ text_of run_pieces_of (rows_of_part (part_of trace.now))) }
     ensures is { OnOk result (IsPart (part_of trace.now)) }
@@ -75,7 +75,7 @@ fn put_parts(out: &mut Vec<u8>, traces: &[OwnTrace]) -> Result<u64, AllocError>
     Ok(count)
 }
 
-/// Puts the text of the running record last.
+/// Appends the text of the running record.
 fn put_run(out: &mut Vec<u8>, trace: &RunTrace) -> Result<(), AllocError>
     ensures put { OnOk result (out.new.items ≡ out.old.items ++ run_spelling (run_of trace.now)) }
     ensures is { OnOk result (IsRunRecord (run_of trace.now)) }

@@ -131,7 +131,7 @@ fn learn_by<M: Play<u8, View>>(words: &Words, pass: &mut Pass)
     words.shared.load::<M>(&mut pass.seat, 0);
 }
 
-/// Gives what the rule says of the lists, if the pass has all peers. The pass is unchanged.
+/// Proves the rule's facts of the lists, if the pass has all peers. The pass is unchanged.
 ///
 /// - Two honest peers: their sessions are paired, neither refuses, and a requested doorbell is
 ///   rung.

@@ -93,8 +93,8 @@ impl Runs {
     }
 }
 
-/// Says that no run of the form has exactly the wanted numbers. Only lines that begin like the form
-/// are compared, and a run ends where the next of them has another number.
+/// Reports that no run of the form has exactly the wanted numbers. Only lines that begin like the
+/// form are compared, and a run ends where the next of them has another number.
 pub(crate) fn run_difference(
     alloc: Global,
     wanted: Run,

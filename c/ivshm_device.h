@@ -1,9 +1,9 @@
 /* The devices of an Inter-VM Shared Memory world, version 2, for hypervisors.
  *
- * A hypervisor (a VMM, a device server, a static partitioner) gives 2 to 8 guests one region of
- * shared memory, and each guest a PCI device. The device has a configuration space, a register page
- * and an MSI-X table. This library is those devices. docs/DEVICE.md of the repository has their
- * rules, docs/DEVICE_C.md the way from nothing to a device in a VMM.
+ * A hypervisor (a VMM, a device server, a partitioner) gives 2 to 8 guests one region of shared
+ * memory, and each guest a PCI device. The device has a configuration space, a register page and an
+ * MSI-X table. This library is those devices. docs/DEVICE.md of the repository has their rules,
+ * docs/DEVICE_C.md the way from nothing to a device in a VMM.
  *
  * The library maps nothing, writes no shared memory and raises no interrupt. Each call returns what
  * the hypervisor has to do:

@@ -1,9 +1,9 @@
 /* The rings of a link in plain C, over the library's layout, without an end and without a check
  * other than a frame's length. They are the floor of the programs that measure the library: the
  * same copies and index words by themselves. A frame is copied as often as with the library:
- * into the end and the section, and from there into a room and the other end. Each frame is
- * published, and returned, by one index word. VERSION is that of the link (region.h). From 2 on
- * sections have the event words, and in 3 a frame takes its own length (docs/VERSIONS.md). */
+ * into the end and the section, and then into a room and the other end. Each frame is published,
+ * and returned, by one index word. VERSION is that of the link (region.h). From 2 on sections
+ * have the event words, and in 3 a frame takes its own length (docs/VERSIONS.md). */
 #ifndef PLAIN_RINGS_H
 #define PLAIN_RINGS_H
 #include "region.h"

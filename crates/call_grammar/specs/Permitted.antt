@@ -19,8 +19,8 @@ MayRead config word = (word ≡ other_state config) ⊎ ((config.theirs ≤ word
 abbrev pub MayStore : EndConfig → ℕ → Type 0
 MayStore config word = (config.own ≤ word) × (word < config.own + config.words)
 
--- An access that returns no value is permitted if it is a write to the own section or of the own
--- State, a doorbell of the other end, or none.
+-- A write is permitted to the own section and to the own State. A doorbell of the other end is
+-- permitted, and a step without an access.
 abbrev pub MayDo : EndConfig → Access → Type 0
 MayDo config (access.Read word) = ⊥
 MayDo config (access.Write word written) = MayStore config word

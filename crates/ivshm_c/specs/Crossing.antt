@@ -132,8 +132,8 @@ abbrev pub value_of : Option Refused → ℕ
 value_of None = 0
 value_of (Some refused) = refused.value
 
--- The numbers of an end's state: its refusal, its last delivered frame, its phase, its open call,
--- its last offer, and the longest frame that may be offered.
+-- The numbers of an end's state: its refusal, its last delivered frame, its phase, and its open
+-- call. The last two are the outcome of its last offer, and the length of the longest frame.
 abbrev pub view_of : EndState → View
 view_of port = let end = port.endpoint in record {
   refused_value = value_of end.refused;

@@ -7,8 +7,8 @@ use Rattle.section_map.specs.MayWrite.{MayWrite}
 use Rattle.lawful_history.specs.declared.line.Line.{Line}
 use Rattle.lawful_history.specs.declared.line.Line.TheVariants as line
 
--- The effect of a line on a word of the region: a read, a peer's store, a denied write, a store of
--- the device, or none.
+-- The effect of a line on a word of the region: a read, a peer's store, a denied write, a device's
+-- store, or none.
 pub data MemoryEffect : Type 0 where
   Gave : (word value : ℕ) → MemoryEffect
   Stored : (peer word value : ℕ) → MemoryEffect

@@ -26,8 +26,8 @@ pub record IsNoLook (config : EndConfig) (routes : List Route) (r : Runner) : Ty
   pub left : has_turn_left r.spans ≡ true
   pub first : looks_now (route_to routes config.me) (due_of config r) r.looks ≡ false
 
--- One turn leads from r to the next state: a look, an access to a session word, a step, a part of a
--- doorbell, or a reset.
+-- One turn leads from r to the next state. It is a look, an access to a session word, a step, a
+-- part of a doorbell, or a reset.
 pub data GoesOn (config : EndConfig) (routes : List Route) (r : Runner) : Runner → Type 0 where
   by_look : (found : ℕ) → has_turn_left r.spans ≡ true → looks_now (route_to routes config.me) (due_of config r) r.looks ≡ true →
       GoesOn config routes r (looked_on r found)

@@ -11,8 +11,8 @@ use Rattle.shared_words.specs.declared.run_setup.RunSetup.{RunSetup}
 use Rattle.shared_words.specs.RunSetups.{honest_of}
 use Rattle.shared_words.specs.DerivedStates.{CallAccess, MemoryOp, called, numbered, carried, restarted, derived_state, IsNext}
 
--- An access that a peer may make: a read in the region, a store in its own or the common section,
--- or a write of State.
+-- An access that a peer may make: a read, a store in its own or the common section, or a write of
+-- State.
 abbrev pub IsOwned : RunSetup → ℕ → Access → Type 0
 IsOwned key p (access.Read word) = word < word_count key.geometry
 IsOwned key p (access.Write word value) = MayWrite key.geometry p word

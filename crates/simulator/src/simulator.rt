@@ -110,6 +110,7 @@ impl Simulator {
     {
         let peer_states = peer_states_of(alloc, scenario)?;
         let region = Region::new(alloc, &scenario.geometry)?;
+        let device = Box::new(alloc, Device::new(&scenario.geometry, scenario.wiring))?;
         Ok(Simulator {
             alloc,
             sizes: StormSizes {
@@ -118,7 +119,7 @@ impl Simulator {
             },
             world_state: WorldState {
                 region,
-                device: Device::new(&scenario.geometry, scenario.wiring),
+                device,
                 unspent: [0; 8],
                 log: log_of(alloc, scenario, version),
             },

@@ -26,8 +26,8 @@ use split_ring::steps::Access;
 pub struct WorldState {
     /// The words of the region.
     pub region: Region,
-    /// The devices of all peers.
-    pub device: Device,
+    /// The devices of all peers. They are boxed, so that a move of the state doesn't copy them.
+    pub device: Box<Device>,
     /// The number of interrupts that will be lost, for each of 8 peers.
     pub unspent: [u64; 8],
     /// The lines.

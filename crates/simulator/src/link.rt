@@ -87,6 +87,7 @@ fn choose_next(link: &mut Link)
 
 /// Opens the next call, if no call is open: the oldest queued call, or the call that an automatic
 /// end chooses.
+#[inline(always)]
 fn open_next(link: &mut Link)
     requires fits { LinkFits link.old }
     requires refines { (config : EndConfig) × (peer : Peer) × LinkRefines config peer link.old }
@@ -104,6 +105,7 @@ fn open_next(link: &mut Link)
 }
 
 /// Records the line of a note.
+#[inline(always)]
 fn record_note(
     alloc: Global,
     me: u32,
@@ -121,6 +123,7 @@ fn record_note(
 }
 
 /// Records the lines of a step's notes.
+#[inline(always)]
 fn record_notes(
     alloc: Global,
     me: u32,
@@ -140,6 +143,7 @@ fn record_notes(
 }
 
 /// Makes the next step of the open call.
+#[inline(always)]
 fn carry_on(
     alloc: Global,
     me: u32,
@@ -168,6 +172,7 @@ fn carry_on(
 }
 
 /// Takes a turn of an honest end of the link.
+#[inline(always)]
 pub fn take_turn(
     alloc: Global,
     me: u32,

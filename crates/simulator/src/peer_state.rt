@@ -61,6 +61,7 @@ fn storm(sizes: &StormSizes, me: u32, x: u64, world_state: &mut WorldState) -> R
 }
 
 /// Takes a turn of the peer.
+#[inline(always)]
 pub fn turn(
     alloc: Global,
     sizes: &StormSizes,

@@ -164,6 +164,7 @@ impl Simulator {
     // claim: A turn of an honest end is the next step of its open call, with the marks of the step.
     //    The oldest call that waits is opened next; if none waits, the automatic peer chooses. A
     //    turn of a storm is what its three draws say.
+    #[inline(always)]
     pub fn turn(&mut self, peer: u32) -> Result<(), NoMemory>
         requires { IsRunning self.old peer }
         ensures { OnOk result (Happens (TurnTaken peer) self.old self.new) }

@@ -103,7 +103,8 @@ fn play_turns<L: Listener>(
     ensures received { OnOk result ((began : L) (world : World) (version : ℕ) (events : List Event) →
         IsPermittedEvent world (TurnTaken peer) →
         HasReceived world version (L.received began listener.old) events simulator.old →
-        HasReceived world version (L.received began listener.new) (events ++ replicate steps (TurnTaken peer)) simulator.new) }
+        HasReceived world version (L.received began listener.new)
+        (events ++ replicate steps (TurnTaken peer)) simulator.new) }
     ensures stopped { (began : L) (world : World) (version : ℕ) (events : List Event) →
         IsPermittedEvent world (TurnTaken peer) →
         HasReceived world version (L.received began listener.old) events simulator.old →
@@ -159,7 +160,8 @@ pub fn play<L: Listener>(
 ) -> Result<(), Stopped>
     requires version { is_version version ≡ true }
     requires silent { L.received listener.old listener.old [] }
-    ensures received { OnOk result (L.received listener.old listener.new (recorded_in (world_of scenario.now) version (history (world_of scenario.now)))) }
+    ensures received { OnOk result (L.received listener.old listener.new
+        (recorded_in (world_of scenario.now) version (history (world_of scenario.now)))) }
     ensures stopped { IfErr result (λ why. why ≡ HasEnough →
         StopsWithin (world_of scenario.now) version (L.stopped_after listener.old listener.new)) }
 {

@@ -63,7 +63,8 @@ fn turn_count(acts: &[Act]) -> usize {
 pub fn simulate(alloc: Global, scenario: Scenario) -> Result<Trace, NoMemory>
     ensures scenario { IfOk result (λ trace. trace.scenario ≡ scenario) }
     ensures version { IfOk result (λ trace. trace.version ≡ 2) }
-    ensures history { IfOk result (λ trace. trace.lines ≡ recorded_in (world_of scenario) 2 (history (world_of scenario))) }
+    ensures history { IfOk result (λ trace.
+        trace.lines ≡ recorded_in (world_of scenario) 2 (history (world_of scenario))) }
     ensures lawful { IfOk result (λ trace. IsLawfulIn (world_of scenario) 2 trace.lines) }
 {
     history_is_lawful();

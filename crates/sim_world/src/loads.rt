@@ -59,8 +59,10 @@ pub fn play_load<L: Listener>(alloc: Global, count: u32, listener: &mut L) -> Re
     requires some { 1 ≤ count }
     requires few { count ≤ MOST_LOAD }
     requires silent { L.received listener.old listener.old [] }
-    ensures received { OnOk result (L.received listener.old listener.new (recorded_in (load_world count) 2 (history (load_world count)))) }
-    ensures stopped { IfErr result (λ why. why ≡ HasEnough → StopsWithin (load_world count) 2 (L.stopped_after listener.old listener.new)) }
+    ensures received { OnOk result (L.received listener.old listener.new
+        (recorded_in (load_world count) 2 (history (load_world count)))) }
+    ensures stopped { IfErr result (λ why. why ≡ HasEnough →
+        StopsWithin (load_world count) 2 (L.stopped_after listener.old listener.new)) }
 {
     let sample = load(alloc, PERIOD)?;
     let mut simulator = Simulator::new(alloc, &sample, VERSION)?;

@@ -53,14 +53,21 @@ pub trait Listener {
 
     /// Receives the next lines. `HasEnough` stops the play.
     fn take_lines(&mut self, lines: &[Line]) -> Result<(), Stopped>
-        ensures received { (began : Self) (before : List Line) → received began self.old before → HaveFrames lines.now → OnOk result (received began self.new (before ++ lines.now)) }
-        ensures stopped { (began : Self) (before : List Line) → received began self.old before → HaveFrames lines.now → IfErr result (λ why. why ≡ HasEnough → stopped_after began self.new (before ++ lines.now)) };
+        ensures received { (began : Self) (before : List Line) → received began self.old before →
+            HaveFrames lines.now → OnOk result (received began self.new (before ++ lines.now)) }
+        ensures stopped { (began : Self) (before : List Line) → received began self.old before →
+            HaveFrames lines.now →
+            IfErr result (λ why. why ≡ HasEnough → stopped_after began self.new (before ++ lines.now)) };
 }
 
 /// Passes the lines that the simulator keeps to the listener, then removes them from the simulator.
 fn pass_on<L: Listener>(simulator: &mut Simulator, listener: &mut L) -> Result<(), Stopped>
-    ensures received { (began : L) (world : World) (version : ℕ) (events : List Event) → HasReceived world version (L.received began listener.old) events simulator.old → OnOk result (HasReceived world version (L.received began listener.new) events simulator.new) }
-    ensures stopped { (began : L) (world : World) (version : ℕ) (events : List Event) → HasReceived world version (L.received began listener.old) events simulator.old → IfErr result (λ why. why ≡ HasEnough → HasStopped world version (L.stopped_after began listener.new) events) }
+    ensures received { (began : L) (world : World) (version : ℕ) (events : List Event) →
+        HasReceived world version (L.received began listener.old) events simulator.old →
+        OnOk result (HasReceived world version (L.received began listener.new) events simulator.new) }
+    ensures stopped { (began : L) (world : World) (version : ℕ) (events : List Event) →
+        HasReceived world version (L.received began listener.old) events simulator.old →
+        IfErr result (λ why. why ≡ HasEnough → HasStopped world version (L.stopped_after began listener.new) events) }
 {
     listener.take_lines(simulator.lines())?;
     simulator.drain();
@@ -70,8 +77,12 @@ fn pass_on<L: Listener>(simulator: &mut Simulator, listener: &mut L) -> Result<(
 /// Does the same if the simulator keeps `PART` lines or more.
 #[inline(always)]
 fn pass_on_many<L: Listener>(simulator: &mut Simulator, listener: &mut L) -> Result<(), Stopped>
-    ensures received { (began : L) (world : World) (version : ℕ) (events : List Event) → HasReceived world version (L.received began listener.old) events simulator.old → OnOk result (HasReceived world version (L.received began listener.new) events simulator.new) }
-    ensures stopped { (began : L) (world : World) (version : ℕ) (events : List Event) → HasReceived world version (L.received began listener.old) events simulator.old → IfErr result (λ why. why ≡ HasEnough → HasStopped world version (L.stopped_after began listener.new) events) }
+    ensures received { (began : L) (world : World) (version : ℕ) (events : List Event) →
+        HasReceived world version (L.received began listener.old) events simulator.old →
+        OnOk result (HasReceived world version (L.received began listener.new) events simulator.new) }
+    ensures stopped { (began : L) (world : World) (version : ℕ) (events : List Event) →
+        HasReceived world version (L.received began listener.old) events simulator.old →
+        IfErr result (λ why. why ≡ HasEnough → HasStopped world version (L.stopped_after began listener.new) events) }
 {
     if simulator.lines().len() < PART {
         return Ok(());
@@ -86,9 +97,19 @@ fn play_turns<L: Listener>(
     peer: u32,
     steps: u32,
 ) -> Result<(), Stopped>
-    requires { (began : L) × (world : World) × (version : ℕ) × (events : List Event) × HasReceived world version (L.received began listener.old) events simulator.old × (peer < world.geometry.peers) }
-    ensures received { OnOk result ((began : L) (world : World) (version : ℕ) (events : List Event) → IsPermittedEvent world (TurnTaken peer) → HasReceived world version (L.received began listener.old) events simulator.old → HasReceived world version (L.received began listener.new) (events ++ replicate steps (TurnTaken peer)) simulator.new) }
-    ensures stopped { (began : L) (world : World) (version : ℕ) (events : List Event) → IsPermittedEvent world (TurnTaken peer) → HasReceived world version (L.received began listener.old) events simulator.old → IfErr result (λ why. why ≡ HasEnough → HasStopped world version (L.stopped_after began listener.new) (events ++ replicate steps (TurnTaken peer))) }
+    requires { (began : L) × (world : World) × (version : ℕ) × (events : List Event)
+        × HasReceived world version (L.received began listener.old) events simulator.old
+        × (peer < world.geometry.peers) }
+    ensures received { OnOk result ((began : L) (world : World) (version : ℕ) (events : List Event) →
+        IsPermittedEvent world (TurnTaken peer) →
+        HasReceived world version (L.received began listener.old) events simulator.old →
+        HasReceived world version (L.received began listener.new)
+        (events ++ replicate steps (TurnTaken peer)) simulator.new) }
+    ensures stopped { (began : L) (world : World) (version : ℕ) (events : List Event) →
+        IsPermittedEvent world (TurnTaken peer) →
+        HasReceived world version (L.received began listener.old) events simulator.old →
+        IfErr result (λ why. why ≡ HasEnough →
+        HasStopped world version (L.stopped_after began listener.new) (events ++ replicate steps (TurnTaken peer))) }
 {
     for _k in 0..steps {
         simulator.turn(peer)?;
@@ -103,9 +124,16 @@ pub(crate) fn play_act<L: Listener>(
     listener: &mut L,
     act: &Act,
 ) -> Result<(), Stopped>
-    requires { (began : L) × (world : World) × (version : ℕ) × (events : List Event) × HasReceived world version (L.received began listener.old) events simulator.old × IsAct world act.now × ((p : ℕ) → (history_state_after world events).losses p < 2 ^ 64 - 1) }
-    ensures received { OnOk result ((began : L) (world : World) (version : ℕ) (events : List Event) → IsAct world act.now → HasReceived world version (L.received began listener.old) events simulator.old → HasReceived world version (L.received began listener.new) (events ++ events_of act.now) simulator.new) }
-    ensures stopped { (began : L) (world : World) (version : ℕ) (events : List Event) → IsAct world act.now → HasReceived world version (L.received began listener.old) events simulator.old → IfErr result (λ why. why ≡ HasEnough → HasStopped world version (L.stopped_after began listener.new) (events ++ events_of act.now)) }
+    requires { (began : L) × (world : World) × (version : ℕ) × (events : List Event)
+        × HasReceived world version (L.received began listener.old) events simulator.old × IsAct world act.now
+        × ((p : ℕ) → (history_state_after world events).losses p < 2 ^ 64 - 1) }
+    ensures received { OnOk result ((began : L) (world : World) (version : ℕ) (events : List Event) →
+        IsAct world act.now → HasReceived world version (L.received began listener.old) events simulator.old →
+        HasReceived world version (L.received began listener.new) (events ++ events_of act.now) simulator.new) }
+    ensures stopped { (began : L) (world : World) (version : ℕ) (events : List Event) → IsAct world act.now →
+        HasReceived world version (L.received began listener.old) events simulator.old →
+        IfErr result (λ why. why ≡ HasEnough →
+        HasStopped world version (L.stopped_after began listener.new) (events ++ events_of act.now)) }
 {
     match act {
         Act::Turn { peer, steps } => play_turns(simulator, listener, *peer, *steps),
@@ -132,8 +160,10 @@ pub fn play<L: Listener>(
 ) -> Result<(), Stopped>
     requires version { is_version version ≡ true }
     requires silent { L.received listener.old listener.old [] }
-    ensures received { OnOk result (L.received listener.old listener.new (recorded_in (world_of scenario.now) version (history (world_of scenario.now)))) }
-    ensures stopped { IfErr result (λ why. why ≡ HasEnough → StopsWithin (world_of scenario.now) version (L.stopped_after listener.old listener.new)) }
+    ensures received { OnOk result (L.received listener.old listener.new
+        (recorded_in (world_of scenario.now) version (history (world_of scenario.now)))) }
+    ensures stopped { IfErr result (λ why. why ≡ HasEnough →
+        StopsWithin (world_of scenario.now) version (L.stopped_after listener.old listener.new)) }
 {
     let mut simulator = Simulator::new(alloc, scenario, version)?;
     for act in scenario.acts.items() {

@@ -50,7 +50,8 @@ pub fn simulate_text(alloc: Global, scenario: &Scenario) -> Result<Vec<u8>, NoMe
     ensures spelled { IfOk result (λ text. IsSpelling (lawful_record 2 (world_of scenario.now)) text.items) }
     // The text is read as this record.
     ensures again { IfOk result (λ text. answer text.items ≡ Ok (lawful_record 2 (world_of scenario.now))) }
-    ensures lawful { IfOk result (λ _. IsLawfulIn (world_of scenario.now) 2 (lawful_record 2 (world_of scenario.now)).lines) }
+    ensures lawful { IfOk result (λ _.
+        IsLawfulIn (world_of scenario.now) 2 (lawful_record 2 (world_of scenario.now)).lines) }
 {
     records_hold_one_history();
     parts_are_the_record();

@@ -109,7 +109,7 @@ is_lost world output past losses s s' d after few some region device unspent tel
 
 -- A line that is an event of the devices, with the words and the devices after it.
 pub recorded_after : (world : World) (output : Output) (past : List Line) (losses : ℕ → ℕ) (s s' : WorldState) (line : Line) (event : device.Event) → WorldStateAfter world output past losses s → device_event_of line ≡ Some event → ((p : ℕ) → lost_by line p ≡ 0) →
-    has_frame line ≡ true → WordsAre s'.region.words (line ∷ past) → s'.region.shape ≡ s.region.shape → Refines (devices_of world) (event ∷ device_events past) s'.device → s'.unspent ≡ s.unspent →
+    has_frame line ≡ true → WordsAre s'.region.words (line ∷ past) → s'.region.shape ≡ s.region.shape → Refines (devices_of world) (event ∷ device_events past) s'.device.value → s'.unspent ≡ s.unspent →
     Records line s.log s'.log → WorldStateAfter world output (line ∷ past) losses s'
 recorded_after world output past losses s s' line event after recorded lost frame words shape devices unspent tells = record {
   is_world = after.is_world;

@@ -30,7 +30,7 @@ pub record WorldStateAfter (world : World) (output : Output) (past : List Line) 
   pub shape : world_state.region.shape ≡ world.geometry
   pub log : IsLogOf world output past world_state.log
   pub words : WordsAre world_state.region.words past
-  pub devices : Refines (devices_of world) (device_events past) world_state.device
+  pub devices : Refines (devices_of world) (device_events past) world_state.device.value
   pub unspent : (p : ℕ) → slice_index_or world_state.unspent p 0 + lost_count past p ≡ losses p
   pub peer_states : length world_state.unspent ≡ 8
 
@@ -42,7 +42,7 @@ InEachWorld world_state Holds = (world : World) (output : Output) (past : List L
 -- The region and the devices have the peer.
 pub record HasPeer (world_state : WorldState) (me : ℕ) : Type 0 where
   pub in_region : me < world_state.region.shape.peers
-  pub in_devices : me < peer_count world_state.device
+  pub in_devices : me < peer_count world_state.device.value
   pub few : me < length world_state.unspent
 
 -- A line that changes no word and is no event of the devices. If it has a frame, the frame has a

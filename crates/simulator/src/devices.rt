@@ -17,7 +17,8 @@ impl WorldState {
         requires seated { HasPeer self.old me }
         requires access { is_access 256 offset width ≡ true }
         ensures after { InEachWorld self.old (λ world output past losses.
-            OnOk result (WorldStateAfter world output (device_access_line world past me (ReadsConfig offset width) ∷ past) losses self.new)) }
+            OnOk result (WorldStateAfter world output
+            (device_access_line world past me (ReadsConfig offset width) ∷ past) losses self.new)) }
         ensures seated { (q : ℕ) → HasPeer self.old q → HasPeer self.new q }
     {
         match self.device.config_read(me, offset, width) {
@@ -44,7 +45,8 @@ impl WorldState {
         requires seated { HasPeer self.old me }
         requires access { is_access 256 offset width ≡ true }
         ensures after { InEachWorld self.old (λ world output past losses.
-            OnOk result (WorldStateAfter world output (device_access_line world past me (WritesConfig offset width value) ∷ past) losses self.new)) }
+            OnOk result (WorldStateAfter world output
+            (device_access_line world past me (WritesConfig offset width value) ∷ past) losses self.new)) }
         ensures seated { (q : ℕ) → HasPeer self.old q → HasPeer self.new q }
     {
         match self.device.config_write(me, offset, width, value) {
@@ -64,7 +66,8 @@ impl WorldState {
     pub fn read_register(&mut self, me: u32, offset: u32) -> Result<(), NoMemory>
         requires { HasPeer self.old me }
         ensures after { InEachWorld self.old (λ world output past losses.
-            OnOk result (WorldStateAfter world output (device_access_line world past me (ReadsRegister offset) ∷ past) losses self.new)) }
+            OnOk result (WorldStateAfter world output
+            (device_access_line world past me (ReadsRegister offset) ∷ past) losses self.new)) }
         ensures seated { (q : ℕ) → HasPeer self.old q → HasPeer self.new q }
     {
         let value = self.device.register_read(me, offset);
@@ -80,7 +83,8 @@ impl WorldState {
     pub fn write_register(&mut self, me: u32, offset: u32, value: u32) -> Result<(), NoMemory>
         requires { HasPeer self.old me }
         ensures after { InEachWorld self.old (λ world output past losses.
-            OnOk result (WorldStateAfter world output (device_access_line world past me (WritesRegister offset value) ∷ past) losses self.new)) }
+            OnOk result (WorldStateAfter world output
+            (device_access_line world past me (WritesRegister offset value) ∷ past) losses self.new)) }
         ensures seated { (q : ℕ) → HasPeer self.old q → HasPeer self.new q }
     {
         let _ = self.device.register_write(me, offset, value);
@@ -95,7 +99,8 @@ impl WorldState {
     pub fn read_msix(&mut self, me: u32, offset: u32) -> Result<(), NoMemory>
         requires { HasPeer self.old me }
         ensures after { InEachWorld self.old (λ world output past losses.
-            OnOk result (WorldStateAfter world output (device_access_line world past me (ReadsMsix offset) ∷ past) losses self.new)) }
+            OnOk result (WorldStateAfter world output
+            (device_access_line world past me (ReadsMsix offset) ∷ past) losses self.new)) }
         ensures seated { (q : ℕ) → HasPeer self.old q → HasPeer self.new q }
     {
         let value = self.device.msix_read(me, offset);
@@ -110,7 +115,8 @@ impl WorldState {
     pub fn write_msix(&mut self, me: u32, offset: u32, value: u32) -> Result<(), NoMemory>
         requires { HasPeer self.old me }
         ensures after { InEachWorld self.old (λ world output past losses.
-            OnOk result (WorldStateAfter world output (device_access_line world past me (WritesMsix offset value) ∷ past) losses self.new)) }
+            OnOk result (WorldStateAfter world output
+            (device_access_line world past me (WritesMsix offset value) ∷ past) losses self.new)) }
         ensures seated { (q : ℕ) → HasPeer self.old q → HasPeer self.new q }
     {
         self.device.msix_write(me, offset, value);

@@ -55,7 +55,8 @@ pub struct Link {
 fn begin(end: &mut Endpoint, call: Waiting)
     requires closed { is_busy end.old ≡ false }
     requires fits { MayWait end.old.config.sizes.mtu call }
-    ensures refines { (config : EndConfig) (at : End) → RefinesAt end.old config at places.Closed → RefinesAt end.new config at (places.first_place config at (call_of call)) }
+    ensures refines { (config : EndConfig) (at : End) → RefinesAt end.old config at places.Closed →
+        RefinesAt end.new config at (places.first_place config at (call_of call)) }
     ensures config { end.new.config ≡ end.old.config }
     ensures open { is_busy end.new ≡ true }
 {
@@ -68,12 +69,15 @@ fn begin(end: &mut Endpoint, call: Waiting)
 }
 
 /// Opens the call that an automatic end chooses, if it chooses one.
+#[inline(always)]
 fn choose_next(link: &mut Link)
     requires closed { is_busy link.old.end ≡ false }
-    requires shut { (config : EndConfig) (peer : Peer) (refines : LinkRefines config peer link.old) → refines.place ≡ places.Closed }
+    requires shut { (config : EndConfig) (peer : Peer) (refines : LinkRefines config peer link.old) →
+        refines.place ≡ places.Closed }
     requires fits { LinkFits link.old }
     requires refines { (config : EndConfig) × (peer : Peer) × LinkRefines config peer link.old }
-    ensures refines { (config : EndConfig) (peer : Peer) → LinkRefines config peer link.old → LinkRefines config (chosen config peer peer.driver) link.new }
+    ensures refines { (config : EndConfig) (peer : Peer) → LinkRefines config peer link.old →
+        LinkRefines config (chosen config peer peer.driver) link.new }
     ensures config { link.new.end.config ≡ link.old.end.config }
 {
     places_follow_trees();
@@ -87,10 +91,12 @@ fn choose_next(link: &mut Link)
 
 /// Opens the next call, if no call is open: the oldest queued call, or the call that an automatic
 /// end chooses.
+#[inline(always)]
 fn open_next(link: &mut Link)
     requires fits { LinkFits link.old }
     requires refines { (config : EndConfig) × (peer : Peer) × LinkRefines config peer link.old }
-    ensures opened { (config : EndConfig) (peer : Peer) → LinkRefines config peer link.old → LinkRefines config (opened config peer) link.new }
+    ensures opened { (config : EndConfig) (peer : Peer) → LinkRefines config peer link.old →
+        LinkRefines config (opened config peer) link.new }
     ensures config { link.new.end.config ≡ link.old.end.config }
 {
     places_follow_trees();
@@ -104,6 +110,7 @@ fn open_next(link: &mut Link)
 }
 
 /// Records the line of a note.
+#[inline(always)]
 fn record_note(
     alloc: Global,
     me: u32,
@@ -113,7 +120,9 @@ fn record_note(
 ) -> Result<(), NoMemory>
     requires { has_frame (mark_line me (mark_between (offered end.now) (delivered end.now) note.now)) ≡ true }
     ensures after { InEachWorld world_state.old (λ world output past losses.
-        OnOk result (WorldStateAfter world output (mark_line me (mark_between (offered end.now) (delivered end.now) note.now) ∷ past) losses world_state.new)) }
+        OnOk result (WorldStateAfter world output
+        (mark_line me (mark_between (offered end.now) (delivered end.now) note.now) ∷ past)
+        losses world_state.new)) }
     ensures seated { (q : ℕ) → HasPeer world_state.old q → HasPeer world_state.new q }
 {
     let line = line_of(alloc, me, end, *note)?;
@@ -121,6 +130,7 @@ fn record_note(
 }
 
 /// Records the lines of a step's notes.
+#[inline(always)]
 fn record_notes(
     alloc: Global,
     me: u32,
@@ -130,7 +140,9 @@ fn record_notes(
 ) -> Result<(), NoMemory>
     requires { HaveFrames (map (mark_line me) (marks_between (offered end.now) (delivered end.now) notes.now)) }
     ensures after { InEachWorld world_state.old (λ world output past losses.
-        OnOk result (WorldStateAfter world output (reverse (map (mark_line me) (marks_between (offered end.now) (delivered end.now) notes.now)) ++ past) losses world_state.new)) }
+        OnOk result (WorldStateAfter world output
+        (reverse (map (mark_line me) (marks_between (offered end.now) (delivered end.now) notes.now)) ++ past)
+        losses world_state.new)) }
     ensures seated { (q : ℕ) → HasPeer world_state.old q → HasPeer world_state.new q }
 {
     for note in notes {
@@ -140,6 +152,7 @@ fn record_notes(
 }
 
 /// Makes the next step of the open call.
+#[inline(always)]
 fn carry_on(
     alloc: Global,
     me: u32,
@@ -150,8 +163,12 @@ fn carry_on(
     requires seated { HasPeer world_state.old me }
     requires placed { IsPlaced world_state.old.region.shape me link.old.end.config }
     requires refines { (config : EndConfig) × (peer : Peer) × LinkRefines config peer link.old }
-    ensures steps { (world : World) (output : Output) (past : List Line) (losses : ℕ → ℕ) (peer : Peer) → WorldStateAfter world output past losses world_state.old → LinkRefines (config_of world me) peer link.old →
-        OnOk result (WorldStateAfter world output (reverse (turn_lines me (step_by world me peer.driver peer.left past) (step_interrupts world past losses me (step_by world me peer.driver peer.left past))) ++ past) losses world_state.new
+    ensures steps { (world : World) (output : Output) (past : List Line) (losses : ℕ → ℕ) (peer : Peer) →
+        WorldStateAfter world output past losses world_state.old → LinkRefines (config_of world me) peer link.old →
+        OnOk result (WorldStateAfter world output
+        (reverse (turn_lines me (step_by world me peer.driver peer.left past)
+        (step_interrupts world past losses me (step_by world me peer.driver peer.left past))) ++ past)
+        losses world_state.new
         × LinkRefines (config_of world me) (moved peer past) link.new) }
     ensures seated { (q : ℕ) → HasPeer world_state.old q → HasPeer world_state.new q }
 {
@@ -168,6 +185,7 @@ fn carry_on(
 }
 
 /// Takes a turn of an honest end of the link.
+#[inline(always)]
 pub fn take_turn(
     alloc: Global,
     me: u32,
@@ -178,8 +196,12 @@ pub fn take_turn(
     requires seated { HasPeer world_state.old me }
     requires placed { IsPlaced world_state.old.region.shape me link.old.end.config }
     requires refines { (config : EndConfig) × (peer : Peer) × LinkRefines config peer link.old }
-    ensures turn { (world : World) (output : Output) (past : List Line) (losses : ℕ → ℕ) (peer : Peer) → WorldStateAfter world output past losses world_state.old → LinkRefines (config_of world me) peer link.old →
-        OnOk result (WorldStateAfter world output (reverse (turn_lines me (turn_step world me peer past) (step_interrupts world past losses me (turn_step world me peer past))) ++ past) losses world_state.new
+    ensures turn { (world : World) (output : Output) (past : List Line) (losses : ℕ → ℕ) (peer : Peer) →
+        WorldStateAfter world output past losses world_state.old → LinkRefines (config_of world me) peer link.old →
+        OnOk result (WorldStateAfter world output
+        (reverse (turn_lines me (turn_step world me peer past)
+        (step_interrupts world past losses me (turn_step world me peer past))) ++ past)
+        losses world_state.new
         × LinkRefines (config_of world me) (turned world me peer past) link.new) }
     ensures seated { (q : ℕ) → HasPeer world_state.old q → HasPeer world_state.new q }
 {
@@ -195,7 +217,8 @@ impl Link {
     /// Queues a call after the others. A frame for an automatic end is appended to its frames
     /// instead.
     pub fn ask(&mut self, call: Waiting) -> Result<(), NoMemory>
-        ensures { OnOk result ((config : EndConfig) (peer : Peer) → LinkRefines config peer self.old → LinkRefines config (with_call peer (call_of call)) self.new) }
+        ensures { OnOk result ((config : EndConfig) (peer : Peer) → LinkRefines config peer self.old →
+            LinkRefines config (with_call peer (call_of call)) self.new) }
     {
         match (&mut self.auto, call) {
             (Some(auto), Waiting::Offer(frame)) => auto.add(frame)?,
@@ -206,7 +229,8 @@ impl Link {
 
     /// Makes the end automatic.
     pub fn automate(&mut self, alloc: Global, expect: u64)
-        ensures { (config : EndConfig) (peer : Peer) → LinkRefines config peer self.old → LinkRefines config (automated peer expect) self.new }
+        ensures { (config : EndConfig) (peer : Peer) → LinkRefines config peer self.old →
+            LinkRefines config (automated peer expect) self.new }
     {
         self.auto = Some(Auto::new(alloc, expect));
     }
@@ -214,7 +238,8 @@ impl Link {
     /// Resets the end with its device: the open call ends, and the queued calls are dropped. An
     /// automatic end begins its round again.
     pub fn reset(&mut self, alloc: Global)
-        ensures { (config : EndConfig) (peer : Peer) → LinkRefines config peer self.old → LinkRefines config (was_reset peer) self.new }
+        ensures { (config : EndConfig) (peer : Peer) → LinkRefines config peer self.old →
+            LinkRefines config (was_reset peer) self.new }
     {
         self.end.reset();
         self.waiting = VecDeque::new(alloc);

@@ -30,7 +30,8 @@ pub struct Log {
 impl Log {
     /// Returns the log without a line.
     pub fn new(alloc: Global, version: u32, honest: [bool; 2]) -> Log
-        ensures { (world : World) → ((p : ℕ) → p < 2 → slice_index_or honest p false ≡ is_link world p) → IsLogOf world (no_output version) [] result }
+        ensures { (world : World) → ((p : ℕ) → p < 2 → slice_index_or honest p false ≡ is_link world p) →
+            IsLogOf world (no_output version) [] result }
     {
         Log {
             version,
@@ -61,7 +62,8 @@ impl Log {
 
     /// Drains the lines.
     pub fn clear(&mut self)
-        ensures on { (world : World) (output : Output) (past : List Line) → IsLogOf world output past self.old → IsLogOf world (given output self.old.lines) past self.new }
+        ensures on { (world : World) (output : Output) (past : List Line) → IsLogOf world output past self.old →
+            IsLogOf world (given output self.old.lines) past self.new }
         ensures none { self.new.lines ≡ [] }
     {
         self.lines.clear();
@@ -85,7 +87,9 @@ impl Log {
     /// Records the marks that come before a line.
     #[inline(always)]
     fn mark_before(&mut self, line: &Line) -> Result<(), NoMemory>
-        ensures marks { OnOk result ((world : World) (output : Output) (past : List Line) → IsLogOf world output past self.old → AreFew past → self.new.lines ≡ self.old.lines ++ marks_in world output.version past line.now) }
+        ensures marks { OnOk result ((world : World) (output : Output) (past : List Line) →
+            IsLogOf world output past self.old → AreFew past →
+            self.new.lines ≡ self.old.lines ++ marks_in world output.version past line.now) }
         ensures frames { OnOk result (HaveFrames self.old.lines → HaveFrames self.new.lines) }
         ensures kept { self.new ≡ record self.old { lines = self.new.lines } }
     {
@@ -98,7 +102,9 @@ impl Log {
     /// Records the mark of the session that a peer enters, if the peer is an honest end of the link
     /// and enters one.
     fn mark_session(&mut self, peer: u32) -> Result<(), NoMemory>
-        ensures marks { OnOk result ((world : World) (output : Output) (past : List Line) → IsLogOf world output past self.old → AreFew past → self.new.lines ≡ self.old.lines ++ marks_in world output.version past (Line.Over peer)) }
+        ensures marks { OnOk result ((world : World) (output : Output) (past : List Line) →
+            IsLogOf world output past self.old → AreFew past →
+            self.new.lines ≡ self.old.lines ++ marks_in world output.version past (Line.Over peer)) }
         ensures frames { OnOk result (HaveFrames self.old.lines → HaveFrames self.new.lines) }
         ensures kept { self.new ≡ record self.old { lines = self.new.lines } }
     {
@@ -119,7 +125,8 @@ impl Log {
 
     /// Whether a session mark is due before the `over` of a peer.
     fn enters_session(&self, peer: u32) -> bool
-        ensures due { (world : World) (output : Output) (past : List Line) → IsLogOf world output past self.now → result ≡ (output.version == 2 && (is_link world peer && enters_run past peer)) }
+        ensures due { (world : World) (output : Output) (past : List Line) → IsLogOf world output past self.now →
+            result ≡ (output.version == 2 && (is_link world peer && enters_run past peer)) }
         ensures two { result ≡ true → peer < 2 }
     {
         self.version == 2

@@ -43,10 +43,16 @@ pub struct StormSizes {
 
 /// Makes a step of a storm. Returns the generator's state after it.
 fn storm(sizes: &StormSizes, me: u32, x: u64, world_state: &mut WorldState) -> Result<u64, NoMemory>
-    requires sizes { (world : World) × AreSizesOf world me sizes.now × (world_state.old.region.shape ≡ world.geometry) }
+    requires sizes { (world : World) × AreSizesOf world me sizes.now
+        × (world_state.old.region.shape ≡ world.geometry) }
     requires seated { HasPeer world_state.old me }
-    ensures turn { (world : World) (output : Output) (past : List Line) (losses : ℕ → ℕ) → AreSizesOf world me sizes.now → WorldStateAfter world output past losses world_state.old →
-        IfOk result (λ next. (next ≡ storm_after x) × WorldStateAfter world output (reverse (turn_lines me (Some (storm_step world me x)) (step_interrupts world past losses me (Some (storm_step world me x)))) ++ past) losses world_state.new) }
+    ensures turn { (world : World) (output : Output) (past : List Line) (losses : ℕ → ℕ) →
+        AreSizesOf world me sizes.now → WorldStateAfter world output past losses world_state.old →
+        IfOk result (λ next. (next ≡ storm_after x)
+        × WorldStateAfter world output
+        (reverse (turn_lines me (Some (storm_step world me x))
+        (step_interrupts world past losses me (Some (storm_step world me x)))) ++ past)
+        losses world_state.new) }
     ensures seated { (q : ℕ) → HasPeer world_state.old q → HasPeer world_state.new q }
 {
     let mut storm = Storm {
@@ -61,6 +67,7 @@ fn storm(sizes: &StormSizes, me: u32, x: u64, world_state: &mut WorldState) -> R
 }
 
 /// Takes a turn of the peer.
+#[inline(always)]
 pub fn turn(
     alloc: Global,
     sizes: &StormSizes,
@@ -68,10 +75,18 @@ pub fn turn(
     peer_state: &mut PeerState,
     world_state: &mut WorldState,
 ) -> Result<(), NoMemory>
-    requires sizes { (world : World) × (peer : Peer) × AreSizesOf world me sizes.now × (world_state.old.region.shape ≡ world.geometry) × PeerStateRefines (config_of world me) peer peer_state.old × PeerStateFits (config_of world me) peer_state.old }
+    requires sizes { (world : World) × (peer : Peer) × AreSizesOf world me sizes.now
+        × (world_state.old.region.shape ≡ world.geometry)
+        × PeerStateRefines (config_of world me) peer peer_state.old
+        × PeerStateFits (config_of world me) peer_state.old }
     requires seated { HasPeer world_state.old me }
-    ensures turn { (world : World) (output : Output) (past : List Line) (losses : ℕ → ℕ) (peer : Peer) → AreSizesOf world me sizes.now → WorldStateAfter world output past losses world_state.old → PeerStateRefines (config_of world me) peer peer_state.old →
-        OnOk result (WorldStateAfter world output (reverse (turn_lines me (turn_step world me peer past) (step_interrupts world past losses me (turn_step world me peer past))) ++ past) losses world_state.new
+    ensures turn { (world : World) (output : Output) (past : List Line) (losses : ℕ → ℕ) (peer : Peer) →
+        AreSizesOf world me sizes.now → WorldStateAfter world output past losses world_state.old →
+        PeerStateRefines (config_of world me) peer peer_state.old →
+        OnOk result (WorldStateAfter world output
+        (reverse (turn_lines me (turn_step world me peer past)
+        (step_interrupts world past losses me (turn_step world me peer past))) ++ past)
+        losses world_state.new
         × PeerStateRefines (config_of world me) (turned world me peer past) peer_state.new) }
     ensures seated { (q : ℕ) → HasPeer world_state.old q → HasPeer world_state.new q }
     ensures kind { SameKind peer_state.old peer_state.new }
@@ -88,7 +103,8 @@ pub fn turn(
 
 /// Resets the peer state with the peer's device.
 pub fn reset(alloc: Global, peer_state: &mut PeerState)
-    ensures reset { (config : EndConfig) (peer : Peer) → PeerStateRefines config peer peer_state.old → PeerStateRefines config (was_reset peer) peer_state.new }
+    ensures reset { (config : EndConfig) (peer : Peer) → PeerStateRefines config peer peer_state.old →
+        PeerStateRefines config (was_reset peer) peer_state.new }
     ensures kind { SameKind peer_state.old peer_state.new }
 {
     match peer_state {

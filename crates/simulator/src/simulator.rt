@@ -61,7 +61,8 @@ fn is_end(scenario: &Scenario, peer: u32) -> bool
 /// Returns the initial state of a peer.
 fn peer_state_of(alloc: Global, scenario: &Scenario, peer: u32) -> Result<PeerState, NoMemory>
     requires { peer < scenario.now.geometry.peers }
-    ensures refines { IfOk result (λ peer_state. PeerStateRefines (config_of (world_of scenario.now) peer) at_start peer_state) }
+    ensures refines { IfOk result (λ peer_state.
+        PeerStateRefines (config_of (world_of scenario.now) peer) at_start peer_state) }
     ensures linked { IfOk result (λ peer_state. is_honest peer_state ≡ is_link (world_of scenario.now) peer) }
 {
     if !is_end(scenario, peer) {
@@ -83,7 +84,8 @@ fn peer_state_of(alloc: Global, scenario: &Scenario, peer: u32) -> Result<PeerSt
 
 /// Returns the initial states of all peers.
 fn peer_states_of(alloc: Global, scenario: &Scenario) -> Result<Vec<PeerState>, NoMemory>
-    ensures { IfOk result (λ peer_states. AreAtStart (world_of scenario.now) scenario.now.geometry.peers peer_states.items) }
+    ensures { IfOk result (λ peer_states.
+        AreAtStart (world_of scenario.now) scenario.now.geometry.peers peer_states.items) }
 {
     let mut peer_states = Vec::new(alloc);
     for peer in 0..scenario.geometry.peers() {
@@ -110,6 +112,7 @@ impl Simulator {
     {
         let peer_states = peer_states_of(alloc, scenario)?;
         let region = Region::new(alloc, &scenario.geometry)?;
+        let device = Box::new(alloc, Device::new(&scenario.geometry, scenario.wiring))?;
         Ok(Simulator {
             alloc,
             sizes: StormSizes {
@@ -118,7 +121,7 @@ impl Simulator {
             },
             world_state: WorldState {
                 region,
-                device: Device::new(&scenario.geometry, scenario.wiring),
+                device,
                 unspent: [0; 8],
                 log: log_of(alloc, scenario, version),
             },
@@ -154,7 +157,10 @@ impl Simulator {
     /// Starts a storm at a hostile peer.
     fn storm(&mut self, peer: u32, seed: u64)
         requires { peer < length self.old.peer_states.items }
-        ensures { (world : World) (output : Output) (events : List Event) → IsPermittedEvent world (StormStarted peer seed) → is_link world peer ≡ false → RunsTo world output events self.old → RunsTo world output (events ++ StormStarted peer seed ∷ []) self.new }
+        ensures { (world : World) (output : Output) (events : List Event) →
+            IsPermittedEvent world (StormStarted peer seed) → is_link world peer ≡ false →
+            RunsTo world output events self.old →
+            RunsTo world output (events ++ StormStarted peer seed ∷ []) self.new }
     {
         self.peer_states[peer as usize] = PeerState::Storm(seed);
     }
@@ -163,6 +169,7 @@ impl Simulator {
     // claim: A turn of an honest end is the next step of its open call, with the marks of the step.
     //    The oldest call that waits is opened next; if none waits, the automatic peer chooses. A
     //    turn of a storm is what its three draws say.
+    #[inline(always)]
     pub fn turn(&mut self, peer: u32) -> Result<(), NoMemory>
         requires { IsRunning self.old peer }
         ensures { OnOk result (Happens (TurnTaken peer) self.old self.new) }
@@ -182,7 +189,9 @@ impl Simulator {
     /// Takes `steps` turns of a peer.
     fn turns(&mut self, peer: u32, steps: u32) -> Result<(), NoMemory>
         requires { IsRunning self.old peer }
-        ensures { OnOk result ((world : World) (output : Output) (events : List Event) → IsPermittedEvent world (TurnTaken peer) → RunsTo world output events self.old → RunsTo world output (events ++ replicate steps (TurnTaken peer)) self.new) }
+        ensures { OnOk result ((world : World) (output : Output) (events : List Event) →
+            IsPermittedEvent world (TurnTaken peer) → RunsTo world output events self.old →
+            RunsTo world output (events ++ replicate steps (TurnTaken peer)) self.new) }
     {
         for _k in 0..steps {
             self.turn(peer)?;
@@ -206,7 +215,8 @@ impl Simulator {
     //    Simulator::read_msix, Simulator::write_msix, Simulator::lose, Simulator::repeat: An act
     //    makes exactly its events, and each event what the rules say of it.
     pub fn act(&mut self, act: &Act) -> Result<(), NoMemory>
-        requires { (world : World) × (output : Output) × (events : List Event) × RunsTo world output events self.old × IsAct world act.now × ((p : ℕ) → (history_state_after world events).losses p < 2 ^ 64 - 1) }
+        requires { (world : World) × (output : Output) × (events : List Event) × RunsTo world output events self.old
+            × IsAct world act.now × ((p : ℕ) → (history_state_after world events).losses p < 2 ^ 64 - 1) }
         ensures { OnOk result (PlaysAct act.now self.old self.new) }
     {
         match act {
@@ -284,7 +294,8 @@ impl Simulator {
     // claim on, lines with Simulator::lines, Simulator::into_lines, Simulator::reserve: Draining
     //    lines from the simulator changes no line that comes after them.
     pub fn drain(&mut self)
-        ensures on { (world : World) (output : Output) (events : List Event) → RunsTo world output events self.old → RunsTo world (given output (kept_lines self.old)) events self.new }
+        ensures on { (world : World) (output : Output) (events : List Event) → RunsTo world output events self.old →
+            RunsTo world (given output (kept_lines self.old)) events self.new }
         ensures lines { kept_lines self.new ≡ [] }
     {
         self.world_state.log.clear();

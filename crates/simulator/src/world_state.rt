@@ -26,9 +26,9 @@ use split_ring::steps::Access;
 pub struct WorldState {
     /// The words of the region.
     pub region: Region,
-    /// The devices of all peers.
-    pub device: Device,
-    /// The number of interrupts that are to be lost, for each of 8 peers.
+    /// The devices of all peers. They are boxed, so that a move of the state doesn't copy them.
+    pub device: Box<Device>,
+    /// The number of interrupts that will be lost, for each of 8 peers.
     pub unspent: [u64; 8],
     /// The lines.
     pub log: Log,
@@ -49,7 +49,8 @@ impl WorldState {
     /// Delivers one interrupt to its peer, or loses it.
     fn arrive_at(&mut self, delivery: &Delivery) -> Result<(), NoMemory>
         ensures after { InEachWorld self.old (λ world output past losses.
-            OnOk result (WorldStateAfter world output (delivery_line past losses delivery.now ∷ past) losses self.new)) }
+            OnOk result (WorldStateAfter world output
+            (delivery_line past losses delivery.now ∷ past) losses self.new)) }
         ensures seated { (me : ℕ) → HasPeer self.old me → HasPeer self.new me }
     {
         let Delivery { peer, vector } = *delivery;
@@ -64,7 +65,8 @@ impl WorldState {
     /// Delivers interrupts, in their order.
     fn arrive(&mut self, deliveries: &[Delivery]) -> Result<(), NoMemory>
         ensures after { InEachWorld self.old (λ world output past losses.
-            OnOk result (WorldStateAfter world output (reverse (delivery_lines past losses deliveries.now) ++ past) losses self.new)) }
+            OnOk result (WorldStateAfter world output
+            (reverse (delivery_lines past losses deliveries.now) ++ past) losses self.new)) }
         ensures seated { (me : ℕ) → HasPeer self.old me → HasPeer self.new me }
     {
         for delivery in deliveries {
@@ -79,7 +81,8 @@ impl WorldState {
         requires seated { HasPeer self.old me }
         requires inside { word < word_count self.old.region.shape }
         ensures after { InEachWorld self.old (λ world output past losses.
-            IfOk result (λ value. (value ≡ last_write past word) × WorldStateAfter world output (Line.Read me word value ∷ past) losses self.new)) }
+            IfOk result (λ value. (value ≡ last_write past word)
+            × WorldStateAfter world output (Line.Read me word value ∷ past) losses self.new)) }
         ensures seated { (q : ℕ) → HasPeer self.old q → HasPeer self.new q }
     {
         let value = match self.region.read(me, word) {
@@ -119,7 +122,9 @@ impl WorldState {
     pub fn poke(&mut self, me: u32, word: u32, value: u32) -> Result<(), NoMemory>
         requires { HasPeer self.old me }
         ensures after { InEachWorld self.old (λ world output past losses.
-            OnOk result (WorldStateAfter world output (reverse (region_access_lines me (Access.Write word value) (acted_step world me (Access.Write word value) past) []) ++ past) losses self.new)) }
+            OnOk result (WorldStateAfter world output
+            (reverse (region_access_lines me (Access.Write word value)
+            (acted_step world me (Access.Write word value) past) []) ++ past) losses self.new)) }
         ensures seated { (q : ℕ) → HasPeer self.old q → HasPeer self.new q }
     {
         match self.region.write(me, word, value) {
@@ -159,7 +164,8 @@ impl WorldState {
     pub fn set_state(&mut self, me: u32, value: u32) -> Result<(), NoMemory>
         requires { HasPeer self.old me }
         ensures after { InEachWorld self.old (λ world output past losses.
-            OnOk result (WorldStateAfter world output (reverse (line_with_interrupts world past losses (Line.State me value)) ++ past) losses self.new)) }
+            OnOk result (WorldStateAfter world output
+            (reverse (line_with_interrupts world past losses (Line.State me value)) ++ past) losses self.new)) }
         ensures seated { (q : ℕ) → HasPeer self.old q → HasPeer self.new q }
     {
         let effect = self.device.register_write(me, REGISTER_STATE, value);
@@ -173,7 +179,9 @@ impl WorldState {
         requires target { target < 2 ^ 16 }
         requires vector { vector < 2 ^ 16 }
         ensures after { InEachWorld self.old (λ world output past losses.
-            OnOk result (WorldStateAfter world output (reverse (line_with_interrupts world past losses (Line.Doorbell me target vector)) ++ past) losses self.new)) }
+            OnOk result (WorldStateAfter world output
+            (reverse (line_with_interrupts world past losses (Line.Doorbell me target vector)) ++ past)
+            losses self.new)) }
         ensures seated { (q : ℕ) → HasPeer self.old q → HasPeer self.new q }
     {
         let word = doorbell_word(target, vector);
@@ -191,7 +199,8 @@ impl WorldState {
     pub fn reset(&mut self, me: u32) -> Result<(), NoMemory>
         requires { HasPeer self.old me }
         ensures after { InEachWorld self.old (λ world output past losses.
-            OnOk result (WorldStateAfter world output (reverse (line_with_interrupts world past losses (Reset me)) ++ past) losses self.new)) }
+            OnOk result (WorldStateAfter world output
+            (reverse (line_with_interrupts world past losses (Reset me)) ++ past) losses self.new)) }
         ensures seated { (q : ℕ) → HasPeer self.old q → HasPeer self.new q }
     {
         let effect = self.device.reset(me);
@@ -206,7 +215,9 @@ impl WorldState {
         requires seated { HasPeer self.old me }
         requires can { CanPerform self.old me access }
         ensures after { InEachWorld self.old (λ world output past losses.
-            IfOk result (λ value. GaveLast past access value × WorldStateAfter world output (reverse (accessed world past losses me access value) ++ past) losses self.new)) }
+            IfOk result (λ value. GaveLast past access value
+            × WorldStateAfter world output
+            (reverse (accessed world past losses me access value) ++ past) losses self.new)) }
         ensures seated { (q : ℕ) → HasPeer self.old q → HasPeer self.new q }
     {
         match access {

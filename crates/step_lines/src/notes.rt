@@ -13,6 +13,7 @@ use std::alloc::Global;
 /// Returns the line of a note of peer `me`, whose endpoint `end` completed the step. Returns
 /// `NoMemory` if the allocation for the copy of a frame fails.
 // claim: The line of a note is that of its mark, with the frame offered or delivered.
+#[inline(always)]
 pub fn line_of(alloc: Global, me: u32, end: &Endpoint, note: Note) -> Result<Line, NoMemory>
     ensures { IfOk result (λ line. line ≡ mark_line me (mark_between (offered end.now) (delivered end.now) note)) }
 {

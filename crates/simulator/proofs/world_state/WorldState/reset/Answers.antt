@@ -10,11 +10,11 @@ use Rattle.simulator.proofs.world_state.WorldState.reset.Goals as goal
 pub returns-clause-after : goal.returns-clause-after
 returns-clause-after c = λ world output past losses after.
     let line = Reset c.args.me in
-    let effect = c.reset-effect.ensures.effect (devices_of world) (device_events past) after.devices in
+    let effect = c.reset-effect.ensures.effect (devices_of world) (device_events past) (rw c.deref_mut.ensures.value after.devices) in
     let region = c.record_line.ensures.region ∙ ap (λ e. with_state c.args.self.now.region c.args.me e.state) effect in
     let recorded = recorded_after world output past losses c.args.self.now c.record_line.new.self line _ after refl (λ p. refl) refl
     (rw region (reset_words c.args.self.now.region.words past c.args.me after.words))
-    (ap (λ r. r.shape) region) (rw c.record_line.ensures.device (c.reset-effect.ensures.refines (devices_of world) (device_events past) after.devices))
+    (ap (λ r. r.shape) region) (rw c.record_line.ensures.device (c.reset-effect.ensures.refines (devices_of world) (device_events past) (rw c.deref_mut.ensures.value after.devices)))
     c.record_line.ensures.unspent c.in_ok-deliveries.ensures.log in
     let brings : BringsBy world past (device_event_of line) c.as_slice.result.now =
     c.as_slice.ensures.value ∙ ap (λ ds. ds.items) c.in_ok-deliveries.ensures.deliveries ∙ ap (λ e. e.deliveries.items) effect in

@@ -14,10 +14,10 @@ pub returns-clause-after : goal.returns-clause-after
 returns-clause-after c = λ world output past losses after.
     let line = Doorbell c.args.me c.args.target c.args.vector in
     let events = device_events past in
-    let effect = c.register_write-effect.ensures.effect (devices_of world) events after.devices
+    let effect = c.register_write-effect.ensures.effect (devices_of world) events (rw c.deref_mut.ensures.value after.devices)
     ∙ ap (λ word. effect_of (devices_of world) events (RegisterWritten c.args.me doorbell_register word)) c.doorbell_word-word.ensures in
     let refines = subst (λ word. Refines (devices_of world) (RegisterWritten c.args.me doorbell_register word ∷ events) c.register_write-effect.new.self)
-    c.doorbell_word-word.ensures (c.register_write-effect.ensures.refines (devices_of world) events after.devices) in
+    c.doorbell_word-word.ensures (c.register_write-effect.ensures.refines (devices_of world) events (rw c.deref_mut.ensures.value after.devices)) in
     let region = c.record_line.ensures.region ∙ ap (λ e. with_state c.args.self.now.region c.args.me e.state) effect in
     let recorded = recorded_after world output past losses c.args.self.now c.record_line.new.self line _ after refl (λ p. refl) refl
     (rw region after.words)

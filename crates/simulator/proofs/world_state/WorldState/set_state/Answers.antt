@@ -10,11 +10,11 @@ use Rattle.simulator.proofs.world_state.WorldState.set_state.Goals as goal
 pub returns-clause-after : goal.returns-clause-after
 returns-clause-after c = λ world output past losses after.
     let line = State c.args.me c.args.value in
-    let effect = c.register_write-effect.ensures.effect (devices_of world) (device_events past) after.devices in
+    let effect = c.register_write-effect.ensures.effect (devices_of world) (device_events past) (rw c.deref_mut.ensures.value after.devices) in
     let region = c.record_line.ensures.region ∙ ap (λ e. with_state c.args.self.now.region c.args.me e.state) effect in
     let recorded = recorded_after world output past losses c.args.self.now c.record_line.new.self line _ after refl (λ p. refl) refl
     (rw region (state_words c.args.self.now.region.words past c.args.me c.args.value after.words))
-    (ap (λ r. r.shape) region) (rw c.record_line.ensures.device (c.register_write-effect.ensures.refines (devices_of world) (device_events past) after.devices))
+    (ap (λ r. r.shape) region) (rw c.record_line.ensures.device (c.register_write-effect.ensures.refines (devices_of world) (device_events past) (rw c.deref_mut.ensures.value after.devices)))
     c.record_line.ensures.unspent c.in_ok-deliveries.ensures.log in
     let brings : BringsBy world past (device_event_of line) c.as_slice.result.now =
     c.as_slice.ensures.value ∙ ap (λ ds. ds.items) c.in_ok-deliveries.ensures.deliveries ∙ ap (λ e. e.deliveries.items) effect in

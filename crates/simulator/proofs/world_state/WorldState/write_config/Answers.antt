@@ -8,5 +8,5 @@ use Rattle.simulator.proofs.world_state.WorldState.write_config.Goals as goal
 pub returns-clause-after : goal.returns-clause-after
 returns-clause-after c = λ world output past losses after.
     on_ok_weaker c.push.result (λ put. recorded_after world output past losses c.args.self.now _ (ConfigWrite c.args.me c.args.offset c.args.width c.args.value) _ after refl (λ p. refl) refl after.words refl
-    (c.in-Ok.ensures.written (devices_of world) (device_events past) after.devices) refl put)
+    (c.in-Ok.ensures.written (devices_of world) (device_events past) (rw c.deref_mut.ensures.value after.devices)) refl put)
     c.push.ensures

@@ -7,5 +7,5 @@ use Rattle.simulator.proofs.world_state.WorldState.write_register.Goals as goal
 
 pub returns-clause-after : goal.returns-clause-after
 returns-clause-after c = λ world output past losses after.
-    on_ok_weaker c.push.result (λ put. recorded_after world output past losses c.args.self.now _ (RegisterWrite c.args.me c.args.offset c.args.value) _ after refl (λ p. refl) refl after.words refl (c.register_write.ensures.refines (devices_of world) (device_events past) after.devices) refl put)
+    on_ok_weaker c.push.result (λ put. recorded_after world output past losses c.args.self.now _ (RegisterWrite c.args.me c.args.offset c.args.value) _ after refl (λ p. refl) refl after.words refl (c.register_write.ensures.refines (devices_of world) (device_events past) (rw c.deref_mut.ensures.value after.devices)) refl put)
     c.push.ensures

@@ -226,13 +226,14 @@ impl<E: MsixTable + Drop> PeerDevice<E> {
         if !self.connected || !self.is_enabled() || !self.lets_through(wiring, vector) {
             return None;
         }
+        let reported = match wiring {
+            Wiring::Msix(_) => vector,
+            Wiring::Intx => 0,
+        };
         if self.is_one_shot() {
             let _ = self.page.write(INTERRUPT_CONTROL, 4, 0);
         }
-        Some(match wiring {
-            Wiring::Msix(_) => vector,
-            Wiring::Intx => 0,
-        })
+        Some(reported)
     }
 
     /// Returns which doorbells this peer's registers let through.

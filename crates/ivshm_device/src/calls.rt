@@ -11,7 +11,7 @@ use crate::crossing::{
 use crate::device_state::DeviceState;
 use crate::peer_devices::PeerDevices;
 use crate::status::{Status, geometry_status};
-use crate::window::{read_window, window_of, write_window};
+use crate::window::{REGISTER_PAGE, low_word, read_window, window_of, write_window};
 use doorbell_irq::REGISTER_DOORBELL;
 use pci_space::{RegionPlace, Wiring};
 use section_map::Geometry;
@@ -291,6 +291,10 @@ pub(crate) fn window_write(
     }
     if !is_width(access.width) {
         return Status::BadAccess;
+    }
+    if access.window == REGISTER_PAGE && access.width == 4 {
+        let word = low_word(access.value);
+        return register_write(state, peer, access.offset, word, crossed);
     }
     let window = window_of(access.window);
     let effect = write_window(

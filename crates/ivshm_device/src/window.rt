@@ -15,6 +15,9 @@ use crate::peer_devices::PeerDevices;
 use arrayvec::ArrayVec;
 use doorbell_irq::Effect;
 
+/// The number of the register page's window in C.
+pub(crate) const REGISTER_PAGE: u32 = 1;
+
 /// A window of a peer's device.
 #[derive(Clone, Copy, Debug, PartialEq, Eq)]
 pub(crate) enum Window {
@@ -32,13 +35,13 @@ pub(crate) fn window_of(number: u32) -> Window
 {
     match number {
         0 => Window::ConfigSpace,
-        1 => Window::RegisterPage,
+        REGISTER_PAGE => Window::RegisterPage,
         _ => Window::MsixRegion,
     }
 }
 
 /// Returns the lower word of a value.
-fn low_word(value: u64) -> u32
+pub(crate) fn low_word(value: u64) -> u32
     ensures { result ≡ low_word value }
 {
     (value % 0x1_0000_0000) as u32

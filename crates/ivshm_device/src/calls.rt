@@ -130,6 +130,7 @@ pub(crate) fn register_read(state: &DeviceState, peer: u32, offset: u32, value: 
 }
 
 /// Writes a register.
+#[inline(always)]
 pub(crate) fn register_write(
     state: &mut DeviceState,
     peer: u32,

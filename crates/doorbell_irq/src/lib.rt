@@ -17,9 +17,9 @@
 //!   (`MsixTable`). The calls of a whole device are functions over a slice of peer devices
 //!   (`peers`). `Device` has an array of 8 peer devices with 64 vectors each. `ivshm_device` stores
 //!   exactly the peers and vectors of its world.
-//! - A doorbell triggers its target alone, and needs no list of deliveries (`peers::ring`). One loop
-//!   over the peers gives the deliveries of State writes, resets and disconnections, in ascending
-//!   order.
+//! - A doorbell triggers its target alone, and needs no list of deliveries (`peers::ring`). For
+//!   State writes, resets and disconnections one loop over the peers gives the deliveries, in
+//!   ascending order.
 //! - `connect` is a reset that triggers no peer. Call it after `disconnect`.
 //! - The view of a device is the registers of its peers. It is public because another crate that
 //!   has a device in a variable needs the types of the view.

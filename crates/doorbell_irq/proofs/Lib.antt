@@ -5,6 +5,8 @@ pub mod Devices
 pub mod EventKinds
 pub mod EntryWrites
 pub mod NoDelivery
+pub mod OneTarget
+pub mod Doorbells
 pub mod NextPeer
 pub mod PlainRules
 pub mod RouteBits

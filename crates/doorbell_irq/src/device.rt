@@ -5,8 +5,8 @@ ghost use Rattle.pci_space.specs.Fields.{is_access};
 ghost use Rattle.pci_space.specs.Wiring.{IsWiring};
 ghost use Rattle.pci_space.specs.Place.{usual_place};
 ghost use Rattle.doorbell_irq.specs.Events.{Devices, Event, ConfigWritten, RegisterWritten, MsixWritten, WasReset, WasDisconnected, WasConnected, Config, vector_count};
-ghost use Rattle.doorbell_irq.specs.DeviceRules.{bytes_after, effect_of, register_at, msix_at};
-ghost use Rattle.doorbell_irq.specs.Refinement.{Refines, peer_count};
+ghost use Rattle.doorbell_irq.specs.DeviceRules.{bytes_after, register_at, msix_at};
+ghost use Rattle.doorbell_irq.specs.Refinement.{Refines, Adds, HasEffect, peer_count};
 ghost use Rattle.doorbell_irq.specs.Registers.{IsPeer};
 ghost use Rattle.doorbell_irq.specs.Routes.{IsRoute};
 
@@ -130,7 +130,8 @@ impl Device {
     // claim: A register reads as the events up to now left it.
     pub fn register_read(&self, peer: u32, offset: u32) -> u32
         requires { peer < peer_count self.now }
-        ensures { (w : Devices) (events : List Event) → Refines w events self.now → result ≡ register_at (bytes_after w events peer) offset }
+        ensures { (w : Devices) (events : List Event) → Refines w events self.now →
+            result ≡ register_at (bytes_after w events peer) offset }
     {
         peers::register_read(&self.registers[..], self.peers, self.wiring, peer, offset)
     }
@@ -145,8 +146,8 @@ impl Device {
     //    Deliveries come in ascending order of peer.
     pub fn register_write(&mut self, peer: u32, offset: u32, value: u32) -> Effect
         requires { peer < peer_count self.old }
-        ensures effect { (w : Devices) (events : List Event) → Refines w events self.old → result ≡ effect_of w events (RegisterWritten peer offset value) }
-        ensures refines { (w : Devices) (events : List Event) → Refines w events self.old → Refines w (RegisterWritten peer offset value ∷ events) self.new }
+        ensures effect { HasEffect self.old (RegisterWritten peer offset value) result }
+        ensures refines { Adds (RegisterWritten peer offset value) self.old self.new }
         ensures peers { peer_count self.new ≡ peer_count self.old }
     {
         peers::register_write(
@@ -175,7 +176,8 @@ impl Device {
     //    entries, and nothing else.
     pub fn msix_read(&self, peer: u32, offset: u32) -> u32
         requires { peer < peer_count self.now }
-        ensures { (w : Devices) (events : List Event) → Refines w events self.now → result ≡ msix_at w.wiring (bytes_after w events peer) offset }
+        ensures { (w : Devices) (events : List Event) → Refines w events self.now →
+            result ≡ msix_at w.wiring (bytes_after w events peer) offset }
     {
         peers::msix_read(&self.registers[..], self.peers, self.wiring, peer, offset)
     }
@@ -183,7 +185,7 @@ impl Device {
     /// Writes an aligned word of a peer's MSI-X table. A write at every other offset is ignored.
     pub fn msix_write(&mut self, peer: u32, offset: u32, value: u32)
         requires { peer < peer_count self.old }
-        ensures refines { (w : Devices) (events : List Event) → Refines w events self.old → Refines w (MsixWritten peer offset value ∷ events) self.new }
+        ensures refines { Adds (MsixWritten peer offset value) self.old self.new }
         ensures peers { peer_count self.new ≡ peer_count self.old }
     {
         peers::msix_write(
@@ -203,8 +205,8 @@ impl Device {
     //    the others if the State changes.
     pub fn reset(&mut self, peer: u32) -> Effect
         requires { peer < peer_count self.old }
-        ensures effect { (w : Devices) (events : List Event) → Refines w events self.old → result ≡ effect_of w events (WasReset peer) }
-        ensures refines { (w : Devices) (events : List Event) → Refines w events self.old → Refines w (WasReset peer ∷ events) self.new }
+        ensures effect { HasEffect self.old (WasReset peer) result }
+        ensures refines { Adds (WasReset peer) self.old self.new }
         ensures peers { peer_count self.new ≡ peer_count self.old }
     {
         peers::reset(&mut self.registers[..], self.peers, self.wiring, peer)
@@ -215,8 +217,8 @@ impl Device {
     //    peer.
     pub fn disconnect(&mut self, peer: u32) -> Effect
         requires { peer < peer_count self.old }
-        ensures effect { (w : Devices) (events : List Event) → Refines w events self.old → result ≡ effect_of w events (WasDisconnected peer) }
-        ensures refines { (w : Devices) (events : List Event) → Refines w events self.old → Refines w (WasDisconnected peer ∷ events) self.new }
+        ensures effect { HasEffect self.old (WasDisconnected peer) result }
+        ensures refines { Adds (WasDisconnected peer) self.old self.new }
         ensures peers { peer_count self.new ≡ peer_count self.old }
     {
         peers::disconnect(&mut self.registers[..], self.peers, self.wiring, peer)
@@ -226,7 +228,7 @@ impl Device {
     /// already.
     pub fn connect(&mut self, peer: u32)
         requires { peer < peer_count self.old }
-        ensures refines { (w : Devices) (events : List Event) → Refines w events self.old → Refines w (WasConnected peer ∷ events) self.new }
+        ensures refines { Adds (WasConnected peer) self.old self.new }
         ensures peers { peer_count self.new ≡ peer_count self.old }
     {
         peers::connect(&mut self.registers[..], self.peers, self.wiring, peer);

@@ -10,7 +10,8 @@ use pci_space::Space;
 pub fn write_at(entries: &mut [Space<4, 16>], n: u32, offset: u16, value: u32)
     requires { IsTrue (is_access 16 offset 4) }
     ensures count { length entries.new ≡ length entries.old }
-    ensures written { (k : ℕ) (before after : Contents) → slice_get entries.old k ≡ Some before → slice_get entries.new k ≡ Some after →
+    ensures written { (k : ℕ) (before after : Contents) → slice_get entries.old k ≡ Some before →
+        slice_get entries.new k ≡ Some after →
         IsWritten (if n == k then Some (record { offset = offset; width = 4; value = value }) else None) before after }
 {
     if (n as usize) < entries.len() {
@@ -21,7 +22,8 @@ pub fn write_at(entries: &mut [Space<4, 16>], n: u32, offset: u16, value: u32)
 /// Sets every entry of a slice to its reset values.
 pub fn reset_all(entries: &mut [Space<4, 16>])
     ensures count { length entries.new ≡ length entries.old }
-    ensures reset { (k : ℕ) (before after : Contents) → slice_get entries.old k ≡ Some before → slice_get entries.new k ≡ Some after → IsSpaceReset before after }
+    ensures reset { (k : ℕ) (before after : Contents) → slice_get entries.old k ≡ Some before →
+        slice_get entries.new k ≡ Some after → IsSpaceReset before after }
 {
     for entry in entries.iter_mut() {
         entry.reset();

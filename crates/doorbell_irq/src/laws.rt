@@ -13,7 +13,8 @@ ghost use Rattle.doorbell_irq.specs.Routes.{IsRoute, bit_rung};
 pub fn state_is_what_was_written()
     ensures written { (w : Devices) (events : List Event) (peer value : ℕ) → value < 2 ^ 32 →
         state_in (bytes_after w (RegisterWritten peer state_register value ∷ events) peer) ≡ value }
-    ensures reset { (w : Devices) (events : List Event) (peer : ℕ) → state_in (bytes_after w (WasReset peer ∷ events) peer) ≡ 0 }
+    ensures reset { (w : Devices) (events : List Event) (peer : ℕ) →
+        state_in (bytes_after w (WasReset peer ∷ events) peer) ≡ 0 }
 {}
 
 /// A delivery to a peer in one-shot mode disables its interrupts. This function is that law.
@@ -40,7 +41,8 @@ pub fn doorbell_words_have_two_halves()
 // claim: A peer's route determines what each doorbell delivers to it: the bit of its vector,
 //    exactly if interrupts are enabled and that bit of the route is set.
 pub fn routes_decide_deliveries()
-    ensures { (w : Devices) (events : List Event) (source peer vector : ℕ) (route : Route) → IsWiring w.wiring → vector < 2 ^ 16 →
+    ensures { (w : Devices) (events : List Event) (source peer vector : ℕ) (route : Route) → IsWiring w.wiring →
+        vector < 2 ^ 16 →
         IsRoute w events peer route →
         delivery_of w.wiring (is_connected events) (bytes_after w events) (RegisterWritten source doorbell_register (doorbell_word peer vector)) peer
         ≡ bit_rung route vector }
@@ -55,7 +57,8 @@ pub fn routes_decide_deliveries()
 // claim: Peers' devices in processes of their own, each of which takes exactly what a register
 //    write of the source triggers, are after the write as the device of all peers is.
 pub fn peers_apart_are_the_device()
-    ensures { (w : Devices) (events : List Event) (source peer offset value : ℕ) (own before after : Registers) → peer ≢ source →
+    ensures { (w : Devices) (events : List Event) (source peer offset value : ℕ) (own before after : Registers) →
+        peer ≢ source →
         IsPeer w events source own → IsPeer w events peer before →
         Takes w.wiring (register_vector (state_in (register_bytes own)) source offset value peer) before after →
         IsPeer w (RegisterWritten source offset value ∷ events) peer after

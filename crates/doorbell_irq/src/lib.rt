@@ -13,12 +13,13 @@
 //!   value of the newest event that wrote it. The code has arrays.
 //! - The register page and an MSI-X entry are field tables, like the configuration space. One rule
 //!   serves all three.
-//! - `PeerDevice` is the device of one peer, generic in the store of its MSI-X table (`MsixTable`).
-//!   The calls of a whole device are functions over a slice of peer devices (`peers`). `Device` has
-//!   an array of 8 peer devices with 64 vectors each. `ivshm_device` stores exactly the peers and
-//!   vectors of its world.
-//! - One loop over the peers gives the deliveries of doorbells, State writes, resets and
-//!   disconnections, in ascending order.
+//! - `PeerDevice` is the device of one peer, generic in where its MSI-X table is stored
+//!   (`MsixTable`). The calls of a whole device are functions over a slice of peer devices
+//!   (`peers`). `Device` has an array of 8 peer devices with 64 vectors each. `ivshm_device` stores
+//!   exactly the peers and vectors of its world.
+//! - A doorbell triggers its target alone, and needs no list of deliveries (`peers::ring`). For
+//!   State writes, resets and disconnections one loop over the peers gives the deliveries, in
+//!   ascending order.
 //! - `connect` is a reset that triggers no peer. Call it after `disconnect`.
 //! - The view of a device is the registers of its peers. It is public because another crate that
 //!   has a device in a variable needs the types of the view.

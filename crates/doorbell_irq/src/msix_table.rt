@@ -29,12 +29,14 @@ pub trait MsixTable {
     fn write(&mut self, n: u32, offset: u16, value: u32)
         requires { IsTrue (is_access 16 offset 4) }
         ensures count { length (entries self.new) ≡ length (entries self.old) }
-        ensures written { (k : ℕ) (before after : Contents) → slice_get (entries self.old) k ≡ Some before → slice_get (entries self.new) k ≡ Some after →
+        ensures written { (k : ℕ) (before after : Contents) → slice_get (entries self.old) k ≡ Some before →
+            slice_get (entries self.new) k ≡ Some after →
             IsWritten (if n == k then Some (record { offset = offset; width = 4; value = value }) else None) before after };
 
     /// Sets every entry to its reset values.
     fn reset(&mut self)
         ensures count { length (entries self.new) ≡ length (entries self.old) }
-        ensures reset { (k : ℕ) (before after : Contents) → slice_get (entries self.old) k ≡ Some before → slice_get (entries self.new) k ≡ Some after →
+        ensures reset { (k : ℕ) (before after : Contents) → slice_get (entries self.old) k ≡ Some before →
+            slice_get (entries self.new) k ≡ Some after →
             IsSpaceReset before after };
 }

@@ -4,18 +4,19 @@
 ghost use Rattle.std.specs.Prelude.{◌≡◌, ◌<◌, ◌≤◌, ◌↔◌, ℕ, List, ◌∷◌, IsOk, IsTrue, IfOk, IfErr, OnOk, length};
 ghost use Rattle.pci_space.specs.Numbers.{number_from};
 ghost use Rattle.pci_space.specs.Fields.{is_access};
-ghost use Rattle.doorbell_irq.specs.Events.{Devices, Event, ConfigWritten, RegisterWritten, MsixWritten, WasReset, WasDisconnected, WasConnected, Config};
-ghost use Rattle.doorbell_irq.specs.DeviceRules.{bytes_after, effect_of, reset_event, register_at, msix_at};
+ghost use Rattle.doorbell_irq.specs.Events.{Devices, Event, ConfigWritten, RegisterWritten, MsixWritten, WasReset, WasDisconnected, WasConnected, Config, doorbell_register};
+ghost use Rattle.doorbell_irq.specs.DeviceRules.{bytes_after, reset_event, register_at, msix_at};
 ghost use Rattle.doorbell_irq.specs.DeviceView.{IsDeviceView};
-ghost use Rattle.doorbell_irq.specs.Refinement.{Refines, among};
+ghost use Rattle.doorbell_irq.specs.Refinement.{Refines, Adds, HasEffect, among};
 ghost use Rattle.doorbell_irq.specs.Routes.{IsRoute};
+ghost use Rattle.doorbell_irq.specs.Triggers.{doorbell_effect};
 
-use crate::doorbell::REGISTER_STATE;
-use crate::effect::Effect;
+use crate::doorbell::{REGISTER_STATE, doorbell_target, doorbell_vector};
+use crate::effect::{Delivery, Effect};
 use crate::msix_table::MsixTable;
 use crate::registers::PeerDevice;
 use crate::route::Route;
-use crate::trigger::deliver;
+use crate::trigger::{deliver, deliver_at};
 use pci_space::{BadAccess, Wiring};
 
 /// Reads a peer's configuration space.
@@ -59,7 +60,8 @@ pub fn config_write<E: MsixTable + Drop>(
     ensures allowed { IsOk result ↔ IsTrue (is_access 256 offset width) }
     ensures written { (w : Devices) (events : List Event) → Refines w events (among peers wiring registers.old) →
         OnOk result (Refines w (ConfigWritten peer offset width value ∷ events) (among peers wiring registers.new)) }
-    ensures refused { IfErr result (λ e. (e ≡ record { offset = offset; width = width }) × (registers.new ≡ registers.old)) }
+    ensures refused { IfErr result
+        (λ e. (e ≡ record { offset = offset; width = width }) × (registers.new ≡ registers.old)) }
     ensures count { length registers.new ≡ length registers.old }
 {
     registers[peer as usize].write_config(offset, width, value)
@@ -76,7 +78,8 @@ pub fn register_read<E: MsixTable + Drop>(
     requires sound { IsDeviceView (among peers wiring registers.now) }
     requires count { peers ≤ length registers.now }
     requires inside { peer < peers }
-    ensures { (w : Devices) (events : List Event) → Refines w events (among peers wiring registers.now) → result ≡ register_at (bytes_after w events peer) offset }
+    ensures { (w : Devices) (events : List Event) → Refines w events (among peers wiring registers.now) →
+        result ≡ register_at (bytes_after w events peer) offset }
 {
     registers[peer as usize].read_register(offset)
 }
@@ -85,12 +88,13 @@ pub fn register_read<E: MsixTable + Drop>(
 ///
 /// Interrupt Control and State store the value, and the Doorbell triggers its target. A write at
 /// every other offset is ignored.
-// claim effect, refines, count with config_read.allowed, config_read.value, config_read.refused,
-//    config_write.allowed, config_write.written, config_write.refused, config_write.count,
-//    register_read, route, msix_read, msix_write.refines, msix_write.count, reset.effect,
-//    reset.refines, reset.count, disconnect.effect, disconnect.refines, disconnect.count,
-//    connect.refines, connect.count: A slice of peers' devices of any length answers each call as
-//    `Device` does: by the device's rules over all events before it. The number of peers stays.
+// claim effect, refines, count with config_read.allowed, config_read.value,
+//    config_read.refused, config_write.allowed, config_write.written, config_write.refused,
+//    config_write.count, register_read, ring.effect, ring.refines, ring.count, route, msix_read,
+//    msix_write.refines, msix_write.count, reset.effect, reset.refines, reset.count,
+//    disconnect.effect, disconnect.refines, disconnect.count, connect.refines, connect.count: A
+//    slice of peers' devices of any length answers each call as `Device` does: by the device's
+//    rules over all events before it. The number of peers stays.
 #[inline(always)]
 pub fn register_write<E: MsixTable + Drop>(
     registers: &mut [PeerDevice<E>],
@@ -103,8 +107,9 @@ pub fn register_write<E: MsixTable + Drop>(
     requires sound { IsDeviceView (among peers wiring registers.old) }
     requires count { peers ≤ length registers.old }
     requires inside { peer < peers }
-    ensures effect { (w : Devices) (events : List Event) → Refines w events (among peers wiring registers.old) → result ≡ effect_of w events (RegisterWritten peer offset value) }
-    ensures refines { (w : Devices) (events : List Event) → Refines w events (among peers wiring registers.old) → Refines w (RegisterWritten peer offset value ∷ events) (among peers wiring registers.new) }
+    ensures effect { HasEffect (among peers wiring registers.old) (RegisterWritten peer offset value) result }
+    ensures refines { Adds (RegisterWritten peer offset value)
+        (among peers wiring registers.old) (among peers wiring registers.new) }
     ensures count { length registers.new ≡ length registers.old }
 {
     let trigger = registers[peer as usize].write_register(peer, offset, value);
@@ -112,6 +117,33 @@ pub fn register_write<E: MsixTable + Drop>(
         state: (offset == REGISTER_STATE).then_some(value),
         deliveries: deliver(registers, peers, wiring, trigger),
     }
+}
+
+/// Writes a word to the Doorbell of a peer. Returns the delivery to its target, if there is one.
+///
+/// The effect is that of `register_write`, whatever peer the source is.
+#[inline(always)]
+pub fn ring<E: MsixTable + Drop>(
+    registers: &mut [PeerDevice<E>],
+    peers: u32,
+    wiring: Wiring,
+    word: u32,
+) -> Option<Delivery>
+    requires sound { IsDeviceView (among peers wiring registers.old) }
+    requires count { peers ≤ length registers.old }
+    ensures effect { (source : ℕ) → source < peers →
+        HasEffect (among peers wiring registers.old) (RegisterWritten source doorbell_register word) (doorbell_effect result) }
+    ensures refines { (source : ℕ) → source < peers →
+        Adds (RegisterWritten source doorbell_register word) (among peers wiring registers.old) (among peers wiring registers.new) }
+    ensures count { length registers.new ≡ length registers.old }
+{
+    deliver_at(
+        registers,
+        peers,
+        wiring,
+        doorbell_target(word),
+        doorbell_vector(word),
+    )
 }
 
 /// Returns which doorbells a peer's registers let through.
@@ -124,7 +156,8 @@ pub fn route<E: MsixTable + Drop>(
     requires sound { IsDeviceView (among peers wiring registers.now) }
     requires count { peers ≤ length registers.now }
     requires inside { peer < peers }
-    ensures { (w : Devices) (events : List Event) → Refines w events (among peers wiring registers.now) → IsRoute w events peer result }
+    ensures { (w : Devices) (events : List Event) → Refines w events (among peers wiring registers.now) →
+        IsRoute w events peer result }
 {
     registers[peer as usize].route(wiring)
 }
@@ -140,7 +173,8 @@ pub fn msix_read<E: MsixTable + Drop>(
     requires sound { IsDeviceView (among peers wiring registers.now) }
     requires count { peers ≤ length registers.now }
     requires inside { peer < peers }
-    ensures { (w : Devices) (events : List Event) → Refines w events (among peers wiring registers.now) → result ≡ msix_at w.wiring (bytes_after w events peer) offset }
+    ensures { (w : Devices) (events : List Event) → Refines w events (among peers wiring registers.now) →
+        result ≡ msix_at w.wiring (bytes_after w events peer) offset }
 {
     registers[peer as usize].read_entry(wiring, offset)
 }
@@ -157,7 +191,8 @@ pub fn msix_write<E: MsixTable + Drop>(
     requires sound { IsDeviceView (among peers wiring registers.old) }
     requires count { peers ≤ length registers.old }
     requires inside { peer < peers }
-    ensures refines { (w : Devices) (events : List Event) → Refines w events (among peers wiring registers.old) → Refines w (MsixWritten peer offset value ∷ events) (among peers wiring registers.new) }
+    ensures refines { Adds (MsixWritten peer offset value)
+        (among peers wiring registers.old) (among peers wiring registers.new) }
     ensures count { length registers.new ≡ length registers.old }
 {
     registers[peer as usize].write_entry(wiring, offset, value);
@@ -175,8 +210,8 @@ pub fn reset<E: MsixTable + Drop>(
     requires sound { IsDeviceView (among peers wiring registers.old) }
     requires count { peers ≤ length registers.old }
     requires inside { peer < peers }
-    ensures effect { (w : Devices) (events : List Event) → Refines w events (among peers wiring registers.old) → result ≡ effect_of w events (WasReset peer) }
-    ensures refines { (w : Devices) (events : List Event) → Refines w events (among peers wiring registers.old) → Refines w (WasReset peer ∷ events) (among peers wiring registers.new) }
+    ensures effect { HasEffect (among peers wiring registers.old) (WasReset peer) result }
+    ensures refines { Adds (WasReset peer) (among peers wiring registers.old) (among peers wiring registers.new) }
     ensures count { length registers.new ≡ length registers.old }
 {
     reset_by(registers, peers, wiring, peer, false)
@@ -192,8 +227,9 @@ pub fn disconnect<E: MsixTable + Drop>(
     requires sound { IsDeviceView (among peers wiring registers.old) }
     requires count { peers ≤ length registers.old }
     requires inside { peer < peers }
-    ensures effect { (w : Devices) (events : List Event) → Refines w events (among peers wiring registers.old) → result ≡ effect_of w events (WasDisconnected peer) }
-    ensures refines { (w : Devices) (events : List Event) → Refines w events (among peers wiring registers.old) → Refines w (WasDisconnected peer ∷ events) (among peers wiring registers.new) }
+    ensures effect { HasEffect (among peers wiring registers.old) (WasDisconnected peer) result }
+    ensures refines { Adds (WasDisconnected peer)
+        (among peers wiring registers.old) (among peers wiring registers.new) }
     ensures count { length registers.new ≡ length registers.old }
 {
     reset_by(registers, peers, wiring, peer, true)
@@ -210,8 +246,9 @@ fn reset_by<E: MsixTable + Drop>(
     requires sound { IsDeviceView (among peers wiring registers.old) }
     requires count { peers ≤ length registers.old }
     requires inside { peer < peers }
-    ensures effect { (w : Devices) (events : List Event) → Refines w events (among peers wiring registers.old) → result ≡ effect_of w events (reset_event disconnects peer) }
-    ensures refines { (w : Devices) (events : List Event) → Refines w events (among peers wiring registers.old) → Refines w (reset_event disconnects peer ∷ events) (among peers wiring registers.new) }
+    ensures effect { HasEffect (among peers wiring registers.old) (reset_event disconnects peer) result }
+    ensures refines { Adds (reset_event disconnects peer)
+        (among peers wiring registers.old) (among peers wiring registers.new) }
     ensures count { length registers.new ≡ length registers.old }
 {
     let trigger = registers[peer as usize].reset(peer, disconnects);
@@ -231,7 +268,7 @@ pub fn connect<E: MsixTable + Drop>(
     requires sound { IsDeviceView (among peers wiring registers.old) }
     requires count { peers ≤ length registers.old }
     requires inside { peer < peers }
-    ensures refines { (w : Devices) (events : List Event) → Refines w events (among peers wiring registers.old) → Refines w (WasConnected peer ∷ events) (among peers wiring registers.new) }
+    ensures refines { Adds (WasConnected peer) (among peers wiring registers.old) (among peers wiring registers.new) }
     ensures count { length registers.new ≡ length registers.old }
 {
     registers[peer as usize].connect();

@@ -69,7 +69,8 @@ impl<E: MsixTable + Drop> PeerDevice<E> {
     pub fn new(geometry: &Geometry, wiring: Wiring, peer: u32, entries: E) -> PeerDevice<E>
         requires wired { IsWiring wiring }
         requires count { vector_count wiring ≤ length (E.entries entries) }
-        requires reset { (n : ℕ) (entry : Contents) → slice_get (E.entries entries) n ≡ Some entry → IsEntryAtReset entry }
+        requires reset { (n : ℕ) (entry : Contents) → slice_get (E.entries entries) n ≡ Some entry →
+            IsEntryAtReset entry }
         ensures { IsPeer (record { shape = geometry.now; wiring = wiring; region = usual_place }) [] peer result }
     {
         PeerDevice::placed(geometry, wiring, RegionPlace::usual(), peer, entries)
@@ -87,7 +88,8 @@ impl<E: MsixTable + Drop> PeerDevice<E> {
         requires wired { IsWiring wiring }
         requires placed { IsRegionPlace region }
         requires count { vector_count wiring ≤ length (E.entries entries) }
-        requires reset { (n : ℕ) (entry : Contents) → slice_get (E.entries entries) n ≡ Some entry → IsEntryAtReset entry }
+        requires reset { (n : ℕ) (entry : Contents) → slice_get (E.entries entries) n ≡ Some entry →
+            IsEntryAtReset entry }
         ensures { IsPeer (record { shape = geometry.now; wiring = wiring; region = region }) [] peer result }
     {
         PeerDevice {
@@ -102,7 +104,8 @@ impl<E: MsixTable + Drop> PeerDevice<E> {
     /// State triggers.
     pub(crate) fn reset(&mut self, peer: u32, disconnects: bool) -> Trigger
         ensures reset { IsReset self.old (if disconnects then false else self.old.connected) self.new }
-        ensures triggers { (other : ℕ) → vector_at result other ≡ vector_by (state_in (register_bytes self.old)) peer 0 other }
+        ensures triggers { (other : ℕ) →
+            vector_at result other ≡ vector_by (state_in (register_bytes self.old)) peer 0 other }
     {
         let old = self.state();
         self.clear();
@@ -174,7 +177,8 @@ impl<E: MsixTable + Drop> PeerDevice<E> {
         value: u32,
     ) -> Result<(), BadAccess>
         ensures allowed { IsOk result ↔ IsTrue (is_access 256 offset width) }
-        ensures written { OnOk result (Writes (Some (record { offset = offset; width = width; value = value })) None (λ n. None) self.old self.new) }
+        ensures written { OnOk result
+            (Writes (Some (record { offset = offset; width = width; value = value })) None (λ n. None) self.old self.new) }
         ensures refused { IfErr result (λ e. (e ≡ record { offset = offset; width = width }) × (self.new ≡ self.old)) }
     {
         self.config.write(offset, width, value)
@@ -183,7 +187,8 @@ impl<E: MsixTable + Drop> PeerDevice<E> {
     /// Writes the register page. Returns which peers the write triggers.
     pub(crate) fn write_register(&mut self, peer: u32, offset: u32, value: u32) -> Trigger
         ensures written { Writes None (page_write offset value) (λ n. None) self.old self.new }
-        ensures triggers { (other : ℕ) → vector_at result other ≡ register_vector (state_in (register_bytes self.old)) peer offset value other }
+        ensures triggers { (other : ℕ) →
+            vector_at result other ≡ register_vector (state_in (register_bytes self.old)) peer offset value other }
     {
         match offset {
             REGISTER_INTERRUPT_CONTROL => {
@@ -221,18 +226,20 @@ impl<E: MsixTable + Drop> PeerDevice<E> {
         if !self.connected || !self.is_enabled() || !self.lets_through(wiring, vector) {
             return None;
         }
+        let reported = match wiring {
+            Wiring::Msix(_) => vector,
+            Wiring::Intx => 0,
+        };
         if self.is_one_shot() {
             let _ = self.page.write(INTERRUPT_CONTROL, 4, 0);
         }
-        Some(match wiring {
-            Wiring::Msix(_) => vector,
-            Wiring::Intx => 0,
-        })
+        Some(reported)
     }
 
     /// Returns which doorbells this peer's registers let through.
     pub(crate) fn route(&self, wiring: Wiring) -> Route
-        ensures vectors { (n : ℕ) → n < 64 → bit result.vectors n ≡ would_be_delivered wiring self.now.connected (register_bytes self.now) n }
+        ensures vectors { (n : ℕ) → n < 64 →
+            bit result.vectors n ≡ would_be_delivered wiring self.now.connected (register_bytes self.now) n }
         ensures intx { result.intx ≡ is_intx wiring }
         ensures one_shot { result.one_shot ≡ is_one_shot (register_bytes self.now) }
         ensures enabled { result.enabled ≡ is_enabled (register_bytes self.now) }
@@ -248,7 +255,8 @@ impl<E: MsixTable + Drop> PeerDevice<E> {
     /// Returns one bit for each vector: whether a trigger with it would be delivered if interrupts
     /// were enabled.
     fn vectors(&self, wiring: Wiring) -> u64
-        ensures { (n : ℕ) → n < 64 → bit result n ≡ would_be_delivered wiring self.now.connected (register_bytes self.now) n }
+        ensures { (n : ℕ) → n < 64 →
+            bit result n ≡ would_be_delivered wiring self.now.connected (register_bytes self.now) n }
     {
         let mut vectors = 0;
         for vector in 0..64 {

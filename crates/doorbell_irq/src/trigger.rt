@@ -1,10 +1,9 @@
 //! The peers that a call triggers, and the deliveries that follow.
-ghost use Rattle.std.specs.Prelude.{◌≡◌, ◌<◌, ◌≤◌, ℕ, not, ◌&&◌, ◌==◌, if◌then◌else◌, Some, None, length, slice_get};
-ghost use Rattle.doorbell_irq.specs.Peer.{Registers};
+ghost use Rattle.std.specs.Prelude.{◌≡◌, ◌≤◌, ℕ, not, ◌&&◌, ◌==◌, if◌then◌else◌, Some, None, length};
 ghost use Rattle.doorbell_irq.specs.Events.{doorbell_target, doorbell_vector};
 ghost use Rattle.doorbell_irq.specs.DeviceRules.{deliveries_below};
-ghost use Rattle.doorbell_irq.specs.Registers.{Takes};
-ghost use Rattle.doorbell_irq.specs.Triggers.{vector_at, delivery_among};
+ghost use Rattle.doorbell_irq.specs.declared.trigger.Trigger.TheVariants.{At, Others};
+ghost use Rattle.doorbell_irq.specs.Triggers.{vector_at, delivery_among, delivered, TakesBelow};
 
 use crate::doorbell::{doorbell_target, doorbell_vector};
 use crate::effect::Delivery;
@@ -27,7 +26,8 @@ pub(crate) enum Trigger {
 impl Trigger {
     /// Returns which peer a doorbell with this word triggers.
     pub(crate) fn by_doorbell(word: u32) -> Trigger
-        ensures { (peer : ℕ) → vector_at result peer ≡ (if doorbell_target word == peer then Some (doorbell_vector word) else None) }
+        ensures { (peer : ℕ) →
+            vector_at result peer ≡ (if doorbell_target word == peer then Some (doorbell_vector word) else None) }
     {
         Trigger::At {
             target: doorbell_target(word),
@@ -37,36 +37,13 @@ impl Trigger {
 
     /// Returns which peers a State write triggers: none if the value stays the same.
     pub(crate) fn by_state(source: u32, old: u32, new: u32) -> Trigger
-        ensures { (peer : ℕ) → vector_at result peer ≡ (if not (source == peer) && not (old == new) then Some 0 else None) }
+        ensures { (peer : ℕ) →
+            vector_at result peer ≡ (if not (source == peer) && not (old == new) then Some 0 else None) }
     {
         if old == new {
             Trigger::Nobody
         } else {
             Trigger::Others { source }
-        }
-    }
-
-    /// Returns the range of peers below `peers` that may be triggered.
-    fn asked(self, peers: u32) -> (u32, u32)
-        ensures within { (result.0 ≤ result.1) × (result.1 ≤ peers) }
-        ensures before { (peer : ℕ) → peer < result.0 → vector_at self peer ≡ None }
-        ensures after { (peer : ℕ) → result.1 ≤ peer → peer < peers → vector_at self peer ≡ None }
-    {
-        match self {
-            Trigger::At { target, .. } if target < peers => (target, target + 1),
-            Trigger::Nobody | Trigger::At { .. } => (0, 0),
-            Trigger::Others { .. } => (0, peers),
-        }
-    }
-
-    /// Returns the vector with which a peer is triggered.
-    fn vector_at(self, peer: u32) -> Option<u32>
-        ensures { result ≡ vector_at self peer }
-    {
-        match self {
-            Trigger::Nobody => None,
-            Trigger::At { target, vector } => (target == peer).then_some(vector),
-            Trigger::Others { source } => (source != peer).then_some(0),
         }
     }
 }
@@ -81,14 +58,73 @@ pub(crate) fn deliver<E: MsixTable + Drop>(
 ) -> ArrayVec<Delivery, 8>
     requires few { peers ≤ 8 }
     requires all { peers ≤ length registers.old }
-    ensures takes { (peer : ℕ) (before after : Registers) → peer < peers → slice_get registers.old peer ≡ Some before →
-        slice_get registers.new peer ≡ Some after → Takes wiring (vector_at trigger peer) before after }
+    ensures takes { TakesBelow peers wiring trigger registers.old registers.new }
     ensures came { result.items ≡ deliveries_below (delivery_among wiring trigger registers.old) peers }
 {
+    match trigger {
+        Trigger::Nobody => ArrayVec::new(),
+        Trigger::At { target, vector } => {
+            list_of(deliver_at(registers, peers, wiring, target, vector))
+        }
+        Trigger::Others { source } => deliver_to_others(registers, peers, wiring, source),
+    }
+}
+
+/// Triggers one peer, and returns the delivery, if there is one. The target may be no peer of the
+/// world.
+#[inline(always)]
+pub(crate) fn deliver_at<E: MsixTable + Drop>(
+    registers: &mut [PeerDevice<E>],
+    peers: u32,
+    wiring: Wiring,
+    target: u32,
+    vector: u32,
+) -> Option<Delivery>
+    requires all { peers ≤ length registers.old }
+    ensures takes { TakesBelow peers wiring (At target vector) registers.old registers.new }
+    ensures came { delivered result ≡ deliveries_below (delivery_among wiring (At target vector) registers.old) peers }
+{
+    if target >= peers {
+        return None;
+    }
+    let taken = registers[target as usize].take(wiring, Some(vector));
+    match taken {
+        Some(vector) => Some(Delivery {
+            peer: target,
+            vector,
+        }),
+        None => None,
+    }
+}
+
+/// Returns the delivery, if there is one, as a list.
+#[inline(always)]
+fn list_of(delivery: Option<Delivery>) -> ArrayVec<Delivery, 8>
+    ensures { result.items ≡ delivered delivery }
+{
     let mut deliveries = ArrayVec::new();
-    let (first, end) = trigger.asked(peers);
-    for peer in first..end {
-        let taken = registers[peer as usize].take(wiring, trigger.vector_at(peer));
+    if let Some(delivery) = delivery {
+        deliveries.push(delivery);
+    }
+    deliveries
+}
+
+/// Triggers all peers except the source, in ascending order, and returns the deliveries.
+fn deliver_to_others<E: MsixTable + Drop>(
+    registers: &mut [PeerDevice<E>],
+    peers: u32,
+    wiring: Wiring,
+    source: u32,
+) -> ArrayVec<Delivery, 8>
+    requires few { peers ≤ 8 }
+    requires all { peers ≤ length registers.old }
+    ensures takes { TakesBelow peers wiring (Others source) registers.old registers.new }
+    ensures came { result.items ≡ deliveries_below (delivery_among wiring (Others source) registers.old) peers }
+{
+    let mut deliveries = ArrayVec::new();
+    for peer in 0..peers {
+        let vector = (source != peer).then_some(0);
+        let taken = registers[peer as usize].take(wiring, vector);
         if let Some(vector) = taken {
             deliveries.push(Delivery { peer, vector });
         }

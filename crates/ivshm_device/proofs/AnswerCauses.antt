@@ -10,6 +10,10 @@ use Rattle.ivshm_device.specs.Answers.{IfDone, IsNew, RefusesNew, MakesAnswered,
 pub done : (status : Status) (step rest : Type 0) → status ≡ Done → step → IfDone status step rest
 done status step rest is s = subst (λ x. IfDone x step rest) (sym is) s
 
+-- what a call that is done did
+pub undone : (status : Status) (step rest : Type 0) → status ≡ Done → IfDone status step rest → step
+undone status step rest is s = subst (λ x. IfDone x step rest) is s
+
 module _ (w : World) (old new : Option DeviceState) where
   pub holds_one : (state : DeviceState) → old ≡ Some state → new ≡ Some state → MakesAnswered old w HasDevice new
   holds_one state was is = subst (MakesAnswered old w HasDevice) (was ∙ sym is) (has_device (λ e. let wrong : Some state ≡ None = sym was ∙ e in absurd cc))

@@ -1,5 +1,5 @@
 -- The exact status of each export, and what the export does to the devices of a handle.
-use Rattle.std.specs.Prelude.{ℕ, ◌||◌, ◌++◌, ◌≡◌, ◌≢◌, ◌+◌, ◌*◌, ◌%◌, ◌^◌, ◌<◌, ◌≤◌, ◌==◌, nat_lt, if◌then◌else◌, Bool, List, [], ◌∷◌, Option, Some, None}
+use Rattle.std.specs.Prelude.{ℕ, ◌||◌, ◌++◌, ◌≡◌, ◌≢◌, ◌+◌, ◌*◌, ◌%◌, ◌^◌, ◌<◌, ◌≤◌, ◌==◌, nat_lt, if◌then◌else◌, Bool, List, [], Option, Some, None}
 use Rattle.section_map.specs.Geometry.{Shape, IsShape, word_count}
 use Rattle.section_map.specs.Faults.{shape_of, IsFirstFault}
 use Rattle.section_map.specs.declared.sizes.GeometryFault.{GeometryFault}
@@ -11,7 +11,7 @@ use Rattle.pci_space.specs.Fields.{is_access}
 use Rattle.pci_space.specs.Numbers.{number_from}
 use Rattle.doorbell_irq.specs.Events.{Devices, Event, ConfigWritten, Config, vector_count}
 use Rattle.doorbell_irq.specs.DeviceRules.{bytes_after, effect_of, register_at, msix_at}
-use Rattle.doorbell_irq.specs.Refinement.{Refines, peer_count}
+use Rattle.doorbell_irq.specs.Refinement.{Refines, Adds, peer_count}
 use Rattle.doorbell_irq.specs.Routes.{IsRoute}
 use Rattle.doorbell_irq.specs.declared.route.Route as device_route
 use Rattle.ivshm_device.specs.declared.crossing.Access.{Access}
@@ -47,13 +47,9 @@ peer_answer peer state = if nat_lt peer (peer_count state.device) then Done else
 abbrev pub access_answer : (peer offset width : ℕ) → DeviceState → Status
 access_answer peer offset width state = if nat_lt peer (peer_count state.device) then (if is_access 256 offset width then Done else BadAccess) else BadPeer
 
--- The new devices refine the old list of events with one more event.
-abbrev pub Adds : Event → DeviceState → DeviceState → Type 0
-Adds event old new = (w : Devices) (events : List Event) → Refines w events old.device → Refines w (event ∷ events) new.device
-
 -- A configuration space is written.
 abbrev pub WritesConfig : (peer offset width value : ℕ) → DeviceState → DeviceState → Type 0
-WritesConfig peer offset width value old new = IfDone (access_answer peer offset width old) (Adds (ConfigWritten peer offset width value) old new) (new ≡ old)
+WritesConfig peer offset width value old new = IfDone (access_answer peer offset width old) (Adds (ConfigWritten peer offset width value) old.device new.device) (new ≡ old)
 
 -- A configuration space is read.
 abbrev pub ReadsConfig : (peer offset width : ℕ) → (before after : ℕ) → DeviceState → Type 0
@@ -75,12 +71,12 @@ ReadsMsix peer offset before after state = IfDone (peer_answer peer state)
 
 -- An event of a peer without an effect.
 abbrev pub Changes : (peer : ℕ) → Event → DeviceState → DeviceState → Type 0
-Changes peer event old new = IfDone (peer_answer peer old) (Adds event old new) (new ≡ old)
+Changes peer event old new = IfDone (peer_answer peer old) (Adds event old.device new.device) (new ≡ old)
 
 -- An event of a peer, with its effect by the device's rules.
 abbrev pub Acts : (peer : ℕ) → Event → (before after : Effect) → DeviceState → DeviceState → Type 0
 Acts peer event before after old new = IfDone (peer_answer peer old)
-    (Adds event old new × ((w : Devices) (events : List Event) → Refines w events old.device → CrossesEffect (effect_of w events event) after))
+    (Adds event old.device new.device × ((w : Devices) (events : List Event) → Refines w events old.device → CrossesEffect (effect_of w events event) after))
     ((new ≡ old) × (after ≡ before))
 
 -- The route of a peer is reported.

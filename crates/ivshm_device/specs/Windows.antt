@@ -1,10 +1,12 @@
 -- Accesses of 1, 2, 4 and 8 bytes to the windows of a peer's device. Values are of 64 bits.
-use Rattle.std.specs.Prelude.{ℕ, ◌+◌, ◌*◌, ◌/◌, ◌%◌, ◌==◌, ◌&&◌, if◌then◌else◌, List, [], ◌∷◌, None}
+use Rattle.std.specs.Prelude.{ℕ, ◌+◌, ◌*◌, ◌/◌, ◌%◌, ◌==◌, ◌&&◌, if◌then◌else◌, List, [], ◌∷◌, ◌++◌, None}
 use Rattle.pci_space.specs.declared.wiring.Wiring.{Wiring}
 use Rattle.pci_space.specs.Fields.{is_access}
 use Rattle.pci_space.specs.Numbers.{number_from}
 use Rattle.doorbell_irq.specs.Events.{Devices, Event, ConfigWritten, RegisterWritten, MsixWritten, Config}
 use Rattle.doorbell_irq.specs.DeviceRules.{Bytes, effect_of, register_at, msix_at}
+use Rattle.doorbell_irq.specs.DeviceView.{DeviceView}
+use Rattle.doorbell_irq.specs.Refinement.{Refines}
 use Rattle.doorbell_irq.specs.declared.effect.Effect.{Effect}
 use Rattle.ivshm_device.specs.declared.window.Window.{Window}
 use Rattle.ivshm_device.specs.declared.window.Window.TheVariants.{ConfigSpace, RegisterPage, MsixRegion}
@@ -58,6 +60,10 @@ abbrev pub events_of : (peer : ℕ) → Window → (offset width value : ℕ) �
 events_of peer ConfigSpace offset width value = config_events peer offset width value
 events_of peer RegisterPage offset width value = page_events peer offset width value
 events_of peer MsixRegion offset width value = msix_events peer offset width value
+
+-- The new devices refine each list of events that the old ones refine, with `more` as the newest.
+abbrev pub AddsAll : (more : List Event) → (old new : DeviceView) → Type 0
+AddsAll more old new = (w : Devices) (events : List Event) → Refines w events old → Refines w (more ++ events) new
 
 -- The effect of a write: that of the event in the register page, else none.
 abbrev pub no_effect : Effect

@@ -6,12 +6,13 @@ ghost use Rattle.pci_space.specs.Place.{IsRegionPlace};
 ghost use Rattle.ivshm_device.specs.Answers.{wiring_of, peer_answer, access_answer, WritesConfig, ReadsConfig, ReadsRegister, ReadsMsix, Changes, Acts, ReportsRoute, ReportsMessage, message_answer, is_width, window_answer, ReadsWindow, WritesWindow, IsPlaceOf, IsNew, RefusesNew};
 
 use crate::crossing::{
-    Access, Effect, Message, Route, World, cross_effect, message_of, route_crossed,
+    Access, Effect, Message, Route, World, cross_delivery, cross_effect, message_of, route_crossed,
 };
 use crate::device_state::DeviceState;
 use crate::peer_devices::PeerDevices;
 use crate::status::{Status, geometry_status};
-use crate::window::{read_window, window_of, write_window};
+use crate::window::{REGISTER_PAGE, low_word, read_window, window_of, write_window};
+use doorbell_irq::REGISTER_DOORBELL;
 use pci_space::{RegionPlace, Wiring};
 use section_map::Geometry;
 use std::alloc::Global;
@@ -129,6 +130,7 @@ pub(crate) fn register_read(state: &DeviceState, peer: u32, offset: u32, value: 
 }
 
 /// Writes a register.
+#[inline(always)]
 pub(crate) fn register_write(
     state: &mut DeviceState,
     peer: u32,
@@ -142,9 +144,14 @@ pub(crate) fn register_write(
     if peer >= state.device.peers() {
         return Status::BadPeer;
     }
-    let effect = state.device.register_write(peer, offset, value);
-    cross_effect(&effect, crossed);
-    Status::Done
+    if offset == REGISTER_DOORBELL {
+        cross_delivery(state.device.ring(value), crossed);
+        Status::Done
+    } else {
+        let effect = state.device.register_write(peer, offset, value);
+        cross_effect(&effect, crossed);
+        Status::Done
+    }
 }
 
 /// Reads the MSI-X region.
@@ -285,6 +292,10 @@ pub(crate) fn window_write(
     }
     if !is_width(access.width) {
         return Status::BadAccess;
+    }
+    if access.window == REGISTER_PAGE && access.width == 4 {
+        let word = low_word(access.value);
+        return register_write(state, peer, access.offset, word, crossed);
     }
     let window = window_of(access.window);
     let effect = write_window(

@@ -1,5 +1,6 @@
 //! The structs that cross to a program in C.
 ghost use Rattle.std.specs.Prelude.{◌≡◌, ◌≤◌, ◌<◌, ◌^◌, ◌*◌, ◌+◌, length};
+ghost use Rattle.doorbell_irq.specs.Triggers.{doorbell_effect};
 ghost use Rattle.ivshm_device.specs.Crossing.{CrossesEffect, route_crossed, message_of};
 
 use doorbell_irq::Delivery;
@@ -106,4 +107,20 @@ pub(crate) fn cross_effect(effect: &doorbell_irq::Effect, crossed: &mut Effect)
     crossed.state = effect.state.unwrap_or(0);
     crossed.count = deliveries.len() as u32;
     crossed.deliveries[..deliveries.len()].copy_from_slice(deliveries);
+}
+
+/// Writes the effect of a doorbell to the struct of a program in C: its delivery, if there is one.
+#[inline(always)]
+pub(crate) fn cross_delivery(delivery: Option<Delivery>, crossed: &mut Effect)
+    ensures { CrossesEffect (doorbell_effect delivery) crossed.new }
+{
+    crossed.writes_state = 0;
+    crossed.state = 0;
+    match delivery {
+        Some(delivery) => {
+            crossed.count = 1;
+            crossed.deliveries[0] = delivery;
+        }
+        None => crossed.count = 0,
+    }
 }

@@ -20,7 +20,8 @@ impl EntryList {
     /// Returns an MSI-X table of `count` entries at reset.
     pub(crate) fn at_reset(alloc: Global, count: u32) -> Result<EntryList, AllocError>
         ensures count { IfOk result (λ t. length t.entries.items ≡ count) }
-        ensures reset { IfOk result (λ t. (n : ℕ) (entry : Contents) → slice_get t.entries.items n ≡ Some entry → IsEntryAtReset entry) }
+        ensures reset { IfOk result
+            (λ t. (n : ℕ) (entry : Contents) → slice_get t.entries.items n ≡ Some entry → IsEntryAtReset entry) }
     {
         let mut entries = Vec::with_capacity(alloc, count as usize)?;
         for _number in 0..count {

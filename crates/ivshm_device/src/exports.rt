@@ -58,7 +58,8 @@ pub extern "C" fn ivshm_device_new_at(
     device: &mut DeviceHandle,
     world: &World,
 ) -> u32
-    ensures { (answer : Answer) × (result ≡ number_of answer) × MakesAnswered device.old.state world.now answer device.new.state }
+    ensures { (answer : Answer) × (result ≡ number_of answer)
+        × MakesAnswered device.old.state world.now answer device.new.state }
 {
     if let Some(state) = device.take(alloc) {
         device.put(state);
@@ -175,7 +176,8 @@ pub extern "C" fn ivshm_device_register_write(
     effect: &mut Effect,
 ) -> u32
     ensures answer { result ≡ number_of (answer_at device.old.state (peer_answer peer)) }
-    ensures step { Leads device.old.state (Acts peer (RegisterWritten peer offset value) effect.old effect.new) device.new.state }
+    ensures step { Leads device.old.state (Acts peer (RegisterWritten peer offset value) effect.old effect.new)
+        device.new.state }
     ensures untouched { device.old.state ≡ None → effect.new ≡ effect.old }
 {
     let Some(mut state) = device.take(alloc) else {

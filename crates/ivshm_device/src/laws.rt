@@ -23,9 +23,11 @@ ghost use Rattle.ivshm_device.specs.Apart.{may_leave_out, Applies};
 pub fn processes_apart_are_the_device()
     ensures bytes { (w : Devices) (peer : ℕ) (applied all : List Event) → Applies w peer applied all →
         bytes_after w applied peer ≡ bytes_after w all peer }
-    ensures deliveries { (w : Devices) (peer : ℕ) (applied all : List Event) (event : Event) → Applies w peer applied all →
+    ensures deliveries { (w : Devices) (peer : ℕ) (applied all : List Event) (event : Event) →
+        Applies w peer applied all →
         delivery_of w.wiring (is_connected applied) (bytes_after w applied) event peer ≡ delivery_of w.wiring (is_connected all) (bytes_after w all) event peer }
-    ensures none_missed { (w : Devices) (peer : ℕ) (all : List Event) (event : Event) → may_leave_out peer event ≡ true →
+    ensures none_missed { (w : Devices) (peer : ℕ) (all : List Event) (event : Event) →
+        may_leave_out peer event ≡ true →
         delivery_of w.wiring (is_connected all) (bytes_after w all) event peer ≡ None }
     ensures states { (w : Devices) (peer : ℕ) (applied all : List Event) → Applies w peer applied all →
         (other : ℕ) → state_in (bytes_after w applied other) ≡ state_in (bytes_after w all other) }

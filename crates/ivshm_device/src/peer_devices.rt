@@ -5,14 +5,15 @@ ghost use Rattle.pci_space.specs.Fields.{is_access};
 ghost use Rattle.pci_space.specs.Wiring.{IsWiring};
 ghost use Rattle.pci_space.specs.Place.{IsRegionPlace};
 ghost use Rattle.doorbell_irq.specs.Peer.{Registers};
-ghost use Rattle.doorbell_irq.specs.Events.{Devices, Event, ConfigWritten, RegisterWritten, MsixWritten, WasReset, WasDisconnected, WasConnected, Config, vector_count};
-ghost use Rattle.doorbell_irq.specs.DeviceRules.{bytes_after, effect_of, register_at, msix_at};
-ghost use Rattle.doorbell_irq.specs.Refinement.{Refines, peer_count};
+ghost use Rattle.doorbell_irq.specs.Events.{Devices, Event, ConfigWritten, RegisterWritten, MsixWritten, WasReset, WasDisconnected, WasConnected, Config, doorbell_register, vector_count};
+ghost use Rattle.doorbell_irq.specs.DeviceRules.{bytes_after, register_at, msix_at};
+ghost use Rattle.doorbell_irq.specs.Refinement.{Refines, Adds, HasEffect, peer_count};
 ghost use Rattle.doorbell_irq.specs.Registers.{IsPeer};
 ghost use Rattle.doorbell_irq.specs.Routes.{IsRoute};
+ghost use Rattle.doorbell_irq.specs.Triggers.{doorbell_effect};
 
 use crate::entry_list::EntryList;
-use doorbell_irq::{Effect, PeerDevice, Route, peers};
+use doorbell_irq::{Delivery, Effect, PeerDevice, Route, peers};
 use pci_space::{BadAccess, RegionPlace, Wiring};
 use section_map::Geometry;
 use std::alloc::{AllocError, Global};
@@ -149,7 +150,8 @@ impl PeerDevices {
 
     pub(crate) fn register_read(&self, peer: u32, offset: u32) -> u32
         requires { peer < peer_count self.now }
-        ensures { (w : Devices) (events : List Event) → Refines w events self.now → result ≡ register_at (bytes_after w events peer) offset }
+        ensures { (w : Devices) (events : List Event) → Refines w events self.now →
+            result ≡ register_at (bytes_after w events peer) offset }
     {
         peers::register_read(&self.registers[..], self.peers, self.wiring, peer, offset)
     }
@@ -157,8 +159,8 @@ impl PeerDevices {
     #[inline(always)]
     pub(crate) fn register_write(&mut self, peer: u32, offset: u32, value: u32) -> Effect
         requires { peer < peer_count self.old }
-        ensures effect { (w : Devices) (events : List Event) → Refines w events self.old → result ≡ effect_of w events (RegisterWritten peer offset value) }
-        ensures refines { (w : Devices) (events : List Event) → Refines w events self.old → Refines w (RegisterWritten peer offset value ∷ events) self.new }
+        ensures effect { HasEffect self.old (RegisterWritten peer offset value) result }
+        ensures refines { Adds (RegisterWritten peer offset value) self.old self.new }
     {
         peers::register_write(
             &mut self.registers[..],
@@ -170,6 +172,16 @@ impl PeerDevices {
         )
     }
 
+    #[inline(always)]
+    pub(crate) fn ring(&mut self, word: u32) -> Option<Delivery>
+        ensures effect { (source : ℕ) → source < peer_count self.old →
+            HasEffect self.old (RegisterWritten source doorbell_register word) (doorbell_effect result) }
+        ensures refines { (source : ℕ) → source < peer_count self.old →
+            Adds (RegisterWritten source doorbell_register word) self.old self.new }
+    {
+        peers::ring(&mut self.registers[..], self.peers, self.wiring, word)
+    }
+
     pub(crate) fn route(&self, peer: u32) -> Route
         requires { peer < peer_count self.now }
         ensures { (w : Devices) (events : List Event) → Refines w events self.now → IsRoute w events peer result }
@@ -179,14 +191,15 @@ impl PeerDevices {
 
     pub(crate) fn msix_read(&self, peer: u32, offset: u32) -> u32
         requires { peer < peer_count self.now }
-        ensures { (w : Devices) (events : List Event) → Refines w events self.now → result ≡ msix_at w.wiring (bytes_after w events peer) offset }
+        ensures { (w : Devices) (events : List Event) → Refines w events self.now →
+            result ≡ msix_at w.wiring (bytes_after w events peer) offset }
     {
         peers::msix_read(&self.registers[..], self.peers, self.wiring, peer, offset)
     }
 
     pub(crate) fn msix_write(&mut self, peer: u32, offset: u32, value: u32)
         requires { peer < peer_count self.old }
-        ensures refines { (w : Devices) (events : List Event) → Refines w events self.old → Refines w (MsixWritten peer offset value ∷ events) self.new }
+        ensures refines { Adds (MsixWritten peer offset value) self.old self.new }
         ensures peers { peer_count self.new ≡ peer_count self.old }
     {
         peers::msix_write(
@@ -201,23 +214,23 @@ impl PeerDevices {
 
     pub(crate) fn reset(&mut self, peer: u32) -> Effect
         requires { peer < peer_count self.old }
-        ensures effect { (w : Devices) (events : List Event) → Refines w events self.old → result ≡ effect_of w events (WasReset peer) }
-        ensures refines { (w : Devices) (events : List Event) → Refines w events self.old → Refines w (WasReset peer ∷ events) self.new }
+        ensures effect { HasEffect self.old (WasReset peer) result }
+        ensures refines { Adds (WasReset peer) self.old self.new }
     {
         peers::reset(&mut self.registers[..], self.peers, self.wiring, peer)
     }
 
     pub(crate) fn disconnect(&mut self, peer: u32) -> Effect
         requires { peer < peer_count self.old }
-        ensures effect { (w : Devices) (events : List Event) → Refines w events self.old → result ≡ effect_of w events (WasDisconnected peer) }
-        ensures refines { (w : Devices) (events : List Event) → Refines w events self.old → Refines w (WasDisconnected peer ∷ events) self.new }
+        ensures effect { HasEffect self.old (WasDisconnected peer) result }
+        ensures refines { Adds (WasDisconnected peer) self.old self.new }
     {
         peers::disconnect(&mut self.registers[..], self.peers, self.wiring, peer)
     }
 
     pub(crate) fn connect(&mut self, peer: u32)
         requires { peer < peer_count self.old }
-        ensures { (w : Devices) (events : List Event) → Refines w events self.old → Refines w (WasConnected peer ∷ events) self.new }
+        ensures { Adds (WasConnected peer) self.old self.new }
     {
         peers::connect(&mut self.registers[..], self.peers, self.wiring, peer);
     }

@@ -1,9 +1,6 @@
-use Rattle.std.proofs.Common.{subst, sym, arith, [], ap, ◌∙◌, ◌*◌, ◌+◌, ◌≡◌, ◌≤◌, ◌<◌, ◌^◌, ◌%◌, ℕ}
-use Rattle.section_map.specs.Geometry.{Shape, IsShape, word_count}
-use Rattle.doorbell_irq.specs.Refinement.{Refines}
-use Rattle.pci_space.specs.declared.wiring.Wiring.{Wiring}
-use Rattle.ivshm_device.specs.declared.device_state.DeviceState.{DeviceState}
-use Rattle.ivshm_device.specs.Answers.{shape_in, wiring_of, IsBase, IsPlaceOf, MayMake, RefusesNew, bad_vectors, many_peers, bad_sizes, bad_base, no_memory}
+use Rattle.std.proofs.Common.{subst, sym, arith, ap}
+use Rattle.section_map.specs.Geometry.{IsShape, word_count}
+use Rattle.ivshm_device.specs.Answers.{shape_in, RefusesNew, bad_vectors, many_peers, bad_sizes, bad_base, no_memory}
 use Rattle.ivshm_device.proofs.calls.made.Goals as goal
 use Rattle.ivshm_device.proofs.calls.made.Goals.{then-world-ne0-via-then-world-ne0, then-world-ne0-via-else-world-ne0+then-world-bytes}
 

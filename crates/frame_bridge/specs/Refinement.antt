@@ -9,7 +9,7 @@ use Rattle.link_invariant.specs.LinkConfig.{config_of}
 use Rattle.link_endpoint.specs.Refinement.{RefinesAt}
 use Rattle.link_endpoint.specs.Plan.{Plan, HasCounted}
 use Rattle.link_endpoint.specs.declared.auto_endpoint.AutoEndpoint.{AutoEndpoint}
-use Rattle.bridge_text.specs.declared.scripts.Sent.{Sent}
+use Rattle.frame_bridge.specs.declared.scripts.Sent.{Sent}
 use Rattle.frame_bridge.specs.declared.ports.Port.{Port}
 use Rattle.frame_bridge.specs.declared.run.Run.{Run}
 use Rattle.frame_bridge.specs.Forwarding.{forward, forwarded_after}

@@ -2,7 +2,7 @@
 ghost use Rattle.std.specs.Prelude.{◌≡◌, ℕ, List, ◌++◌, ◌∷◌, [], ◌<◌, ◌≤◌, length, IfOk, OnOk, Some, slice_get};
 ghost use Rattle.std.specs.List.{flat_map};
 ghost use Rattle.split_ring.specs.declared.sizes.TheConstants.{SHORTEST_FRAME};
-ghost use Rattle.bridge_text.specs.declared.scripts.Sent.{Sent as SentFrame};
+ghost use Rattle.frame_bridge.specs.declared.scripts.Sent.{Sent as SentFrame};
 ghost use Rattle.link_endpoint.specs.Engine.{delivered};
 ghost use Rattle.frame_bridge.specs.declared.ports.Port.{Port as HeldPort};
 ghost use Rattle.frame_bridge.specs.Forwarding.{first_ports};

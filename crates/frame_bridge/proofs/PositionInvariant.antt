@@ -1,14 +1,15 @@
 -- The invariant of the lines so far at each position. Each row that can follow preserves it.
-use Rattle.std.proofs.Common.{◌≡◌, ℕ, ◌<◌, ◌≤◌, true, eqb, List, [], ◌∷◌, ◌++◌, length, get_or, map, Some, refl, sym, ap, subst, ◌∙◌, append_assoc, arith}
+use Rattle.std.proofs.Common.{◌≡◌, ℕ, ◌<◌, ◌≤◌, true, eqb, List, [], ◌∷◌, ◌++◌, length, get_or, map, Some, refl, sym, ap, subst, arith}
 use Rattle.std.specs.Prelude.{All, slice_get}
 use Rattle.std.proofs.lemmas.Bool.{leb-false}
-use Rattle.std.proofs.lemmas.List.{map-append, length-append}
+use Rattle.std.proofs.lemmas.List.{length-append}
 use Rattle.std.proofs.lemmas.List.Elements.{All-nil}
 use Rattle.line_format.specs.Forms.{Fit}
 use Rattle.line_format.specs.Rows.{Row, row}
 use Rattle.line_format.proofs.NumbersFit.{counted, list_0, list_1, in_range, one_alone, same_row, the_number}
 use Rattle.line_format.proofs.ListLaws.{all_push}
-use Rattle.line_format.proofs.TestChains.{not_false}
+use Rattle.line_format.proofs.PartLaws.{rows-push}
+use Rattle.line_format.proofs.TestChains.{not_false, not_true}
 use Rattle.line_format.proofs.RowTexts.{Keeps, AreKept}
 use Rattle.line_format.proofs.FormsOfRows.{same_place}
 use Rattle.frame_bridge.specs.declared.limits.TheConstants.{MOST_FRAMES, MOST_ROUNDS}
@@ -20,7 +21,7 @@ use Rattle.frame_bridge.specs.declared.positions.Position.TheVariants.{AtVersion
 use Rattle.frame_bridge.specs.Table.{pieces_of}
 use Rattle.frame_bridge.specs.Spelling.{World, row_of_sent, IsAllowed, IsWorld}
 use Rattle.frame_bridge.specs.Judge.{DraftView, world_of_draft, ordinal_of, position_of, rules}
-use Rattle.frame_bridge.proofs.RowTests.{CanFollow, with_row, range, few}
+use Rattle.frame_bridge.proofs.RowTests.{CanFollow, with_row}
 
 -- ---- the rows before a position
 
@@ -86,19 +87,17 @@ allowed_sent : (d : DraftView) (ns frame : List ℕ) → CanFollow d (row Frame 
 allowed_sent d ns frame can = record {
   values = subst (λ (ms : List ℕ). Fit (pieces_of Frame) ms) (sym (list_1 ns (counted (pieces_of Frame) ns can.values))) can.values;
   bytes = can.bytes;
-  range = range d (row Frame ns frame) can;
+  range = can.range;
   size = can.size;
 }
 
 frame_rows : (d : DraftView) (ns frame : List ℕ) → Fit (pieces_of Frame) ns →
     head_rows d ++ map row_of_sent (d.sent ++ sent_of ns frame ∷ []) ≡ (head_rows d ++ map row_of_sent d.sent) ++ row Frame ns frame ∷ []
-frame_rows d ns frame fit =
-    ap (λ (rs : List (Row Form)). head_rows d ++ rs) (map-append row_of_sent d.sent (sent_of ns frame ∷ []) ∙ ap (λ (r : Row Form). map row_of_sent d.sent ++ r ∷ []) (sent_row ns frame fit)) ∙
-    sym (append_assoc (head_rows d) (map row_of_sent d.sent) (row Frame ns frame ∷ []))
+frame_rows d ns frame fit = rows-push (head_rows d) row_of_sent d.sent (sent_of ns frame) (row Frame ns frame) (sent_row ns frame fit)
 
 frame_good : (d : DraftView) (ns frame : List ℕ) → CanFollow d (row Frame ns frame) → IsWorld (world_of_draft d) → IsWorld (world_of_draft (with_row (row Frame ns frame) d))
 frame_good d ns frame can good =
-    let below : length d.sent < MOST_FRAMES = leb-false MOST_FRAMES (length d.sent) (few d (row Frame ns frame) can) in
+    let below : length d.sent < MOST_FRAMES = leb-false MOST_FRAMES (length d.sent) (not_true _ can.room) in
     record {
       least = good.least;
       most = good.most;

@@ -31,15 +31,15 @@ head_along w is =
     let least = is.least in
     let most = is.most in
     let rounds = is.rounds in (
-      record { values = (omega arith, omega arith, tt); bytes = refl; order = refl; numbers = refl; size = refl; row = refl },
+      record { values = (omega arith, omega arith, tt); bytes = refl; order = refl; range = refl; peer = refl; size = refl; sizes = refl; room = refl },
       refl,
       (
-        record { values = (least, most, tt); bytes = refl; order = refl; numbers = refl; size = refl; row = refl },
+        record { values = (least, most, tt); bytes = refl; order = refl; range = refl; peer = refl; size = refl; sizes = refl; room = refl },
         refl,
         (
-          record { values = (omega arith, rounds, tt); bytes = refl; order = refl; numbers = refl; size = refl; row = refl },
+          record { values = (omega arith, rounds, tt); bytes = refl; order = refl; range = refl; peer = refl; size = refl; sizes = refl; room = refl },
           refl,
-          (record { values = tt; bytes = refl; order = refl; numbers = refl; size = refl; row = refl }, refl, refl),
+          (record { values = tt; bytes = refl; order = refl; range = refl; peer = refl; size = refl; sizes = refl; room = refl }, refl, refl),
         ),
       ),
     )
@@ -57,7 +57,7 @@ sent_along w front (s ∷ rest) allowed few =
     let below : length front < MOST_FRAMES = omega arith in
     let later = subst (λ (all : List Sent). Along rules (at_frames w (front ++ s ∷ [])) (map row_of_sent rest) (at_frames w all)) whole
     (sent_along w (front ++ s ∷ []) rest allowed.1 (omega (arith, one, more, few))) in (
-      record { values = here.values; bytes = here.bytes; order = refl; numbers = rw here.range refl; size = here.size; row = rw (lt-leb MOST_FRAMES (length front) below) refl },
+      record { values = here.values; bytes = here.bytes; order = refl; range = here.range; peer = refl; size = here.size; sizes = refl; room = rw (lt-leb MOST_FRAMES (length front) below) refl },
       refl,
       later,
     )
@@ -77,7 +77,7 @@ spelled_reaches w is =
       before = at_frames w w.sent;
       parts = refl;
       along = along-append rules at_start (head w) (map row_of_sent w.sent) (at_frames w []) (at_frames w w.sent) (head_along w is) sent;
-      follows = record { values = tt; bytes = refl; order = refl; numbers = refl; size = refl; row = refl };
+      follows = record { values = tt; bytes = refl; order = refl; range = refl; peer = refl; size = refl; sizes = refl; room = refl };
       gives = refl;
       ended = refl;
     }

@@ -1,7 +1,7 @@
 -- Reading line by line: the effect of a line, and the fault of a faulty one.
 use Rattle.std.specs.Prelude.{ℕ, ◌==◌, ◌&&◌, not, nat_le, if◌then◌else◌, Bool, true, false, List, [], ◌∷◌, ◌++◌, length, slice_index, Option, Some, None, Result, Ok}
 use Rattle.line_format.specs.declared.grammar.Test.{Test}
-use Rattle.line_format.specs.declared.grammar.Test.TheVariants.{Line, Order, Number, Bytes}
+use Rattle.line_format.specs.declared.grammar.Test.TheVariants.{Line, Order, Number, Peer, Bytes, Sizes, Count}
 use Rattle.line_format.specs.Machine.{Machine}
 use Rattle.line_format.specs.Grammar.{Rules, machine_of}
 use Rattle.line_format.specs.Texts as texts
@@ -50,11 +50,6 @@ position_of _ = AtFrames
 abbrev pub is_out_of_order : DraftView → Form → Bool
 is_out_of_order d form = not (ordinal_of (position_of form) == ordinal_of d.position)
 
--- BadNumber
-
-abbrev pub wrong_numbers : DraftView → Form → List ℕ → Option Cause
-wrong_numbers d form ns = if is_in_range (world_of_draft d) form ns then None else Some BadNumber
-
 -- TooManyFrames
 
 abbrev pub is_frame : Form → Bool
@@ -63,9 +58,6 @@ is_frame _ = false
 
 abbrev pub is_too_many : DraftView → Form → Bool
 is_too_many d form = is_frame form && nat_le MOST_FRAMES (length d.sent)
-
-abbrev pub wrong_row : DraftView → Form → List ℕ → List ℕ → Option Cause
-wrong_row d form ns frame = if is_too_many d form then Some TooManyFrames else None
 
 -- The effect of a line
 
@@ -77,13 +69,14 @@ add Begin ns frame d = record d { position = AtFrames }
 add Frame ns frame d = record d { sent = d.sent ++ record { port = slice_index ns 0; frame = frame } ∷ [] }
 add End ns frame d = record d { position = Ended }
 
--- The fault of a line that fails a test
+-- The fault of a line that fails a test. Each line passes the tests of a peer and of sizes.
 
 abbrev pub cause : Test → Cause
 cause Line = BadLine
 cause Order = BadOrder
-cause Number = BadNumber
 cause Bytes = BadFrame
+cause Count = TooManyFrames
+cause _ = BadNumber
 
 -- The text
 
@@ -99,9 +92,11 @@ rules = record {
   forms = all_forms;
   cause = cause;
   is_out_of_order = λ d form fields. is_out_of_order d form;
-  wrong_numbers = wrong_numbers;
+  is_in_range = λ d form ns. is_in_range (world_of_draft d) form ns;
+  is_its_peer = λ d form ns. true;
   fits = λ d form size. is_frame_length form size;
-  wrong_row = wrong_row;
+  fits_sizes = λ d form ns. true;
+  has_room = λ d form ns frame. not (is_too_many d form);
   add = add;
   ended = has_ended;
 }

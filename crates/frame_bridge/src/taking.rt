@@ -38,8 +38,9 @@ impl Grammar for Draft {
         match test {
             Test::Line => Cause::BadLine,
             Test::Order => Cause::BadOrder,
-            Test::Number => Cause::BadNumber,
             Test::Bytes => Cause::BadFrame,
+            Test::Count => Cause::TooManyFrames,
+            Test::Number | Test::Peer | Test::Sizes => Cause::BadNumber,
         }
     }
 
@@ -47,12 +48,16 @@ impl Grammar for Draft {
         Position::of(form) != self.position
     }
 
-    /// A port that the run doesn't have is a faulty number.
-    fn wrong_numbers(&self, form: Form, numbers: &[u64]) -> Option<Cause> {
+    /// Whether the run has the port of a frame.
+    fn is_in_range(&self, form: Form, numbers: &[u64]) -> bool {
         match form {
-            Form::Frame if number_at(numbers, 0) >= u64::from(self.ports) => Some(Cause::BadNumber),
-            _ => None,
+            Form::Frame => number_at(numbers, 0) < u64::from(self.ports),
+            _ => true,
         }
+    }
+
+    fn is_its_peer(&self, _form: Form, _numbers: &[u64]) -> bool {
+        true
     }
 
     /// Whether a frame has 14 to 274 bytes.

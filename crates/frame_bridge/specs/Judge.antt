@@ -1,7 +1,7 @@
 -- Reading line by line: the effect of a line, and the fault of a faulty one.
-use Rattle.std.specs.Prelude.{ℕ, ◌==◌, ◌&&◌, not, nat_le, if◌then◌else◌, Bool, true, false, List, [], ◌∷◌, ◌++◌, length, slice_index, Option, Some, None, Result, Ok}
+use Rattle.std.specs.Prelude.{ℕ, ◌==◌, ◌&&◌, not, nat_le, Bool, true, false, List, [], ◌∷◌, ◌++◌, length, slice_index, Result, Ok}
 use Rattle.line_format.specs.declared.grammar.Test.{Test}
-use Rattle.line_format.specs.declared.grammar.Test.TheVariants.{Line, Order, Number, Peer, Bytes, Sizes, Count}
+use Rattle.line_format.specs.declared.grammar.Test.TheVariants.{Line, Order, Bytes, Count}
 use Rattle.line_format.specs.Machine.{Machine}
 use Rattle.line_format.specs.Grammar.{Rules, machine_of}
 use Rattle.line_format.specs.Texts as texts

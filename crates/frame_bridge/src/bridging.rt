@@ -1,5 +1,5 @@
 //! The run of a text, from its bytes to its output.
-ghost use Rattle.std.specs.Prelude.{◌≡◌, ℕ, List, ◌++◌, ◌∷◌, [], ◌-◌, ◌^◌, ◌<◌, ◌≤◌, length, IfOk, IfErr, OnOk, Some, slice_get};
+ghost use Rattle.std.specs.Prelude.{◌≡◌, ℕ, List, ◌++◌, [], ◌-◌, ◌^◌, ◌<◌, ◌≤◌, length, IfOk, IfErr, OnOk, Some, slice_get};
 ghost use Rattle.std.specs.List.{flat_map};
 ghost use Rattle.line_format.specs.Rows.{text_of};
 ghost use Rattle.frame_bridge.specs.declared.faults.BridgeFault.TheVariants.{NoMemory as OutOfMemory};
@@ -12,7 +12,7 @@ ghost use Rattle.section_map.specs.Geometry.{Shape};
 ghost use Rattle.frame_bridge.specs.declared.ports.Port.{Port as HeldPort};
 ghost use Rattle.frame_bridge.specs.Forwarding.{first_ports, forward};
 ghost use Rattle.frame_bridge.specs.Links.{link_config};
-ghost use Rattle.frame_bridge.specs.Run.{World, started, run_of};
+ghost use Rattle.frame_bridge.specs.Run.{World, started};
 ghost use Rattle.frame_bridge.specs.Output.{pieces_of, port_rows, outs, IsBridged, IsOutput, output_of};
 ghost use Rattle.frame_bridge.specs.Refinement.{shape, PortRefines, ArePorts, RunRefines, IsThere, IsUnderWay};
 

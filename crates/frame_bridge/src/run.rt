@@ -1,5 +1,5 @@
 //! The run of a bridge: the turns of its ports, and the frames that arrive.
-ghost use Rattle.std.specs.Prelude.{◌≡◌, ℕ, List, ◌++◌, ◌∷◌, [], ◌<◌, ◌≤◌, length, IfOk, OnOk, Some, slice_get};
+ghost use Rattle.std.specs.Prelude.{◌≡◌, ℕ, ◌<◌, ◌≤◌, length, OnOk, Some, slice_get};
 ghost use Rattle.std.specs.List.{flat_map};
 ghost use Rattle.split_ring.specs.declared.sizes.TheConstants.{SHORTEST_FRAME};
 ghost use Rattle.link_endpoint.specs.Engine.{delivered};

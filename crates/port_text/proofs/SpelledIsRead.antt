@@ -20,7 +20,7 @@ use Rattle.port_text.specs.declared.positions.Position.TheVariants.{AtPeer, AtBe
 use Rattle.port_text.specs.Sizes.{has_port}
 use Rattle.port_text.specs.declared.limits.TheConstants.{MOST_TURNS}
 use Rattle.port_text.specs.Acts.{cost, turns_of}
-use Rattle.port_text.specs.Table.{pieces_of, all_forms}
+use Rattle.port_text.specs.Table.{pieces_of}
 use Rattle.port_text.specs.ActRows.{row_of_act}
 use Rattle.port_text.specs.Scenario.{World, IsWorld, IsAllowed}
 use Rattle.port_text.specs.Spelling.{row_of_peer, rows_of_peers, rows_of, IsSpelling}

@@ -8,7 +8,7 @@ use Rattle.split_ring.specs.Layout.{queue_size}
 use Rattle.split_ring.specs.Faults.{IsQueueFault}
 use Rattle.split_ring.specs.declared.faults.QueueFault.{QueueFault}
 use Rattle.split_ring.specs.declared.faults.QueueFault.TheVariants.{BadMtu, TooSmall, NoSlot}
-use Rattle.bridge_text.specs.declared.scripts.Sent.{Sent}
+use Rattle.frame_bridge.specs.declared.scripts.Sent.{Sent}
 use Rattle.frame_bridge.specs.declared.ports.Port.{Port}
 use Rattle.frame_bridge.specs.declared.run.Run.{Run}
 use Rattle.frame_bridge.specs.BridgeView.{RefinesArrivals}

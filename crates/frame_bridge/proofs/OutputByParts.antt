@@ -6,8 +6,8 @@ use Rattle.std.proofs.lemmas.Option.{slice_get_within}
 use Rattle.std.proofs.lemmas.List.Concat.{flat_map-append, flat_map-cons}
 use Rattle.line_format.specs.Forms.{line_of}
 use Rattle.line_format.specs.Rows.{Row, row, fields_of_row, line_of_row, text_of}
-use Rattle.bridge_text.specs.declared.scripts.Sent.{Sent}
-use Rattle.bridge_text.specs.Spelling as text
+use Rattle.frame_bridge.specs.declared.scripts.Sent.{Sent}
+use Rattle.frame_bridge.specs.Spelling as text
 use Rattle.frame_bridge.specs.declared.output.Line.{Line}
 use Rattle.frame_bridge.specs.declared.output.Line.TheVariants.{Known, End}
 use Rattle.frame_bridge.specs.declared.ports.Port.{Port}

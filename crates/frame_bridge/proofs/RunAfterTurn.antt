@@ -6,7 +6,7 @@ use Rattle.std.proofs.lemmas.List.{length-set}
 use Rattle.split_ring.specs.declared.sizes.TheConstants.{SHORTEST_FRAME}
 use Rattle.link_invariant.specs.LinkConfig.{IsOffered}
 use Rattle.line_format.specs.Rows.{text_of}
-use Rattle.bridge_text.specs.declared.scripts.Sent.{Sent}
+use Rattle.frame_bridge.specs.declared.scripts.Sent.{Sent}
 use Rattle.frame_bridge.specs.declared.ports.Port.{Port}
 use Rattle.frame_bridge.specs.declared.run.Run.{Run}
 use Rattle.frame_bridge.specs.Forwarding.{Arrival, forward, forwarded_after}

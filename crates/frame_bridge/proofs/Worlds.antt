@@ -15,8 +15,8 @@ use Rattle.link_invariant.specs.Runs.{HonestRuns}
 use Rattle.link_invariant.specs.Runs as honest
 use Rattle.pair_sessions.specs.CalmRuns.{CalmRuns, starts, begins, steps, others}
 use Rattle.pair_sessions.proofs.CalmRuns.{deliver_lem}
-use Rattle.bridge_text.specs.declared.scripts.Sent.{Sent}
-use Rattle.bridge_text.specs.Spelling as text
+use Rattle.frame_bridge.specs.declared.scripts.Sent.{Sent}
+use Rattle.frame_bridge.specs.Spelling as text
 use Rattle.frame_bridge.specs.Forwarding.{Arrival, is_forwarded, forwarded_after, forward}
 use Rattle.frame_bridge.specs.BridgeView.{arrival}
 use Rattle.link_endpoint.specs.Plan.{delivered_by}

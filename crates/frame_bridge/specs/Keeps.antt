@@ -4,7 +4,7 @@ use Rattle.call_grammar.specs.Ends.{End}
 use Rattle.call_grammar.specs.Places.{Place, ReadingUsedIndex, ReadingUsedId, WritingFrameWord, WritingDescAddressLow, WritingDescAddressHigh, WritingDescLength, WritingDescFlags, WritingAvailEntry, WritingAvailIndex}
 use Rattle.link_invariant.specs.LinkConfig.{IsOffered}
 use Rattle.pair_sessions.specs.CalmRuns.{CalmRuns}
-use Rattle.bridge_text.specs.declared.scripts.Sent.{Sent}
+use Rattle.frame_bridge.specs.declared.scripts.Sent.{Sent}
 use Rattle.frame_bridge.specs.Forwarding.{forward}
 use Rattle.frame_bridge.specs.Links.{link_config, Link}
 use Rattle.frame_bridge.specs.Run.{World, frames_of}

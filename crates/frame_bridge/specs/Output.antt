@@ -6,8 +6,8 @@ use Rattle.std.specs.List.{flat_map}
 use Rattle.line_format.specs.Forms.{Piece, Word, Number, Hex}
 use Rattle.line_format.specs.Rows.{Row, row, text_of}
 use Rattle.link_invariant.specs.Runs.{HonestRuns}
-use Rattle.bridge_text.specs.Spelling as text
-use Rattle.bridge_text.specs.Spelling.{IsSpelling}
+use Rattle.frame_bridge.specs.Spelling as text
+use Rattle.frame_bridge.specs.Spelling.{IsSpelling}
 use Rattle.frame_bridge.specs.declared.output.Line.{Line}
 use Rattle.frame_bridge.specs.declared.output.Line.TheVariants.{Arrive, Port, Out, Left, Known, End}
 use Rattle.frame_bridge.specs.Forwarding.{Arrival, first_ports, forward, known_count}

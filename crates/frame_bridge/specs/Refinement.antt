@@ -1,5 +1,5 @@
 -- The abstract state that the code of a run represents.
-use Rattle.std.specs.Prelude.{ℕ, ◌≡◌, ◌+◌, ◌^◌, ◌==◌, ◌<◌, ◌≤◌, Bool, Some, slice_get, true, false, if◌then◌else◌, List, [], ◌∷◌, ◌++◌, length, map, min, slice_index}
+use Rattle.std.specs.Prelude.{ℕ, ◌≡◌, ◌+◌, ◌^◌, ◌==◌, ◌<◌, ◌≤◌, Bool, Some, Result, OnOk, slice_get, true, false, if◌then◌else◌, List, [], ◌∷◌, ◌++◌, length, map, min, slice_index}
 use Rattle.line_format.specs.Rows.{text_of}
 use Rattle.section_map.specs.Geometry.{Shape, Words, word_count}
 use Rattle.section_map.specs.Faults.{shape_of}
@@ -9,7 +9,7 @@ use Rattle.link_invariant.specs.LinkConfig.{config_of}
 use Rattle.link_endpoint.specs.Refinement.{RefinesAt}
 use Rattle.link_endpoint.specs.Plan.{Plan, HasCounted}
 use Rattle.link_endpoint.specs.declared.auto_endpoint.AutoEndpoint.{AutoEndpoint}
-use Rattle.bridge_text.specs.declared.scripts.Sent.{Sent}
+use Rattle.frame_bridge.specs.declared.scripts.Sent.{Sent}
 use Rattle.frame_bridge.specs.declared.ports.Port.{Port}
 use Rattle.frame_bridge.specs.declared.run.Run.{Run}
 use Rattle.frame_bridge.specs.Forwarding.{forward, forwarded_after}
@@ -40,6 +40,10 @@ pub record AutoEndRefines (me : ℕ) (auto_end : links.AutoEnd) (held : AutoEndp
 pub record RegionRefines (memory : ℕ → ℕ) (region : Words) : Type 0 where
   pub shape_is : region.shape ≡ shape
   pub words : (w : ℕ) → w < word_count shape → memory w ≡ slice_index region.words w
+
+-- The fact holds of each link whose end `me` the code's end refines, over the region's words.
+abbrev pub AtEachLink : ℕ → AutoEndpoint → Words → (links.Link → Type 0) → Type 0
+AtEachLink me held region Fact = (link : links.Link) → AutoEndRefines me (link.auto_ends me) held → RegionRefines link.memory region → Fact link
 
 -- Whether the note delivers a frame.
 abbrev pub is_delivery : Note → Bool
@@ -100,6 +104,19 @@ pub record IsThere (sent : List Sent) (ports : ℕ) (w : World) (run : Run) : Ty
   pub few : (2 ≤ ports) × (ports ≤ 8)
   pub going : Going sent ports w
   pub refines : RunRefines ports w run
+
+-- The code's run refines a world of the run of some text.
+abbrev pub IsUnderWay : Run → Type 0
+IsUnderWay run = (sent : List Sent) × (ports : ℕ) × (w : World) × IsThere sent ports w run
+
+-- In addition the text has this port.
+abbrev pub IsUnderWayAt : ℕ → Run → Type 0
+IsUnderWayAt port run = (sent : List Sent) × (ports : ℕ) × (w : World) × IsThere sent ports w run × (port < ports)
+
+-- If the call succeeds, it takes each world that the run refines to the next one.
+abbrev pub LeadsTo : {A E : Type 0} → Result A E → (old new : Run) → (ℕ → World → World) → Type 0
+LeadsTo result old new next =
+    (sent : List Sent) (ports : ℕ) (w : World) → IsThere sent ports w old → OnOk result (IsThere sent ports (next ports w) new)
 
 -- The links after a turn of an end of a port, before the arrival of what it delivers.
 abbrev pub with_turned : World → Turn → World

@@ -2,8 +2,8 @@
 -- port delivers arrives.
 use Rattle.std.specs.Prelude.{ℕ, zero, suc, ◌==◌, if◌then◌else◌, List, [], ◌∷◌, ◌++◌, map, filter, fold}
 use Rattle.std.specs.List.{flat_map}
-use Rattle.bridge_text.specs.declared.scripts.Sent.{Sent}
-use Rattle.bridge_text.specs.Spelling as text
+use Rattle.frame_bridge.specs.declared.scripts.Sent.{Sent}
+use Rattle.frame_bridge.specs.Spelling as text
 use Rattle.frame_bridge.specs.Forwarding.{Arrival, first_ports, forwarded_after}
 use Rattle.frame_bridge.specs.BridgeView.{arrival}
 use Rattle.frame_bridge.specs.Links.{Link, starting, turned, observed_by, with_copies}

@@ -6,7 +6,7 @@ ghost use Rattle.link_invariant.specs.LinkConfig.{config_of, IsOffered};
 ghost use Rattle.link_endpoint.specs.Engine.{delivered};
 ghost use Rattle.frame_bridge.specs.Links as links;
 ghost use Rattle.frame_bridge.specs.Links.{link_config, opened, turned, observed_by, value_in, words_after, starting};
-ghost use Rattle.frame_bridge.specs.Refinement.{shape, AutoEndRefines, RegionRefines, is_delivery, delivered_if};
+ghost use Rattle.frame_bridge.specs.Refinement.{shape, AutoEndRefines, RegionRefines, AtEachLink, is_delivery, delivered_if};
 
 use ivs_base::NoMemory;
 use link_endpoint::{Auto, AutoEndpoint, Endpoint};
@@ -27,7 +27,8 @@ fn perform(region: &mut Region, me: u32, access: Access) -> u32
     requires shape { region.old.shape ≡ shape }
     requires reach { IsPermittedAccess (config_of link_config me) access }
     ensures value { (memory : ℕ → ℕ) → RegionRefines memory region.old → result ≡ value_in memory access }
-    ensures words { (memory : ℕ → ℕ) → RegionRefines memory region.old → RegionRefines (words_after me memory access) region.new }
+    ensures words { (memory : ℕ → ℕ) → RegionRefines memory region.old →
+        RegionRefines (words_after me memory access) region.new }
     ensures shape { region.new.shape ≡ shape }
 {
     match access {
@@ -74,8 +75,10 @@ pub fn initial_end(
 
 /// Opens the next call, if no call is open.
 fn open_next(auto_end: &mut AutoEndpoint, me: u32)
-    requires refines { (is : links.AutoEnd) × AutoEndRefines me is auto_end.old × All (IsOffered link_config) is.frames }
-    ensures { (is : links.AutoEnd) → AutoEndRefines me is auto_end.old → AutoEndRefines me (opened (config_of link_config me) is) auto_end.new }
+    requires refines { (is : links.AutoEnd) × AutoEndRefines me is auto_end.old ×
+        All (IsOffered link_config) is.frames }
+    ensures { (is : links.AutoEnd) → AutoEndRefines me is auto_end.old →
+        AutoEndRefines me (opened (config_of link_config me) is) auto_end.new }
 {
     let choice = auto_end.choose();
     auto_end.open(choice);
@@ -86,13 +89,13 @@ fn open_next(auto_end: &mut AutoEndpoint, me: u32)
 pub fn take_turn(auto_end: &mut AutoEndpoint, region: &mut Region, me: u32) -> bool
     requires me { me < 2 }
     requires shape { region.old.shape ≡ shape }
-    requires refines { (is : links.AutoEnd) × AutoEndRefines me is auto_end.old × All (IsOffered link_config) is.frames }
-    ensures auto_end { (link : links.Link) → AutoEndRefines me (link.auto_ends me) auto_end.old → RegionRefines link.memory region.old →
-        AutoEndRefines me ((turned me link).auto_ends me) auto_end.new }
-    ensures words { (link : links.Link) → AutoEndRefines me (link.auto_ends me) auto_end.old → RegionRefines link.memory region.old →
-        RegionRefines (turned me link).memory region.new }
-    ensures recorded { (link : links.Link) → AutoEndRefines me (link.auto_ends me) auto_end.old → RegionRefines link.memory region.old →
-        observed_by me link ≡ delivered_if result (delivered auto_end.new.end) }
+    requires refines { (is : links.AutoEnd) × AutoEndRefines me is auto_end.old ×
+        All (IsOffered link_config) is.frames }
+    ensures auto_end { AtEachLink me auto_end.old region.old (λ link.
+        AutoEndRefines me ((turned me link).auto_ends me) auto_end.new) }
+    ensures words { AtEachLink me auto_end.old region.old (λ link. RegionRefines (turned me link).memory region.new) }
+    ensures recorded { AtEachLink me auto_end.old region.old (λ link.
+        observed_by me link ≡ delivered_if result (delivered auto_end.new.end)) }
     ensures shape { region.new.shape ≡ shape }
 {
     open_next(auto_end, me);

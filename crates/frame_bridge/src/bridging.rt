@@ -1,26 +1,28 @@
 //! The run of a text, from its bytes to its output.
-ghost use Rattle.std.specs.Prelude.{◌≡◌, ℕ, List, ◌++◌, ◌∷◌, [], ◌-◌, ◌^◌, ◌<◌, ◌≤◌, length, IfOk, IfErr, OnOk, Some, slice_get};
+ghost use Rattle.std.specs.Prelude.{◌≡◌, ℕ, List, ◌++◌, [], ◌-◌, ◌^◌, ◌<◌, ◌≤◌, length, IfOk, IfErr, OnOk, Some, slice_get};
 ghost use Rattle.std.specs.List.{flat_map};
 ghost use Rattle.line_format.specs.Rows.{text_of};
-ghost use Rattle.bridge_text.specs.declared.faults.BridgeFault.TheVariants.{NoMemory as OutOfMemory};
-ghost use Rattle.bridge_text.specs.declared.scripts.Sent.{Sent as SentFrame};
-ghost use Rattle.bridge_text.specs.Answers.{Refuses};
-ghost use Rattle.bridge_text.specs.Judge.{answer};
-ghost use Rattle.bridge_text.specs.Spelling as text;
-ghost use Rattle.bridge_text.specs.Spelling.{IsSpelling, IsWorld, world_of};
+ghost use Rattle.frame_bridge.specs.declared.faults.BridgeFault.TheVariants.{NoMemory as OutOfMemory};
+ghost use Rattle.frame_bridge.specs.declared.scripts.Sent.{Sent as SentFrame};
+ghost use Rattle.frame_bridge.specs.Answers.{Refuses};
+ghost use Rattle.frame_bridge.specs.Judge.{answer};
+ghost use Rattle.frame_bridge.specs.Spelling as text;
+ghost use Rattle.frame_bridge.specs.Spelling.{IsSpelling, IsWorld, world_of};
 ghost use Rattle.section_map.specs.Geometry.{Shape};
 ghost use Rattle.frame_bridge.specs.declared.ports.Port.{Port as HeldPort};
 ghost use Rattle.frame_bridge.specs.Forwarding.{first_ports, forward};
 ghost use Rattle.frame_bridge.specs.Links.{link_config};
-ghost use Rattle.frame_bridge.specs.Run.{World, started, run_of};
+ghost use Rattle.frame_bridge.specs.Run.{World, started};
 ghost use Rattle.frame_bridge.specs.Output.{pieces_of, port_rows, outs, IsBridged, IsOutput, output_of};
-ghost use Rattle.frame_bridge.specs.Refinement.{shape, PortRefines, ArePorts, RunRefines, IsThere};
+ghost use Rattle.frame_bridge.specs.Refinement.{shape, PortRefines, ArePorts, RunRefines, IsThere, IsUnderWay};
 
+use crate::faults::BridgeFault;
 use crate::learning::Bridge;
 use crate::output::{Line, put};
 use crate::ports::Port;
+use crate::reading::parse;
 use crate::run::Run;
-use bridge_text::{BridgeFault, Script, SentFrames, parse};
+use crate::scripts::{Script, SentFrames};
 use ivs_base::NoMemory;
 use section_map::Geometry;
 use split_ring::Queue;
@@ -50,7 +52,8 @@ fn section() -> Queue
 /// Returns `count` initial ports, whose stations send nothing.
 fn ports_at_start(alloc: Global, count: u32) -> Result<Vec<Port>, NoMemory>
     ensures long { IfOk result (λ ports. length ports.items ≡ count) }
-    ensures each { IfOk result (λ ports. (k : ℕ) (port : HeldPort) → slice_get ports.items k ≡ Some port → PortRefines ((started []).links k) [] port) }
+    ensures each { IfOk result (λ ports. (k : ℕ) (port : HeldPort) → slice_get ports.items k ≡ Some port →
+        PortRefines ((started []).links k) [] port) }
 {
     let geometry = region();
     let queue = section();
@@ -77,7 +80,8 @@ impl Run {
     /// Adds each frame of the list to its station's frames.
     fn send(&mut self, sent: SentFrames) -> Result<(), NoMemory>
         requires { (k : ℕ) (s : SentFrame) → slice_get sent k ≡ Some s → s.port < length self.old.ports.items }
-        ensures { (ports : ℕ) → RunRefines ports (started []) self.old → OnOk result (RunRefines ports (started sent) self.new) }
+        ensures { (ports : ℕ) → RunRefines ports (started []) self.old →
+            OnOk result (RunRefines ports (started sent) self.new) }
     {
         for one in sent.into_items() {
             let port = &mut self.ports[one.port as usize];
@@ -91,8 +95,10 @@ impl Run {
 /// frames that are left.
 fn put_port(out: &mut Vec<u8>, number: u64, port: &Port) -> Result<(), NoMemory>
     requires { port.now.delivered ≤ port.now.forwarded }
-    ensures { (w : World) → PortRefines (w.links number) (forward w.arrivals number) port.now → length (forward w.arrivals number) < 2 ^ 64 →
-        length (outs w number) ≤ length (forward w.arrivals number) → OnOk result (out.new.items ≡ out.old.items ++ text_of pieces_of (port_rows w number)) }
+    ensures { (w : World) → PortRefines (w.links number) (forward w.arrivals number) port.now →
+        length (forward w.arrivals number) < 2 ^ 64 →
+        length (outs w number) ≤ length (forward w.arrivals number) →
+        OnOk result (out.new.items ≡ out.old.items ++ text_of pieces_of (port_rows w number)) }
 {
     put(out, Line::Port, &[number], &[])?;
     out.extend_from_slice(&port.outs)?;
@@ -104,7 +110,8 @@ fn put_port(out: &mut Vec<u8>, number: u64, port: &Port) -> Result<(), NoMemory>
 fn put_ports(out: &mut Vec<u8>, ports: &[Port]) -> Result<(), NoMemory>
     requires { (k : ℕ) (port : HeldPort) → slice_get ports.now k ≡ Some port → port.delivered ≤ port.forwarded }
     ensures { (w : World) → ArePorts w ports.now →
-        OnOk result (out.new.items ≡ out.old.items ++ text_of pieces_of (flat_map (port_rows w) (first_ports (length ports.now)))) }
+        OnOk result (out.new.items ≡
+        out.old.items ++ text_of pieces_of (flat_map (port_rows w) (first_ports (length ports.now)))) }
 {
     for (number, port) in ports.iter().enumerate() {
         put_port(out, number as u64, port)?;
@@ -115,8 +122,9 @@ fn put_ports(out: &mut Vec<u8>, ports: &[Port]) -> Result<(), NoMemory>
 impl Run {
     /// Returns the output of the run at its end.
     fn finish(self) -> Result<Vec<u8>, NoMemory>
-        requires { (sent : List SentFrame) × (ports : ℕ) × (w : World) × IsThere sent ports w self }
-        ensures { (sent : List SentFrame) (ports : ℕ) (w : World) → IsThere sent ports w self → IfOk result (λ output. output.items ≡ output_of ports w) }
+        requires { IsUnderWay self }
+        ensures { (sent : List SentFrame) (ports : ℕ) (w : World) → IsThere sent ports w self →
+            IfOk result (λ output. output.items ≡ output_of ports w) }
     {
         let Run {
             bridge,

@@ -102,7 +102,8 @@ impl Bridge {
     /// Returns the port of an address, or `None` if the address isn't known.
     // claim: The port of an address is that of its latest arrival, if it was learned.
     pub fn port_of(&self, address: &[u8; 6]) -> Option<u32>
-        ensures { (arrivals : List Arrival) → RefinesArrivals self.now arrivals → result ≡ port_of arrivals address.now }
+        ensures { (arrivals : List Arrival) → RefinesArrivals self.now arrivals →
+            result ≡ port_of arrivals address.now }
     {
         self.table.get(address).copied()
     }
@@ -134,7 +135,8 @@ fn ports_of(count: u32, known: Option<u32>, from: u32) -> ArrayVec<u32, 8>
 impl Bridge {
     /// Learns that an address is at this port, if it may be learned.
     fn learn(&mut self, port: u32, address: &[u8; 6]) -> Result<(), NoMemory>
-        ensures refines { (earlier : List Arrival) (frame : List ℕ) → RefinesArrivals self.old earlier → source frame ≡ address.now →
+        ensures refines { (earlier : List Arrival) (frame : List ℕ) → RefinesArrivals self.old earlier →
+            source frame ≡ address.now →
             OnOk result (RefinesArrivals self.new (earlier ++ arrival port frame ∷ [])) }
         ensures same { self.new.ports ≡ self.old.ports }
         ensures unchanged { OnErr result (self.new ≡ self.old) }
@@ -150,7 +152,8 @@ impl Bridge {
 
     /// Returns the ports to which a frame from this port to this address goes.
     fn forwards(&self, port: u32, address: &[u8; 6]) -> ArrayVec<u32, 8>
-        ensures { (arrivals : List Arrival) (frame : List ℕ) → RefinesArrivals self.now arrivals → destination frame ≡ address.now →
+        ensures { (arrivals : List Arrival) (frame : List ℕ) → RefinesArrivals self.now arrivals →
+            destination frame ≡ address.now →
             result.items ≡ filter (is_forwarded arrivals (arrival port frame)) (first_ports self.now.ports) }
     {
         let known = if is_group(address) {

@@ -53,7 +53,8 @@ impl Port {
 
     /// Takes a turn of the station.
     pub fn station_turn(&mut self) -> Result<(), NoMemory>
-        requires { (link : links.Link) × (forwarded : List (List ℕ)) × PortRefines link forwarded self.old × All (IsOffered link_config) (link.auto_ends 0).frames }
+        requires { (link : links.Link) × (forwarded : List (List ℕ)) × PortRefines link forwarded self.old ×
+            All (IsOffered link_config) (link.auto_ends 0).frames }
         ensures { (link : links.Link) (forwarded : List (List ℕ)) → PortRefines link forwarded self.old →
             OnOk result (PortRefines (turned 0 link) forwarded self.new) }
     {
@@ -66,8 +67,10 @@ impl Port {
 
     /// Takes a turn of the bridge's end. Returns whether a frame arrives.
     pub fn own_turn(&mut self) -> bool
-        requires { (link : links.Link) × (forwarded : List (List ℕ)) × PortRefines link forwarded self.old × All (IsOffered link_config) (link.auto_ends 1).frames }
-        ensures refines { (link : links.Link) (forwarded : List (List ℕ)) → PortRefines link forwarded self.old → PortRefines (turned 1 link) forwarded self.new }
+        requires { (link : links.Link) × (forwarded : List (List ℕ)) × PortRefines link forwarded self.old ×
+            All (IsOffered link_config) (link.auto_ends 1).frames }
+        ensures refines { (link : links.Link) (forwarded : List (List ℕ)) → PortRefines link forwarded self.old →
+            PortRefines (turned 1 link) forwarded self.new }
         ensures recorded { (link : links.Link) (forwarded : List (List ℕ)) → PortRefines link forwarded self.old →
             observed_by 1 link ≡ delivered_if result (delivered self.new.own.end) }
     {

@@ -1,13 +1,12 @@
 //! The run of a bridge: the turns of its ports, and the frames that arrive.
-ghost use Rattle.std.specs.Prelude.{◌≡◌, ℕ, List, ◌++◌, ◌∷◌, [], ◌<◌, ◌≤◌, length, IfOk, OnOk, Some, slice_get};
+ghost use Rattle.std.specs.Prelude.{◌≡◌, ℕ, ◌<◌, ◌≤◌, length, OnOk, Some, slice_get};
 ghost use Rattle.std.specs.List.{flat_map};
 ghost use Rattle.split_ring.specs.declared.sizes.TheConstants.{SHORTEST_FRAME};
-ghost use Rattle.bridge_text.specs.declared.scripts.Sent.{Sent as SentFrame};
 ghost use Rattle.link_endpoint.specs.Engine.{delivered};
 ghost use Rattle.frame_bridge.specs.declared.ports.Port.{Port as HeldPort};
 ghost use Rattle.frame_bridge.specs.Forwarding.{first_ports};
-ghost use Rattle.frame_bridge.specs.Run.{World, turn, times, turns_of, schedule, ran, world_after};
-ghost use Rattle.frame_bridge.specs.Refinement.{RunRefines, IsThere, with_arrival};
+ghost use Rattle.frame_bridge.specs.Run.{World, turn, turns_of, schedule, ran, world_after};
+ghost use Rattle.frame_bridge.specs.Refinement.{RunRefines, IsUnderWay, IsUnderWayAt, LeadsTo, with_arrival};
 
 use crate::learning::Bridge;
 use crate::output::{Line, put};
@@ -29,9 +28,8 @@ pub struct Run {
 impl Run {
     /// Takes a turn of the station of this port.
     fn station_turn(&mut self, port: usize) -> Result<(), NoMemory>
-        requires { (sent : List SentFrame) × (ports : ℕ) × (w : World) × IsThere sent ports w self.old × (port < ports) }
-        ensures { (sent : List SentFrame) (ports : ℕ) (w : World) → IsThere sent ports w self.old →
-            OnOk result (IsThere sent ports (world_after w (turn port 0)) self.new) }
+        requires { IsUnderWayAt port self.old }
+        ensures { LeadsTo result self.old self.new (λ ports w. world_after w (turn port 0)) }
     {
         let port = &mut self.ports[port];
         port.station_turn()
@@ -41,8 +39,10 @@ impl Run {
     /// the frame's line and copies the frame to each port to which it is forwarded.
     fn arrive(&mut self, alloc: Global, from: usize) -> Result<(), NoMemory>
         requires refines { (w : World) × (ports : ℕ) × RunRefines ports w self.old × (from < ports) × (ports ≤ 8) }
-        requires frame { (port : HeldPort) → slice_get self.old.ports.items from ≡ Some port → SHORTEST_FRAME ≤ length (delivered port.own.end) }
-        ensures { (w : World) (ports : ℕ) (port : HeldPort) → RunRefines ports w self.old → slice_get self.old.ports.items from ≡ Some port →
+        requires frame { (port : HeldPort) → slice_get self.old.ports.items from ≡ Some port →
+            SHORTEST_FRAME ≤ length (delivered port.own.end) }
+        ensures { (w : World) (ports : ℕ) (port : HeldPort) → RunRefines ports w self.old →
+            slice_get self.old.ports.items from ≡ Some port →
             OnOk result (RunRefines ports (with_arrival w from (delivered port.own.end)) self.new) }
     {
         let frame = self.ports[from].own.end.delivered();
@@ -59,9 +59,8 @@ impl Run {
 
     /// Takes a turn of the bridge's end of this port.
     fn own_turn(&mut self, alloc: Global, port: usize) -> Result<(), NoMemory>
-        requires { (sent : List SentFrame) × (ports : ℕ) × (w : World) × IsThere sent ports w self.old × (port < ports) }
-        ensures { (sent : List SentFrame) (ports : ℕ) (w : World) → IsThere sent ports w self.old →
-            OnOk result (IsThere sent ports (world_after w (turn port 1)) self.new) }
+        requires { IsUnderWayAt port self.old }
+        ensures { LeadsTo result self.old self.new (λ ports w. world_after w (turn port 1)) }
     {
         let here = &mut self.ports[port];
         if here.own_turn() {
@@ -72,9 +71,8 @@ impl Run {
 
     /// Takes the turns of both ends of a port in a round.
     fn port_turns(&mut self, alloc: Global, port: usize) -> Result<(), NoMemory>
-        requires { (sent : List SentFrame) × (ports : ℕ) × (w : World) × IsThere sent ports w self.old × (port < ports) }
-        ensures { (sent : List SentFrame) (ports : ℕ) (w : World) → IsThere sent ports w self.old →
-            OnOk result (IsThere sent ports (ran w (turns_of port)) self.new) }
+        requires { IsUnderWayAt port self.old }
+        ensures { LeadsTo result self.old self.new (λ ports w. ran w (turns_of port)) }
     {
         for _station in 0..TURNS {
             self.station_turn(port)?;
@@ -87,9 +85,8 @@ impl Run {
 
     /// Plays a round of all ports.
     fn round(&mut self, alloc: Global) -> Result<(), NoMemory>
-        requires { (sent : List SentFrame) × (ports : ℕ) × (w : World) × IsThere sent ports w self.old }
-        ensures { (sent : List SentFrame) (ports : ℕ) (w : World) → IsThere sent ports w self.old →
-            OnOk result (IsThere sent ports (ran w (flat_map turns_of (first_ports ports))) self.new) }
+        requires { IsUnderWay self.old }
+        ensures { LeadsTo result self.old self.new (λ ports w. ran w (flat_map turns_of (first_ports ports))) }
     {
         for port in 0..self.ports.len() {
             self.port_turns(alloc, port)?;
@@ -99,9 +96,8 @@ impl Run {
 
     /// Plays `rounds` rounds.
     pub fn rounds(&mut self, alloc: Global, rounds: u32) -> Result<(), NoMemory>
-        requires { (sent : List SentFrame) × (ports : ℕ) × (w : World) × IsThere sent ports w self.old }
-        ensures { (sent : List SentFrame) (ports : ℕ) (w : World) → IsThere sent ports w self.old →
-            OnOk result (IsThere sent ports (ran w (schedule rounds ports)) self.new) }
+        requires { IsUnderWay self.old }
+        ensures { LeadsTo result self.old self.new (λ ports w. ran w (schedule rounds ports)) }
     {
         for _round in 0..rounds {
             self.round(alloc)?;

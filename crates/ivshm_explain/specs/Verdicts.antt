@@ -9,9 +9,9 @@ use Rattle.port_text.specs.declared.faults.PortsFault.{PortsFault}
 use Rattle.port_text.specs.Scenario as ports
 use Rattle.port_text.specs.Spelling as port_text
 use Rattle.port_text.specs.Judge as port_judge
-use Rattle.bridge_text.specs.declared.faults.BridgeFault.{BridgeFault}
-use Rattle.bridge_text.specs.Spelling as bridge_text
-use Rattle.bridge_text.specs.Judge as bridge_judge
+use Rattle.frame_bridge.specs.declared.faults.BridgeFault.{BridgeFault}
+use Rattle.frame_bridge.specs.Spelling as bridge_text
+use Rattle.frame_bridge.specs.Judge as bridge_judge
 use Rattle.section_dump.specs.declared.DumpFault.{DumpFault}
 use Rattle.section_dump.specs.Image.{IsImage}
 use Rattle.section_dump.specs.Faults.{IsDumpFault}

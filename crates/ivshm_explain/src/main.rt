@@ -4,7 +4,7 @@
 //! # Design
 //!
 //! - A verdict is that of the text's own grammar (`parse` of `scenario_text`, `port_text` and
-//!   `bridge_text`): its number names the first bad line. So the explanation and `ivshm` name one
+//!   `frame_bridge`): its number names the first bad line. So the explanation and `ivshm` name one
 //!   line, by one definition each (`specs/Verdicts`). An image and a capture file are judged by
 //!   `section_dump` and `frame_capture` likewise, and their first fault has its place in bytes.
 //! - A difference is that of `trace_replay`, and the line due is that of the lawful history, which

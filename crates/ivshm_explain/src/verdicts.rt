@@ -73,7 +73,7 @@ fn ports_verdict(alloc: Global, bytes: &[u8]) -> Result<Verdict, NoMemory>
 fn bridge_verdict(alloc: Global, bytes: &[u8]) -> Result<Verdict, NoMemory>
     ensures { IfOk result (IsBridgeVerdict bytes.now) }
 {
-    match bridge_text::parse(alloc, bytes) {
+    match frame_bridge::parse(alloc, bytes) {
         Ok(_) => Ok(Verdict::Accepted),
         Err(fault) => match Refusal::of_bridge(fault) {
             Some(refusal) => Ok(Verdict::Refused(refusal)),

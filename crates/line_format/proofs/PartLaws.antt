@@ -1,9 +1,9 @@
 -- A text written part by part, and rows with numbers.
-use Rattle.std.proofs.Common.{◌≡◌, ℕ, ◌+◌, ◌-◌, ◌^◌, ◌<◌, ◌≤◌, Bool, false, eqb, not, List, [], ◌∷◌, ◌++◌, length, get_or, take, Option, Some, None, refl, sym, ap, ◌∙◌, append_assoc, arith, eq-eqb}
+use Rattle.std.proofs.Common.{◌≡◌, ℕ, ◌+◌, ◌-◌, ◌^◌, ◌<◌, ◌≤◌, Bool, false, eqb, not, List, [], ◌∷◌, ◌++◌, length, get_or, take, map, Option, Some, None, refl, sym, ap, ◌∙◌, append_assoc, arith, eq-eqb, inl, inr}
 use Rattle.std.specs.Prelude.{option_and_then, slice_get, decimal}
 use Rattle.std.specs.Option.{option_map_or}
-use Rattle.std.proofs.lemmas.Bool.{eqb-true}
-use Rattle.std.proofs.lemmas.List.{append-nil, take_more, length-take}
+use Rattle.std.proofs.lemmas.Bool.{eqb-true, eqb-false, cases_lt}
+use Rattle.std.proofs.lemmas.List.{append-nil, map-append, length-append, take_more, length-take}
 use Rattle.std.proofs.lemmas.List.Concat.{flat_map-append, flat_map-cons}
 use Rattle.line_format.specs.Numbers.{number_of}
 use Rattle.line_format.specs.Forms.{Piece, Word, Number, Fit, spell}
@@ -34,6 +34,22 @@ numbered-more {A} {F} pieces_of row_of front items n item lt is =
     let len : 0 + length (take n items) ≡ n = omega (arith, length-take n items) in
     let rows : numbered row_of 0 (take (n + 1) items) ≡ numbered row_of 0 (take n items) ++ row_of n item ∷ [] = rw (take_more items n item lt, is) (numbered-push row_of 0 (take n items) item ∙ ap (λ (k : ℕ). numbered row_of 0 (take n items) ++ row_of k item ∷ []) len) in
     text-push pieces_of front (numbered row_of 0 (take n items)) (row_of n item) ∙ ap (λ (rs : List (Row F)). front ++ text_of pieces_of rs) (sym rows)
+
+-- ---- rows of items
+
+-- One more item adds its row.
+pub rows-push : {A F : Type 0} (front : List (Row F)) (row_of : A → Row F) (items : List A) (item : A) (r : Row F) → row_of item ≡ r
+    → front ++ map row_of (items ++ item ∷ []) ≡ (front ++ map row_of items) ++ r ∷ []
+rows-push front row_of items item r e = rw (map-append, ← e) (sym (append_assoc front (map row_of items) (row_of item ∷ [])))
+
+-- With one more there are fewer than n, if there aren't n.
+pub still_fewer : {A : Type 0} (items : List A) (item : A) (n : ℕ) → length items < n → eqb (length (items ++ item ∷ [])) n ≡ false → length (items ++ item ∷ []) < n
+still_fewer items item n less other =
+    let one : length (items ++ item ∷ []) ≡ length items + 1 = length-append items (item ∷ []) in
+    elim (cases_lt (length (items ++ item ∷ [])) n) [
+      | inl lt ↦ lt
+      | inr ge ↦ absurd (eqb-false _ _ other (omega arith))
+    ]
 
 -- ---- rules about the number in a field
 

@@ -1,5 +1,5 @@
 -- The facts that a chain of tests gives if all pass.
-use Rattle.std.proofs.Common.{◌≡◌, Bool, true, false, cond, not, Option, Some, None, Result, Ok, Err, refl}
+use Rattle.std.proofs.Common.{◌≡◌, Bool, true, false, cond, not, ◌||◌, Option, Some, None, Result, Ok, Err, refl}
 use Rattle.line_format.specs.Steps.{◌>>=◌, some_or}
 
 pub bind_ok : {A B C : Type 0} (r : Result A C) (f : A → Result B C) (y : B) → (r >>= f) ≡ Ok y → (x : A) × (r ≡ Ok x) × (f x ≡ Ok y)
@@ -30,21 +30,12 @@ pub not_true : (b : Bool) → not b ≡ true → b ≡ false
 not_true true e = absurd cc
 not_true false e = refl
 
+pub either_false : (a b : Bool) → (a || b) ≡ false → (a ≡ false) × (b ≡ false)
+either_false true b e = absurd cc
+either_false false b e = (refl, e)
+
 pub same_ok : {A E : Type 0} (x y : A) → ◌≡◌ {A = Result A E} (Ok x) (Ok y) → x ≡ y
 same_ok x y e = cc
 
 pub same_some : {A : Type 0} (x y : A) → ◌≡◌ {A = Option A} (Some x) (Some y) → x ≡ y
 same_some x y e = cc
-
-pub none_if : {C : Type 0} (b : Bool) (c : C) → cond b None (Some c) ≡ None → b ≡ true
-none_if true c e = refl
-none_if false c e = absurd cc
-
-pub none_but : {C : Type 0} (b : Bool) (c : C) → cond b (Some c) None ≡ None → b ≡ false
-none_but true c e = absurd cc
-none_but false c e = refl
-
-pub two_none : {C : Type 0} (a b : Bool) (x y : C) → cond (not a) (Some x) (cond b (Some y) None) ≡ None → (a ≡ true) × (b ≡ false)
-two_none true false x y is = (refl, refl)
-two_none true true x y is = absurd cc
-two_none false b x y is = absurd cc

@@ -1,39 +1,45 @@
 -- A text as a table: its forms, the tests of a line in their order, and the effect of a line.
-use Rattle.std.specs.Prelude.{ℕ, if◌then◌else◌, Bool, List, length, Option, Some, None, Result, Ok, Err, option_and_then}
+use Rattle.std.specs.Prelude.{ℕ, if◌then◌else◌, Bool, true, false, List, length, Option, Some, None, Result, Ok, Err, option_and_then}
 use Rattle.std.specs.List.{list_all}
 use Rattle.line_format.specs.declared.grammar.Test.{Test}
-use Rattle.line_format.specs.declared.grammar.Test.TheVariants.{Line, Order, Number, Bytes}
+use Rattle.line_format.specs.declared.grammar.Test.TheVariants.{Line, Order, Number, Peer, Bytes, Sizes, Count}
 use Rattle.line_format.specs.Forms.{Piece, fields_of, numbers_of, hex_of, hex_bytes, is_printable}
 use Rattle.line_format.specs.Rows.{find_form}
 use Rattle.line_format.specs.Steps.{◌>>=◌, some_or}
 use Rattle.line_format.specs.Machine.{Machine}
 
 -- The rules of a text with forms F and faults C. S is the value of the lines so far, on which the
--- tests of the next line depend.
+-- tests of the next line depend. Each test is a Boolean; `judge` has their order.
 pub record Rules (S F C : Type 0) : Type 0 where
   pub pieces_of : F → List Piece
   pub forms : List F
   pub cause : Test → C
   -- the form is forbidden at this position
   pub is_out_of_order : S → F → List (List ℕ) → Bool
-  -- the fault of the numbers, each of which is in the form's own range
-  pub wrong_numbers : S → F → List ℕ → Option C
+  -- the numbers are in their ranges; each is in the form's own range
+  pub is_in_range : S → F → List ℕ → Bool
+  -- the text has the peer that the line names, and the peer can do this
+  pub is_its_peer : S → F → List ℕ → Bool
   -- whether a line of the form may have this number of bytes
   pub fits : S → F → ℕ → Bool
-  -- the fault of the whole row, whose numbers and bytes are right
-  pub wrong_row : S → F → List ℕ → List ℕ → Option C
+  -- the sizes that the line completes fit one another
+  pub fits_sizes : S → F → List ℕ → Bool
+  -- the text has room for the row: with it there are not too many
+  pub has_room : S → F → List ℕ → List ℕ → Bool
   -- the effect of a line without a fault
   pub add : F → List ℕ → List ℕ → S → S
   pub ended : S → Bool
 
-abbrev pub unless : {C : Type 0} → Option C → Result (Unit {0}) C
-unless None = Ok tt
-unless (Some cause) = Err cause
+-- The test passes, or this is the fault.
+abbrev pub pass_or : {C : Type 0} → C → Bool → Result (Unit {0}) C
+pass_or cause true = Ok tt
+pass_or cause false = Err cause
 
--- The lines so far with the row, unless the row has a fault.
+-- The lines so far with the row, whose numbers and bytes are right, unless the row has a fault.
 abbrev pub added : {S F C : Type 0} → Rules S F C → S → F → List ℕ → List ℕ → Result S C
 added g d form ns bytes = do
-  none ← unless (g.wrong_row d form ns bytes)
+  sizes ← pass_or (g.cause Sizes) (g.fits_sizes d form ns)
+  room ← pass_or (g.cause Count) (g.has_room d form ns bytes)
   Ok (g.add form ns bytes d)
 
 -- The bytes of the line, if its digits spell bytes of a length that fits.
@@ -45,7 +51,8 @@ unfoldable pub judge : {S F C : Type 0} → Rules S F C → S → F → List (Li
 judge g d form fields =
     if g.is_out_of_order d form fields then Err (g.cause Order) else do
       ns ← some_or (g.cause Number) (numbers_of (g.pieces_of form) fields)
-      none ← unless (g.wrong_numbers d form ns)
+      range ← pass_or (g.cause Number) (g.is_in_range d form ns)
+      peer ← pass_or (g.cause Peer) (g.is_its_peer d form ns)
       bytes ← some_or (g.cause Bytes) (bytes_in g d form fields)
       added g d form ns bytes
 

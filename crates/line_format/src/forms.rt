@@ -64,7 +64,8 @@ pub fn has_form(slots: &[FieldKind], fields: &[&[u8]]) -> bool
 /// Appends the numbers of the fields. Returns whether each of them is a number in its range.
 fn read_numbers(slots: &[FieldKind], fields: &[&[u8]], numbers: &mut ArrayVec<u64, 6>) -> bool
     requires { array_vec_len numbers.old + length slots.now ≤ 6 }
-    ensures { MatchOption (numbers_of (pieces slots.now) (texts fields.now)) (IsFalse result) (λ ns. IsTrue result × (numbers.new.items ≡ numbers.old.items ++ ns)) }
+    ensures { MatchOption (numbers_of (pieces slots.now) (texts fields.now)) (IsFalse result)
+        (λ ns. IsTrue result × (numbers.new.items ≡ numbers.old.items ++ ns)) }
 {
     let [slot, slots @ ..] = slots else {
         return true;

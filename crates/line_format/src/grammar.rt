@@ -1,5 +1,5 @@
 //! A text as a table of forms and tests, and the taking of one line of it, for every such table.
-ghost use Rattle.std.specs.Prelude.{◌≡◌, ◌≤◌, ℕ, length, List, None, false, IfOk, option_map};
+ghost use Rattle.std.specs.Prelude.{◌≡◌, ◌≤◌, ℕ, length, List, true, false, IfOk, option_map};
 ghost use Rattle.std.specs.List.{list_all};
 ghost use Rattle.line_format.specs.Forms.{pieces, texts, AreInRange, Piece};
 ghost use Rattle.line_format.specs.Rows.{find_form};
@@ -18,10 +18,16 @@ pub enum Test {
     Line,
     /// The form is allowed at this position.
     Order,
-    /// Each number field is a number in the range of the form.
+    /// Each number field is a number in its range.
     Number,
+    /// The text has the peer that the line names, and the peer can do this.
+    Peer,
     /// The digits spell bytes of a length that fits.
     Bytes,
+    /// The sizes that the line completes fit one another.
+    Sizes,
+    /// The text has room for the line.
+    Count,
 }
 
 /// The lines so far of a text, with the table of the tests of the next line.
@@ -54,15 +60,19 @@ pub trait Grammar {
     fn is_out_of_order(&self, form: Self::Form, fields: &[&[u8]]) -> bool
         ensures { result ≡ rules.is_out_of_order (draft_view self.now) form (texts fields.now) };
 
-    /// Returns the fault of the numbers, if they have one. Each is in the form's own range.
-    fn wrong_numbers(&self, form: Self::Form, numbers: &[u64]) -> Option<Self::Cause>
-        ensures { result ≡ rules.wrong_numbers (draft_view self.now) form numbers.now };
+    /// Whether the numbers, each in the form's own range, are in the ranges at this position.
+    fn is_in_range(&self, form: Self::Form, numbers: &[u64]) -> bool
+        ensures { result ≡ rules.is_in_range (draft_view self.now) form numbers.now };
+
+    /// Whether the text has the peer that the line names, and the peer can do this.
+    fn is_its_peer(&self, form: Self::Form, numbers: &[u64]) -> bool
+        ensures { result ≡ rules.is_its_peer (draft_view self.now) form numbers.now };
 
     /// Whether a line of the form may have `size` bytes.
     fn fits(&self, form: Self::Form, size: u64) -> bool
         ensures { result ≡ rules.fits (draft_view self.now) form size };
 
-    /// Adds the value of the line, unless the whole row has a fault.
+    /// Adds the value of the line, unless the row fails the test of sizes or of the count.
     fn add(
         &mut self,
         alloc: Global,
@@ -74,7 +84,8 @@ pub trait Grammar {
         requires order { rules.is_out_of_order (draft_view self.old) form (texts fields.now) ≡
             false }
         requires limits { AreInRange (rules.pieces_of form) numbers.now }
-        requires good { rules.wrong_numbers (draft_view self.old) form numbers.now ≡ None }
+        requires range { rules.is_in_range (draft_view self.old) form numbers.now ≡ true }
+        requires peer { rules.is_its_peer (draft_view self.old) form numbers.now ≡ true }
         ensures { Gives (draft_view self.new) result (added rules (draft_view self.old) form numbers.now bytes.items) };
 
     /// Whether the last line was the end of the text.
@@ -104,7 +115,8 @@ fn bytes_of<G: Grammar>(
     form: G::Form,
     fields: &[&[u8]],
 ) -> Result<Option<Vec<u8>>, AllocError>
-    ensures { IfOk result (λ o. option_map (λ v. v.items) o ≡ bytes_in G.rules (G.draft_view draft.now) form (texts fields.now)) }
+    ensures { IfOk result (λ o. option_map (λ v. v.items) o ≡
+        bytes_in G.rules (G.draft_view draft.now) form (texts fields.now)) }
 {
     let digits = hex_field(G::slots(form), fields);
     if !draft.fits(form, digits.len() as u64 / 2) {
@@ -129,8 +141,11 @@ fn judge<G: Grammar>(
     let Some(numbers) = numbers_in(G::slots(form), fields) else {
         return Err(LineFault::Wrong(G::cause(Test::Number)));
     };
-    if let Some(cause) = draft.wrong_numbers(form, &numbers) {
-        return Err(LineFault::Wrong(cause));
+    if !draft.is_in_range(form, &numbers) {
+        return Err(LineFault::Wrong(G::cause(Test::Number)));
+    }
+    if !draft.is_its_peer(form, &numbers) {
+        return Err(LineFault::Wrong(G::cause(Test::Peer)));
     }
     let Some(bytes) = bytes_of(draft, alloc, form, fields)? else {
         return Err(LineFault::Wrong(G::cause(Test::Bytes)));
@@ -140,10 +155,10 @@ fn judge<G: Grammar>(
 
 /// Takes the next line, without its newline: the tests in their order, and the effect of the line.
 // claim with Grammar::forms, Grammar::slots.value, Grammar::slots.few, Grammar::cause,
-//    Grammar::is_out_of_order, Grammar::wrong_numbers, Grammar::fits, Grammar::add,
-//    Grammar::is_ended: For every table of forms a line is judged by the same tests in the same
-//    order: its form, its position, its numbers, its bytes, the whole row. The first test that
-//    fails gives the fault.
+//    Grammar::is_out_of_order, Grammar::is_in_range, Grammar::is_its_peer, Grammar::fits,
+//    Grammar::add, Grammar::is_ended: For every table of forms a line is judged by the same tests
+//    in the same order: its form, its position, its numbers, its peer, its bytes, the sizes, the
+//    count. The first test that fails gives the fault.
 #[tactic(auto, unfolding(crate::specs::Grammar::step))]
 pub fn take_line<G: Grammar>(
     draft: &mut G,

@@ -26,7 +26,8 @@ pub fn put_one(out: &mut Vec<u8>, word: &[u8], first: u32) -> Result<(), AllocEr
 #[tactic(auto, using(crate::proofs::ShortLines::two))]
 pub fn put_two(out: &mut Vec<u8>, word: &[u8], first: u32, second: u32) -> Result<(), AllocError>
     requires { length word.now ≤ 16 }
-    ensures { OnOk result (out.new.items ≡ out.old.items ++ line_of (word.now ∷ decimal first ∷ decimal second ∷ []) ++ 10 ∷ []) }
+    ensures { OnOk result (out.new.items ≡
+        out.old.items ++ line_of (word.now ∷ decimal first ∷ decimal second ∷ []) ++ 10 ∷ []) }
 {
     let mut line = LineTail::of(b'\n');
     line.number(second);
@@ -45,7 +46,8 @@ pub fn put_three(
     third: u32,
 ) -> Result<(), AllocError>
     requires { length word.now ≤ 16 }
-    ensures { OnOk result (out.new.items ≡ out.old.items ++ line_of (word.now ∷ decimal first ∷ decimal second ∷ decimal third ∷ []) ++ 10 ∷ []) }
+    ensures { OnOk result (out.new.items ≡
+        out.old.items ++ line_of (word.now ∷ decimal first ∷ decimal second ∷ decimal third ∷ []) ++ 10 ∷ []) }
 {
     let mut line = LineTail::of(b'\n');
     line.number(third);
@@ -66,7 +68,9 @@ pub fn put_four(
     fourth: u32,
 ) -> Result<(), AllocError>
     requires { length word.now ≤ 16 }
-    ensures { OnOk result (out.new.items ≡ out.old.items ++ line_of (word.now ∷ decimal first ∷ decimal second ∷ decimal third ∷ decimal fourth ∷ []) ++ 10 ∷ []) }
+    ensures { OnOk result (out.new.items ≡
+        out.old.items ++ line_of (word.now ∷ decimal first ∷ decimal second ∷ decimal third ∷ decimal fourth ∷ []) ++
+        10 ∷ []) }
 {
     let mut line = LineTail::of(b'\n');
     line.number(fourth);
@@ -88,7 +92,8 @@ pub fn put_named(
 ) -> Result<(), AllocError>
     requires word { length word.now ≤ 10 }
     requires name { length name.now ≤ 16 }
-    ensures { OnOk result (out.new.items ≡ out.old.items ++ line_of (word.now ∷ decimal first ∷ name.now ∷ decimal second ∷ []) ++ 10 ∷ []) }
+    ensures { OnOk result (out.new.items ≡
+        out.old.items ++ line_of (word.now ∷ decimal first ∷ name.now ∷ decimal second ∷ []) ++ 10 ∷ []) }
 {
     let mut line = LineTail::of(b'\n');
     line.long_number(second);
@@ -108,7 +113,8 @@ pub fn put_with_bytes(
     bytes: &[u8],
 ) -> Result<(), AllocError>
     requires { length word.now ≤ 16 }
-    ensures { OnOk result (out.new.items ≡ out.old.items ++ line_of (word.now ∷ decimal first ∷ encode_lower bytes.now ∷ []) ++ 10 ∷ []) }
+    ensures { OnOk result (out.new.items ≡
+        out.old.items ++ line_of (word.now ∷ decimal first ∷ encode_lower bytes.now ∷ []) ++ 10 ∷ []) }
 {
     if bytes.len() <= 16 {
         let mut line = LineTail::of(b'\n');

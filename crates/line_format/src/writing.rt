@@ -15,7 +15,8 @@ fn put_fields(
     numbers: &[u64],
     bytes: &[u8],
 ) -> Result<(), AllocError>
-    ensures { OnOk result (out.new.items ≡ out.old.items ++ spaced is_later (spell (pieces slots.now) numbers.now bytes.now)) }
+    ensures { OnOk result (out.new.items ≡
+        out.old.items ++ spaced is_later (spell (pieces slots.now) numbers.now bytes.now)) }
 {
     let [slot, slots @ ..] = slots else {
         return Ok(());
@@ -61,7 +62,8 @@ pub fn put_line(
     numbers: &[u64],
     bytes: &[u8],
 ) -> Result<(), AllocError>
-    ensures { OnOk result (out.new.items ≡ out.old.items ++ line_of (spell (pieces slots.now) numbers.now bytes.now) ++ 10 ∷ []) }
+    ensures { OnOk result (out.new.items ≡
+        out.old.items ++ line_of (spell (pieces slots.now) numbers.now bytes.now) ++ 10 ∷ []) }
 {
     put_fields(out, false, slots, numbers, bytes)?;
     out.push(b'\n')?;

@@ -1,15 +1,15 @@
 -- The invariant of the lines so far at each position. Each row that can follow preserves it.
-use Rattle.std.proofs.Common.{◌≡◌, ℕ, ◌+◌, ◌<◌, ◌≤◌, Bool, true, false, cond, eqb, ◌||◌, List, [], ◌∷◌, ◌++◌, length, map, Some, refl, sym, ap, subst, ◌∙◌, append_assoc, arith, inl, inr}
+use Rattle.std.proofs.Common.{◌≡◌, ℕ, ◌+◌, ◌<◌, ◌≤◌, Bool, true, false, cond, eqb, List, [], ◌∷◌, ◌++◌, length, map, Some, refl, sym, ap, subst, ◌∙◌, arith}
 use Rattle.std.specs.Prelude.{slice_get, codes, All}
-use Rattle.std.proofs.lemmas.Bool.{eqb-true, eqb-false, cases_lt}
-use Rattle.std.proofs.lemmas.List.{append-nil, map-append, length-append}
+use Rattle.std.proofs.lemmas.Bool.{eqb-true, ltb-false}
+use Rattle.std.proofs.lemmas.List.{append-nil}
 use Rattle.std.proofs.lemmas.List.Elements.{All-nil}
 use Rattle.std.proofs.lemmas.List.Sums.{sum_by_push}
 use Rattle.line_format.specs.Rows.{Row, row}
 use Rattle.line_format.proofs.NumbersFit.{counted, list_0, in_range, one_alone, same_row, the_number}
 use Rattle.line_format.proofs.ListLaws.{all_push}
-use Rattle.line_format.proofs.PartLaws.{numbered-push, next_number}
-use Rattle.line_format.proofs.TestChains.{not_false}
+use Rattle.line_format.proofs.PartLaws.{numbered-push, rows-push, still_fewer, next_number}
+use Rattle.line_format.proofs.TestChains.{either_false, not_false, not_true}
 use Rattle.line_format.proofs.RowTexts.{Keeps, AreKept}
 use Rattle.line_format.proofs.FormsOfRows.{same_place}
 use Rattle.scenario_text.proofs.SizeTests.{HasRegion, has_region}
@@ -26,7 +26,7 @@ use Rattle.port_text.specs.Scenario.{World, IsAllowed}
 use Rattle.port_text.specs.Spelling.{row_of_peer, rows_of_peers}
 use Rattle.port_text.specs.Judge.{DraftView, world_of_draft, ordinal_of, position_of, is_act, with_act, rules}
 use Rattle.port_text.proofs.SizeTests.{HasPort, port_of}
-use Rattle.port_text.proofs.RowTests.{CanFollow, tests}
+use Rattle.port_text.proofs.RowTests.{CanFollow}
 use Rattle.port_text.proofs.RowsOfActs.{act_row, allowed_act}
 
 -- ---- the rows before a position
@@ -100,10 +100,6 @@ listed _ = refl
 pub same_position : (s t : Position) → eqb (ordinal_of s) (ordinal_of t) ≡ true → t ≡ s
 same_position s t e = same_place positions ordinal_of listed s t e
 
-pub either_false : (a b : Bool) → (a || b) ≡ false → (a ≡ false) × (b ≡ false)
-either_false true b e = absurd cc
-either_false false b e = (refl, e)
-
 stands : (d : DraftView) (r : Row Form) → CanFollow d r → d.position ≡ position_of r.form
 stands d r can = same_position (position_of r.form) d.position (not_false _ (either_false _ _ can.order).0)
 
@@ -120,16 +116,7 @@ peer_rows d b r at e false = rw (at, ← e) (head-push d b)
 peer_good : (d : DraftView) (b : Bool) → PositionHolds AtPeer d → (full : Bool) → eqb (length (d.honest ++ b ∷ [])) d.peers ≡ full
     → PositionHolds (cond full AtBegin AtPeer) (record d { position = cond full AtBegin AtPeer; honest = d.honest ++ b ∷ [] })
 peer_good d b good true is = (good.0, good.1, eqb-true _ _ is)
-peer_good d b good false is =
-    let less = good.2 in
-    let one : length (d.honest ++ b ∷ []) ≡ length d.honest + 1 = length-append d.honest (b ∷ []) in (
-      good.0,
-      good.1,
-      elim (cases_lt (length (d.honest ++ b ∷ [])) d.peers) [
-        | inl lt ↦ lt
-        | inr ge ↦ absurd (eqb-false _ _ is (omega arith))
-      ],
-    )
+peer_good d b good false is = (good.0, good.1, still_fewer d.honest b d.peers good.2 is)
 
 -- ---- acts
 
@@ -141,7 +128,7 @@ allowed-push : (w : World) (a : Act) → All (IsAllowed w) w.acts → IsAllowed 
 allowed-push w a all is = all_push (IsAllowed w) (IsAllowed (record w { acts = w.acts ++ a ∷ [] })) (allowed_in w (w.acts ++ a ∷ [])) w.acts a all is
 
 act_rows : (d : DraftView) (a : Act) (r : Row Form) → row_of_act a ≡ r → head_so_far d ++ row Begin [] [] ∷ [] ++ map row_of_act (d.acts ++ a ∷ []) ≡ acts_so_far d ++ r ∷ []
-act_rows d a r e = rw (map-append, ← e) (sym (append_assoc (head_so_far d ++ row Begin [] [] ∷ []) (map row_of_act d.acts) (row_of_act a ∷ [])))
+act_rows d a r e = rows-push (head_so_far d ++ row Begin [] [] ∷ []) row_of_act d.acts a r e
 
 act_before : (d : DraftView) (a : Act) (r : Row Form) → d.position ≡ AtActs → row_of_act a ≡ r → rows_before d.position (with_act a d) ≡ rows_before d.position d ++ r ∷ []
 act_before d a r at e = rw at (act_rows d a r e)
@@ -155,7 +142,7 @@ adds_act : (d : DraftView) (form : Form) (ns frame : List ℕ) → is_act form �
 adds_act d form ns frame is where_ can good =
     let at = stands d (row form ns frame) can ∙ where_ in
     let t = act_row form ns frame is can.values can.bytes in
-    let few : turns_of d.acts + cost t.act ≤ MOST_TURNS = (rw t.is_act_of at can.turns) in
+    let few : turns_of d.acts + cost t.act ≤ MOST_TURNS = ltb-false _ _ (not_true _ (rw t.is_act_of at can.room)) in
     let can' : CanFollow d (row_of_act t.act) = subst (λ (r : Row Form). CanFollow d r) (sym t.row_is) can in
     record {
       rows = rw t.is_act_of (act_before d t.act (row form ns frame) at t.row_is);
@@ -204,4 +191,4 @@ adds form ns frame d can good = adds_act d form ns frame refl refl can good
 
 -- A row that can follow preserves the invariant, and adds its line.
 pub are_kept : AreKept rules (λ e. rows_before e.position e) (λ e. PositionHolds e.position e)
-are_kept d r can good = adds r.form r.numbers r.frame d (tests d r can) good
+are_kept d r can good = adds r.form r.numbers r.frame d can good

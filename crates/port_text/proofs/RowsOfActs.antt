@@ -1,6 +1,7 @@
 -- Rows of acts: each act form's row is an act's, and an act is allowed exactly if its row can
 -- follow.
 use Rattle.std.proofs.Common.{◌≡◌, ℕ, ◌+◌, ◌≤◌, true, false, List, [], get_or, Some, refl, sym, ap}
+use Rattle.std.proofs.lemmas.Bool.{le-ltb}
 use Rattle.line_format.specs.Forms.{Fit, FitBytes}
 use Rattle.line_format.specs.Rows.{row, fields_of_row}
 use Rattle.line_format.proofs.NumbersFit.{counted, list_1, list_2, list_3, same_row}
@@ -55,7 +56,7 @@ order_is d (acts.Poke p word value) at = rw at (no_rule _)
 
 -- An act is allowed if its row can follow.
 pub allowed_act : (d : DraftView) (a : Act) → CanFollow d (row_of_act a) → IsAllowed (world_of_draft d) a
-allowed_act d a can = record { values = can.values; bytes = can.bytes; range = can.range; peer = can.peer; message = can.message }
+allowed_act d a can = record { values = can.values; bytes = can.bytes; range = can.range; peer = can.peer; message = can.size }
 
 -- The row of an allowed act can follow while turns are left.
 pub follows_act : (d : DraftView) (a : Act) → d.position ≡ AtActs → IsAllowed (world_of_draft d) a → turns_of d.acts + cost a ≤ MOST_TURNS → CanFollow d (row_of_act a)
@@ -65,7 +66,7 @@ follows_act d a at is few = record {
   order = order_is d a at;
   range = is.range;
   peer = is.peer;
-  message = is.message;
+  size = is.message;
   sizes = sizes_fit d a;
-  turns = rw (act_of-row a) few;
+  room = rw (act_of-row a, le-ltb _ _ few) refl;
 }

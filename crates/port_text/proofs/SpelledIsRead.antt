@@ -20,7 +20,7 @@ use Rattle.port_text.specs.declared.positions.Position.TheVariants.{AtPeer, AtBe
 use Rattle.port_text.specs.Sizes.{has_port}
 use Rattle.port_text.specs.declared.limits.TheConstants.{MOST_TURNS}
 use Rattle.port_text.specs.Acts.{cost, turns_of}
-use Rattle.port_text.specs.Table.{pieces_of, all_forms}
+use Rattle.port_text.specs.Table.{pieces_of}
 use Rattle.port_text.specs.ActRows.{row_of_act}
 use Rattle.port_text.specs.Scenario.{World, IsWorld, IsAllowed}
 use Rattle.port_text.specs.Spelling.{row_of_peer, rows_of_peers, rows_of, IsSpelling}
@@ -28,7 +28,7 @@ use Rattle.port_text.specs.Judge.{DraftView, world_of_draft, ordinal_of, at_star
 use Rattle.port_text.specs.Laws.{line_count}
 use Rattle.port_text.proofs.FormsAreTable.{is_table}
 use Rattle.port_text.proofs.SizeTests.{has_port-true}
-use Rattle.port_text.proofs.RowTests.{CanFollow, with_row, follows}
+use Rattle.port_text.proofs.RowTests.{CanFollow, with_row}
 use Rattle.port_text.proofs.RowsOfActs.{act_of-row, follows_act}
 
 abbrev Along : DraftView → List (Row Form) → DraftView → Type 0
@@ -50,16 +50,16 @@ sizes_along : (peers out most : ℕ) → (2 ≤ peers) × (peers ≤ 8) → out 
     → Along at_start (sizes_rows peers out most) (at_peers peers out most [])
 sizes_along peers out most few o m geometry port =
     let open_ : eqb 0 peers ≡ false = ne_eqb 0 peers (λ none. omega arith) in (
-      follows _ _ (record { values = (omega arith, omega arith, tt); bytes = refl; order = no_rule _; range = refl; peer = refl; message = refl; sizes = refl; turns = omega arith }),
+      record { values = (omega arith, omega arith, tt); bytes = refl; order = no_rule _; range = refl; peer = refl; size = refl; sizes = refl; room = refl },
       refl,
       (
-        follows _ _ (record { values = (few.0, few.1, tt); bytes = refl; order = no_rule _; range = refl; peer = refl; message = refl; sizes = refl; turns = omega arith }),
+        record { values = (few.0, few.1, tt); bytes = refl; order = no_rule _; range = refl; peer = refl; size = refl; sizes = refl; room = refl },
         refl,
         (
-          follows _ _ (record { values = (omega arith, omega arith, tt); bytes = refl; order = no_rule _; range = refl; peer = refl; message = refl; sizes = geometry; turns = omega arith }),
+          record { values = (omega arith, omega arith, tt); bytes = refl; order = no_rule _; range = refl; peer = refl; size = refl; sizes = geometry; room = refl },
           refl,
           (
-            follows _ _ (record { values = (omega arith, omega arith, tt); bytes = refl; order = no_rule _; range = refl; peer = refl; message = refl; sizes = port; turns = omega arith }),
+            record { values = (omega arith, omega arith, tt); bytes = refl; order = no_rule _; range = refl; peer = refl; size = refl; sizes = port; room = refl },
             refl,
             rw open_ refl,
           ),
@@ -74,10 +74,10 @@ not_ended false = refl
 peer_follows : (peers out most : ℕ) (front : List Bool) (p : ℕ) (b : Bool) → p ≡ length front → length front < peers → peers ≤ 8 → CanFollow (at_peers peers out most front) (row_of_peer p b)
 peer_follows peers out most front p true same less few =
     let open_ : eqb (length front) peers ≡ false = ne_eqb (length front) peers (λ full. omega arith) in
-    record { values = (omega arith, omega arith, tt); bytes = refl; order = rw open_ (same_number p (length front) same (omega arith)); range = refl; peer = refl; message = refl; sizes = refl; turns = omega arith }
+    record { values = (omega arith, omega arith, tt); bytes = refl; order = rw open_ (same_number p (length front) same (omega arith)); range = refl; peer = refl; size = refl; sizes = refl; room = refl }
 peer_follows peers out most front p false same less few =
     let open_ : eqb (length front) peers ≡ false = ne_eqb (length front) peers (λ full. omega arith) in
-    record { values = (omega arith, omega arith, tt); bytes = refl; order = rw open_ (same_number p (length front) same (omega arith)); range = refl; peer = refl; message = refl; sizes = refl; turns = omega arith }
+    record { values = (omega arith, omega arith, tt); bytes = refl; order = rw open_ (same_number p (length front) same (omega arith)); range = refl; peer = refl; size = refl; sizes = refl; room = refl }
 
 peer_gives : (peers out most : ℕ) (front : List Bool) (p : ℕ) (b : Bool) → with_row (row_of_peer p b) (at_peers peers out most front) ≡ at_peers peers out most (front ++ b ∷ [])
 peer_gives peers out most front p true = refl
@@ -93,7 +93,7 @@ peers_along peers out most front (b ∷ rest) p same all few =
     let later = subst (λ (bs : List Bool). Along (at_peers peers out most (front ++ b ∷ [])) (rows_of_peers (p + 1) rest) (at_peers peers out most bs)) whole
     (peers_along peers out most (front ++ b ∷ []) rest (p + 1) (omega arith) (omega arith) few) in
     let t = subst P (sym (peer_gives peers out most front p b)) (not_ended _, later) in
-    (follows _ _ (peer_follows peers out most front p b same (omega arith) few), t.0, t.1)
+    (peer_follows peers out most front p b same (omega arith) few, t.0, t.1)
 
 -- ---- the acts
 
@@ -126,7 +126,7 @@ acts_along w front (a ∷ rest) is allowed all =
     let later = subst (λ (acts : List Act). Along (at_acts w (front ++ a ∷ [])) (map row_of_act rest) (at_acts w acts)) whole (acts_along w (front ++ a ∷ []) rest is allowed.1 (all ∙ sym whole)) in
     let P : DraftView → Type 0 = λ x. (has_ended x ≡ false) × Along x (map row_of_act rest) (at_acts w (front ++ a ∷ rest)) in
     let t = subst P (sym (act_gives (at_acts w front) a)) (refl, later) in
-    (follows _ _ (follows_act (at_acts w front) a refl then_ few), t.0, t.1)
+    (follows_act (at_acts w front) a refl then_ few, t.0, t.1)
 
 -- ---- the whole text
 
@@ -163,8 +163,8 @@ head_along w is =
     let peers = peers_along g.peers (4 * g.out) w.most [] w.honest 0 refl (omega arith) few in
     let full : eqb (length w.honest) g.peers ≡ true = eq-eqb _ _ flags in
     let full_state : DraftView = at_peers g.peers (4 * g.out) w.most w.honest in
-    let begin : CanFollow full_state (row Begin [] []) = record { values = tt; bytes = refl; order = rw full refl; range = refl; peer = refl; message = refl; sizes = refl; turns = omega arith } in
-    let last : Along full_state (row Begin [] [] ∷ []) (at_acts w []) = (follows _ _ begin, refl, refl) in
+    let begin : CanFollow full_state (row Begin [] []) = record { values = tt; bytes = refl; order = rw full refl; range = refl; peer = refl; size = refl; sizes = refl; room = refl } in
+    let last : Along full_state (row Begin [] [] ∷ []) (at_acts w []) = (begin, refl, refl) in
     along-append at_start (flagged w) (row Begin [] [] ∷ []) full_state (at_acts w [])
     (along-append at_start (measured w) (rows_of_peers 0 w.honest) sized full_state sizes peers) last
   where
@@ -175,14 +175,14 @@ head_along w is =
 spelled_reaches : (w : World) → IsWorld w → Reaches rules at_start (rows_of w) (at_end w)
 spelled_reaches w world =
     let acts = acts_along w [] w.acts world (recursion_from_All (IsAllowed w) w.acts world.allowed) refl in
-    let end : CanFollow (at_acts w w.acts) (row End [] []) = record { values = tt; bytes = refl; order = refl; range = refl; peer = refl; message = refl; sizes = refl; turns = omega arith } in
+    let end : CanFollow (at_acts w w.acts) (row End [] []) = record { values = tt; bytes = refl; order = refl; range = refl; peer = refl; size = refl; sizes = refl; room = refl } in
     record {
       front = acted w;
       last = row End [] [];
       before = at_acts w w.acts;
       parts = refl;
       along = along-append at_start (begun w) (map row_of_act w.acts) (at_acts w []) (at_acts w w.acts) (head_along w world) acts;
-      follows = follows _ _ end;
+      follows = end;
       gives = refl;
       ended = refl;
     }

@@ -3,7 +3,7 @@ use Rattle.std.specs.Prelude.{ℕ, ◌+◌, ◌==◌, ◌||◌, not, nat_lt, if�
 use Rattle.std.specs.Option.{option_map_or}
 use Rattle.line_format.specs.Numbers.{number_of}
 use Rattle.line_format.specs.declared.grammar.Test.{Test}
-use Rattle.line_format.specs.declared.grammar.Test.TheVariants.{Line, Order, Number, Bytes}
+use Rattle.line_format.specs.declared.grammar.Test.TheVariants.{Line, Order, Number, Peer, Bytes, Sizes, Count}
 use Rattle.line_format.specs.Machine.{Machine}
 use Rattle.line_format.specs.Grammar.{Rules, machine_of}
 use Rattle.line_format.specs.Texts as texts
@@ -75,14 +75,6 @@ is_out_of_order d form fields =
     not (ordinal_of (position_of form) == ordinal_of d.position)
     || option_map_or (is_out_of_turn d form) (option_and_then number_of (slice_get fields 1)) false
 
--- BadNumber, and then BadPeer
-
-abbrev pub wrong_numbers : DraftView → Form → List ℕ → Option Cause
-wrong_numbers d form ns =
-    if not (is_in_range (world_of_draft d) form ns) then Some BadNumber
-    else if not (is_its_peer (world_of_draft d) form ns) then Some BadPeer
-    else None
-
 -- BadGeometry
 
 -- The region is judged on the `out` line, and the ports on the `message` line.
@@ -140,13 +132,10 @@ abbrev pub add : Form → List ℕ → Option Act → DraftView → DraftView
 add form ns (Some act) d = with_act act d
 add form ns None d = add_head form ns d
 
--- BadGeometry, and then TooManyTurns
+-- TooManyTurns
 
-abbrev pub wrong_row : DraftView → Form → List ℕ → List ℕ → Option Cause
-wrong_row d form ns bytes =
-    if not (fits_sizes d form ns) then Some BadGeometry
-    else if nat_lt MOST_TURNS (turns_with d (act_of form ns bytes)) then Some TooManyTurns
-    else None
+abbrev pub has_room : DraftView → Option Act → Bool
+has_room d act = not (nat_lt MOST_TURNS (turns_with d act))
 
 -- The fault of a line that fails a test
 
@@ -154,7 +143,10 @@ abbrev pub cause : Test → Cause
 cause Line = BadLine
 cause Order = BadOrder
 cause Number = BadNumber
+cause Peer = BadPeer
 cause Bytes = BadMessage
+cause Sizes = BadGeometry
+cause Count = TooManyTurns
 
 -- The text
 
@@ -170,9 +162,11 @@ rules = record {
   forms = all_forms;
   cause = cause;
   is_out_of_order = is_out_of_order;
-  wrong_numbers = wrong_numbers;
+  is_in_range = λ d form ns. is_in_range (world_of_draft d) form ns;
+  is_its_peer = λ d form ns. is_its_peer (world_of_draft d) form ns;
   fits = λ d form size. is_message_length (world_of_draft d) form size;
-  wrong_row = wrong_row;
+  fits_sizes = fits_sizes;
+  has_room = λ d form ns bytes. has_room d (act_of form ns bytes);
   add = λ form ns bytes d. add form ns (act_of form ns bytes) d;
   ended = has_ended;
 }

@@ -52,8 +52,7 @@ fn words(draft: &Draft) -> u64
 
 /// Whether the numbers are in the ranges that depend on the head.
 pub fn is_in_range(draft: &Draft, form: Form, numbers: &[u64]) -> bool
-    ensures small { IsTrue result → IsTrue (is_sample form) → slice_index numbers.now 1 < 8 }
-    ensures value { result ≡ is_in_range (world_of_draft (draft_view draft.now)) form numbers.now }
+    ensures { result ≡ is_in_range (world_of_draft (draft_view draft.now)) form numbers.now }
 {
     match form {
         Form::Sample => number_at(numbers, 1) < u64::from(draft.peers),
@@ -82,8 +81,7 @@ fn is_hostile(draft: &Draft, p: u64) -> bool
 
 /// Whether the region has the peer, and the peer is of the kind that the form requires.
 pub fn is_its_peer(draft: &Draft, form: Form, numbers: &[u64]) -> bool
-    ensures small { IsTrue result → IsTrue (is_act form) → slice_index numbers.now 0 < 8 }
-    ensures value { result ≡ is_its_peer (world_of_draft (draft_view draft.now)) form numbers.now }
+    ensures { result ≡ is_its_peer (world_of_draft (draft_view draft.now)) form numbers.now }
 {
     let p = number_at(numbers, 0);
     match form {

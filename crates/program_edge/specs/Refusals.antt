@@ -6,8 +6,8 @@ use Rattle.record_text.specs.declared.faults.RecordFault.{RecordFault}
 use Rattle.record_text.specs.declared.faults.RecordFault.TheVariants as records
 use Rattle.port_text.specs.declared.faults.PortsFault.{PortsFault}
 use Rattle.port_text.specs.declared.faults.PortsFault.TheVariants as ports
-use Rattle.bridge_text.specs.declared.faults.BridgeFault.{BridgeFault}
-use Rattle.bridge_text.specs.declared.faults.BridgeFault.TheVariants as bridges
+use Rattle.frame_bridge.specs.declared.faults.BridgeFault.{BridgeFault}
+use Rattle.frame_bridge.specs.declared.faults.BridgeFault.TheVariants as bridges
 use Rattle.section_map.specs.declared.sizes.Part.TheVariants.{Table, Common, Out}
 use Rattle.section_map.specs.declared.sizes.GeometryFault.{GeometryFault}
 use Rattle.section_map.specs.declared.sizes.GeometryFault.TheVariants.{BadPeers, BadPage, TableTooSmall, TooLarge as RegionTooLarge}

@@ -2,7 +2,7 @@
 ghost use Rattle.std.specs.Prelude.{◌≡◌, IfOk};
 ghost use Rattle.program_edge.specs.Refusals.{place_line_of, count_line_of, refusal_line_of, number_of, name_of, verdict_of, at, whole, at_bytes, at_packet, of_scenario, of_record, of_ports, of_bridge, of_sizes, of_image, of_capture};
 
-use bridge_text::BridgeFault;
+use frame_bridge::BridgeFault;
 use frame_capture::CaptureFault;
 use port_text::PortsFault;
 use record_text::RecordFault;

@@ -3,6 +3,7 @@
 use Rattle.std.proofs.Common.{◌≡◌, ℕ, ◌+◌, ◌≤◌, Bool, true, false, List, [], get_or, Some, refl, sym, ap, ◌∙◌}
 use Rattle.std.specs.Prelude.{option_and_then, slice_get}
 use Rattle.std.specs.Option.{option_map_or}
+use Rattle.std.proofs.lemmas.Bool.{le-ltb}
 use Rattle.line_format.specs.Numbers.{number_of}
 use Rattle.line_format.specs.Forms.{Fit, FitBytes}
 use Rattle.line_format.specs.Rows.{row, fields_of_row}
@@ -150,7 +151,7 @@ pub order_is : (d : DraftView) (a : Act) → d.position ≡ AtActs → Fit (piec
 order_is d a at fit = is_at d a at _ _ refl (turn_is d a fit)
 
 pub allowed_act : (d : DraftView) (a : Act) → d.position ≡ AtActs → CanFollow d (row_of_act a) → IsAllowed (world_of_draft d) d.acts a
-allowed_act d a at can = record { values = can.values; bytes = can.bytes; order = sym (order_is d a at can.values) ∙ can.order; range = can.range; peer = can.peer; frame = can.frame }
+allowed_act d a at can = record { values = can.values; bytes = can.bytes; order = sym (order_is d a at can.values) ∙ can.order; range = can.range; peer = can.peer; frame = can.size }
 
 pub follows_act : (d : DraftView) (a : Act) → d.position ≡ AtActs → IsAllowed (world_of_draft d) d.acts a → turns_of d.acts + cost a ≤ MOST_ACTS → CanFollow d (row_of_act a)
 follows_act d a at is few = record {
@@ -159,7 +160,7 @@ follows_act d a at is few = record {
   order = order_is d a at is.values ∙ is.order;
   range = is.range;
   peer = is.peer;
-  frame = is.frame;
+  size = is.frame;
   sizes = sizes_fit d a;
-  turns = rw (act_of-row a) few;
+  room = rw (act_of-row a, le-ltb _ _ few) refl;
 }

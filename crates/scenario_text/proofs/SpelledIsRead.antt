@@ -31,7 +31,7 @@ use Rattle.scenario_text.specs.Judge.{DraftView, world_of_draft, ordinal_of, at_
 use Rattle.scenario_text.specs.Laws.{line_count}
 use Rattle.scenario_text.proofs.FormsAreTable.{is_table}
 use Rattle.scenario_text.proofs.SizeTests.{HasRegion, is_geometry-true, is_queue-true}
-use Rattle.scenario_text.proofs.RowTests.{CanFollow, with_row, follows}
+use Rattle.scenario_text.proofs.RowTests.{CanFollow, with_row}
 use Rattle.scenario_text.proofs.RowsOfActs.{act_of-row, follows_act}
 
 abbrev Along : DraftView → List (Row Form) → DraftView → Type 0
@@ -57,19 +57,19 @@ after_version : (version peers table common out mtu : ℕ) → (2 ≤ peers) × 
     → is_geometry peers table common out ≡ true → is_queue (record { version = version; out = out; mtu = mtu }) ≡ true
     → Along (at_version version) (row Peers (peers ∷ []) [] ∷ row Table (table ∷ []) [] ∷ row Common (common ∷ []) [] ∷ row Out (out ∷ []) [] ∷ row Mtu (mtu ∷ []) [] ∷ []) (at_wiring version peers table common out mtu)
 after_version version peers table common out mtu few t c o m geometry queue = (
-  follows _ _ (record { values = (few.0, few.1, tt); bytes = refl; order = no_rule _; range = refl; peer = refl; frame = refl; sizes = refl; turns = omega arith }),
+  record { values = (few.0, few.1, tt); bytes = refl; order = no_rule _; range = refl; peer = refl; size = refl; sizes = refl; room = refl },
   refl,
   (
-    follows _ _ (record { values = (omega arith, omega arith, tt); bytes = refl; order = no_rule _; range = refl; peer = refl; frame = refl; sizes = refl; turns = omega arith }),
+    record { values = (omega arith, omega arith, tt); bytes = refl; order = no_rule _; range = refl; peer = refl; size = refl; sizes = refl; room = refl },
     refl,
     (
-      follows _ _ (record { values = (omega arith, omega arith, tt); bytes = refl; order = no_rule _; range = refl; peer = refl; frame = refl; sizes = refl; turns = omega arith }),
+      record { values = (omega arith, omega arith, tt); bytes = refl; order = no_rule _; range = refl; peer = refl; size = refl; sizes = refl; room = refl },
       refl,
       (
-        follows _ _ (record { values = (omega arith, omega arith, tt); bytes = refl; order = no_rule _; range = refl; peer = refl; frame = refl; sizes = geometry; turns = omega arith }),
+        record { values = (omega arith, omega arith, tt); bytes = refl; order = no_rule _; range = refl; peer = refl; size = refl; sizes = geometry; room = refl },
         refl,
         (
-          follows _ _ (record { values = (omega arith, omega arith, tt); bytes = refl; order = no_rule _; range = refl; peer = refl; frame = refl; sizes = queue; turns = omega arith }),
+          record { values = (omega arith, omega arith, tt); bytes = refl; order = no_rule _; range = refl; peer = refl; size = refl; sizes = queue; room = refl },
           refl,
           refl,
         ),
@@ -84,7 +84,7 @@ sizes_along : (version peers table common out mtu : ℕ) → (2 ≤ peers) × (p
 sizes_along version peers table common out mtu few t c o m geometry known queue =
     let itself : version ≡ max 1 version = omega (arith, known.0) in
     let later : List (Row Form) = row Peers (peers ∷ []) [] ∷ row Table (table ∷ []) [] ∷ row Common (common ∷ []) [] ∷ row Out (out ∷ []) [] ∷ row Mtu (mtu ∷ []) [] ∷ [] in (
-      follows _ _ (record { values = (known.0, known.1, tt); bytes = refl; order = no_rule _; range = refl; peer = refl; frame = refl; sizes = refl; turns = omega arith }),
+      record { values = (known.0, known.1, tt); bytes = refl; order = no_rule _; range = refl; peer = refl; size = refl; sizes = refl; room = refl },
       refl,
       subst (λ v. Along (at_version v) later (at_wiring version peers table common out mtu)) itself (after_version version peers table common out mtu few t c o m geometry queue),
     )
@@ -96,10 +96,10 @@ at_peers version peers table common out mtu wiring front = record { position = c
 wiring_along : (version peers table common out mtu : ℕ) (wiring : Wiring) → 2 ≤ peers → IsWiring wiring → Along (at_wiring version peers table common out mtu) (row_of_wiring wiring ∷ []) (at_peers version peers table common out mtu wiring [])
 wiring_along version peers table common out mtu (wirings.Msix vectors) some is =
     let open_ : eqb 0 peers ≡ false = ne_eqb 0 peers (λ none. omega arith) in
-    (follows _ _ (record { values = (is.0, is.1, tt); bytes = refl; order = no_rule _; range = refl; peer = refl; frame = refl; sizes = refl; turns = omega arith }), refl, rw open_ refl)
+    (record { values = (is.0, is.1, tt); bytes = refl; order = no_rule _; range = refl; peer = refl; size = refl; sizes = refl; room = refl }, refl, rw open_ refl)
 wiring_along version peers table common out mtu wirings.Intx some is =
     let open_ : eqb 0 peers ≡ false = ne_eqb 0 peers (λ none. omega arith) in
-    (follows _ _ (record { values = tt; bytes = refl; order = no_rule _; range = refl; peer = refl; frame = refl; sizes = refl; turns = omega arith }), refl, rw open_ refl)
+    (record { values = tt; bytes = refl; order = no_rule _; range = refl; peer = refl; size = refl; sizes = refl; room = refl }, refl, rw open_ refl)
 
 not_ended : (full : Bool) → eqb (ordinal_of (cond full AtBegin AtPeer)) 10 ≡ false
 not_ended true = refl
@@ -108,10 +108,10 @@ not_ended false = refl
 peer_follows : (version peers table common out mtu : ℕ) (wiring : Wiring) (front : List Bool) (p : ℕ) (b : Bool) → p ≡ length front → length front < peers → peers ≤ 8 → CanFollow (at_peers version peers table common out mtu wiring front) (row_of_peer p b)
 peer_follows version peers table common out mtu wiring front p true same less few =
     let open_ : eqb (length front) peers ≡ false = ne_eqb (length front) peers (λ full. omega arith) in
-    record { values = (omega arith, omega arith, tt); bytes = refl; order = rw open_ (same_number p (length front) same (omega arith)); range = refl; peer = refl; frame = refl; sizes = refl; turns = omega arith }
+    record { values = (omega arith, omega arith, tt); bytes = refl; order = rw open_ (same_number p (length front) same (omega arith)); range = refl; peer = refl; size = refl; sizes = refl; room = refl }
 peer_follows version peers table common out mtu wiring front p false same less few =
     let open_ : eqb (length front) peers ≡ false = ne_eqb (length front) peers (λ full. omega arith) in
-    record { values = (omega arith, omega arith, tt); bytes = refl; order = rw open_ (same_number p (length front) same (omega arith)); range = refl; peer = refl; frame = refl; sizes = refl; turns = omega arith }
+    record { values = (omega arith, omega arith, tt); bytes = refl; order = rw open_ (same_number p (length front) same (omega arith)); range = refl; peer = refl; size = refl; sizes = refl; room = refl }
 
 peer_gives : (version peers table common out mtu : ℕ) (wiring : Wiring) (front : List Bool) (p : ℕ) (b : Bool) → with_row (row_of_peer p b) (at_peers version peers table common out mtu wiring front) ≡ at_peers version peers table common out mtu wiring (front ++ b ∷ [])
 peer_gives version peers table common out mtu wiring front p true = refl
@@ -127,7 +127,7 @@ peers_along version peers table common out mtu wiring front (b ∷ rest) p same 
     let later = subst (λ (bs : List Bool). Along (at_peers version peers table common out mtu wiring (front ++ b ∷ [])) (rows_of_peers (p + 1) rest) (at_peers version peers table common out mtu wiring bs)) whole
     (peers_along version peers table common out mtu wiring (front ++ b ∷ []) rest (p + 1) (omega arith) (omega arith) few) in
     let t = subst P (sym (peer_gives version peers table common out mtu wiring front p b)) (not_ended _, later) in
-    (follows _ _ (peer_follows version peers table common out mtu wiring front p b same (omega arith) few), t.0, t.1)
+    (peer_follows version peers table common out mtu wiring front p b same (omega arith) few, t.0, t.1)
 
 -- ---- the acts
 
@@ -170,7 +170,7 @@ acts_along w front (a ∷ rest) is all =
     let later = subst (λ (acts : List Act). Along (at_acts w (front ++ a ∷ [])) (map row_of_act rest) (at_acts w acts)) whole (acts_along w (front ++ a ∷ []) rest is (all ∙ sym whole)) in
     let P : DraftView → Type 0 = λ x. (has_ended x ≡ false) × Along x (map row_of_act rest) (at_acts w (front ++ a ∷ rest)) in
     let t = subst P (sym (act_gives (at_acts w front) a)) (refl, later) in
-    (follows _ _ (follows_act (at_acts w front) a refl allowed'' few), t.0, t.1)
+    (follows_act (at_acts w front) a refl allowed'' few, t.0, t.1)
 
 -- ---- the whole text
 
@@ -242,8 +242,8 @@ head_along w is =
     let peers = peers_along w.version g.peers (4 * g.table) (4 * g.common) (4 * g.out) w.queue.mtu w.wiring [] w.honest 0 refl (omega arith) few in
     let full : eqb (length w.honest) g.peers ≡ true = eq-eqb _ _ flags in
     let full_state : DraftView = at_peers w.version g.peers (4 * g.table) (4 * g.common) (4 * g.out) w.queue.mtu w.wiring w.honest in
-    let begin : CanFollow full_state (row Begin [] []) = record { values = tt; bytes = refl; order = rw full refl; range = refl; peer = refl; frame = refl; sizes = refl; turns = omega arith } in
-    let last : Along full_state (row Begin [] [] ∷ []) (at_acts w []) = (follows _ _ begin, refl, refl) in
+    let begin : CanFollow full_state (row Begin [] []) = record { values = tt; bytes = refl; order = rw full refl; range = refl; peer = refl; size = refl; sizes = refl; room = refl } in
+    let last : Along full_state (row Begin [] [] ∷ []) (at_acts w []) = (begin, refl, refl) in
     along-append at_start (flagged w) (row Begin [] [] ∷ []) full_state (at_acts w [])
     (along-append at_start (wired w) (rows_of_peers 0 w.honest) wired_state full_state (along-append at_start (measured w) (row_of_wiring w.wiring ∷ []) measured_state wired_state sizes wires) peers) last
 
@@ -251,14 +251,14 @@ head_along w is =
 spelled_reaches : (w : World) → IsWorld w → Reaches rules at_start (rows_of w) (at_end w)
 spelled_reaches w world =
     let acts = acts_along w [] w.acts world refl in
-    let end : CanFollow (at_acts w w.acts) (row End [] []) = record { values = tt; bytes = refl; order = refl; range = refl; peer = refl; frame = refl; sizes = refl; turns = omega arith } in
+    let end : CanFollow (at_acts w w.acts) (row End [] []) = record { values = tt; bytes = refl; order = refl; range = refl; peer = refl; size = refl; sizes = refl; room = refl } in
     record {
       front = acted w;
       last = row End [] [];
       before = at_acts w w.acts;
       parts = refl;
       along = along-append at_start (begun w) (map row_of_act w.acts) (at_acts w []) (at_acts w w.acts) (head_along w world) acts;
-      follows = follows _ _ end;
+      follows = end;
       gives = refl;
       ended = refl;
     }

@@ -2,7 +2,7 @@
 use Rattle.std.specs.Prelude.{ℕ, ◌+◌, ◌==◌, ◌||◌, ◌&&◌, not, nat_lt, if◌then◌else◌, Bool, true, false, List, [], ◌∷◌, ◌++◌, length, slice_index, slice_get, max, Option, Some, None, Result, Ok, Err, option_and_then}
 use Rattle.std.specs.Option.{option_map_or}
 use Rattle.line_format.specs.declared.grammar.Test.{Test}
-use Rattle.line_format.specs.declared.grammar.Test.TheVariants.{Line, Order, Number, Bytes}
+use Rattle.line_format.specs.declared.grammar.Test.TheVariants.{Line, Order, Number, Peer, Bytes, Sizes, Count}
 use Rattle.line_format.specs.Numbers.{number_of}
 use Rattle.line_format.specs.Machine.{Machine}
 use Rattle.line_format.specs.Grammar as grammar
@@ -96,14 +96,6 @@ is_out_of_order d form fields =
     not (ordinal_of (position_of form) == ordinal_of d.position)
     || option_map_or (is_out_of_turn d form) (option_and_then number_of (slice_get fields 1)) false
 
--- ---- BadNumber, and then BadPeer
-
-abbrev pub wrong_numbers : DraftView → Form → List ℕ → Option Cause
-wrong_numbers d form ns =
-    if not (is_in_range (world_of_draft d) form ns) then Some BadNumber
-    else if not (is_its_peer (world_of_draft d) form ns) then Some BadPeer
-    else None
-
 -- ---- BadGeometry
 
 -- The geometry is judged on the `out` line, and the queue on the `mtu` line.
@@ -181,13 +173,10 @@ abbrev pub add : Form → List ℕ → Option Act → DraftView → DraftView
 add form ns (Some act) d = with_act act d
 add form ns None d = add_head form ns d
 
--- ---- BadGeometry, and then TooManyTurns
+-- ---- TooManyTurns
 
-abbrev pub wrong_row : DraftView → Form → List ℕ → List ℕ → Option Cause
-wrong_row d form ns frame =
-    if not (fits_sizes d form ns) then Some BadGeometry
-    else if nat_lt MOST_ACTS (turns_with d (act_of form ns frame)) then Some TooManyTurns
-    else None
+abbrev pub has_room : DraftView → Option Act → Bool
+has_room d act = not (nat_lt MOST_ACTS (turns_with d act))
 
 -- ---- the fault of a line that fails a test
 
@@ -195,7 +184,10 @@ abbrev pub cause : Test → Cause
 cause Line = BadLine
 cause Order = BadOrder
 cause Number = BadNumber
+cause Peer = BadPeer
 cause Bytes = BadFrame
+cause Sizes = BadGeometry
+cause Count = TooManyTurns
 
 -- ---- the text
 
@@ -212,9 +204,11 @@ rules = record {
   forms = all_forms;
   cause = cause;
   is_out_of_order = is_out_of_order;
-  wrong_numbers = wrong_numbers;
+  is_in_range = λ d form ns. is_in_range (world_of_draft d) form ns;
+  is_its_peer = λ d form ns. is_its_peer (world_of_draft d) form ns;
   fits = λ d form size. is_frame_size (world_of_draft d) form size;
-  wrong_row = wrong_row;
+  fits_sizes = fits_sizes;
+  has_room = λ d form ns frame. has_room d (act_of form ns frame);
   add = λ form ns frame d. add form ns (act_of form ns frame) d;
   ended = has_ended;
 }

@@ -188,7 +188,10 @@ impl Grammar for Draft {
             Test::Line => Cause::BadLine,
             Test::Order => Cause::BadOrder,
             Test::Number => Cause::BadNumber,
+            Test::Peer => Cause::BadPeer,
             Test::Bytes => Cause::BadFrame,
+            Test::Sizes => Cause::BadGeometry,
+            Test::Count => Cause::TooManyTurns,
         }
     }
 
@@ -196,14 +199,12 @@ impl Grammar for Draft {
         is_out_of_order(self, form, fields)
     }
 
-    fn wrong_numbers(&self, form: Form, numbers: &[u64]) -> Option<Cause> {
-        if !is_in_range(self, form, numbers) {
-            return Some(Cause::BadNumber);
-        }
-        if !is_its_peer(self, form, numbers) {
-            return Some(Cause::BadPeer);
-        }
-        None
+    fn is_in_range(&self, form: Form, numbers: &[u64]) -> bool {
+        is_in_range(self, form, numbers)
+    }
+
+    fn is_its_peer(&self, form: Form, numbers: &[u64]) -> bool {
+        is_its_peer(self, form, numbers)
     }
 
     fn fits(&self, form: Form, size: u64) -> bool {

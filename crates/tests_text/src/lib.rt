@@ -6,6 +6,4 @@
 #[cfg(test)]
 mod ends;
 #[cfg(test)]
-mod laws;
-#[cfg(test)]
 mod records;

@@ -154,7 +154,7 @@ fn port_schedule(alloc: Global, input: &[u8]) -> io::Result<Answer> {
 
 /// Reads a run of a bridge, and prints its contents.
 fn bridge_run(alloc: Global, input: &[u8]) -> io::Result<Answer> {
-    let script = match bridge_text::parse(alloc, input) {
+    let script = match frame_bridge::parse(alloc, input) {
         Ok(script) => script,
         Err(fault) => return refused(alloc, &fault),
     };

@@ -1,6 +1,6 @@
 use Rattle.std.proofs.Common.{◌≡◌}
 use Rattle.std.proofs.lemmas.Result.{IfOk-weaker}
-use Rattle.bridge_text.specs.Spelling.{world_of}
+use Rattle.frame_bridge.specs.Spelling.{world_of}
 use Rattle.frame_bridge.specs.Run.{World, started, schedule, ran}
 use Rattle.frame_bridge.specs.Output.{IsOutput, output_of}
 use Rattle.frame_bridge.specs.Refinement.{IsThere}

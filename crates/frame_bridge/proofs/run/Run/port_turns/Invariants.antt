@@ -1,5 +1,5 @@
 use Rattle.std.proofs.Common.{ℕ, List}
-use Rattle.bridge_text.specs.declared.scripts.Sent.{Sent}
+use Rattle.frame_bridge.specs.declared.scripts.Sent.{Sent}
 use Rattle.frame_bridge.specs.Run.{World, turn, times, ran}
 use Rattle.frame_bridge.specs.Refinement.{IsThere}
 use Rattle.frame_bridge.proofs.run.Run.port_turns.Given as goal

@@ -1,6 +1,6 @@
 use Rattle.std.proofs.Common.{ℕ, List}
 use Rattle.std.specs.List.{flat_map}
-use Rattle.bridge_text.specs.declared.scripts.Sent.{Sent}
+use Rattle.frame_bridge.specs.declared.scripts.Sent.{Sent}
 use Rattle.frame_bridge.specs.Forwarding.{first_ports}
 use Rattle.frame_bridge.specs.Run.{World, turns_of, ran}
 use Rattle.frame_bridge.specs.Refinement.{IsThere}

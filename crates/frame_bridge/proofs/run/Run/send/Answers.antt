@@ -2,7 +2,7 @@ use Rattle.std.proofs.Common.{◌≡◌, ◌<◌, List, length, arith, ap, sym, 
 use Rattle.std.proofs.lemmas.List.{length-set}
 use Rattle.std.proofs.lemmas.Iterator.Adapters.{YieldsList-from_vec}
 use Rattle.std.proofs.lemmas.Iterator.Consumers.{YieldsList-turn, YieldsList-end}
-use Rattle.bridge_text.specs.declared.scripts.Sent.{Sent}
+use Rattle.frame_bridge.specs.declared.scripts.Sent.{Sent}
 use Rattle.frame_bridge.specs.Run.{frames_of, started}
 use Rattle.frame_bridge.specs.Refinement.{RunRefines}
 use Rattle.frame_bridge.proofs.RunAfterTurn.{get_at}

@@ -1,6 +1,0 @@
-pub mod FormsAreTable
-pub mod RowTests
-pub mod PositionInvariant
-pub mod ReadIsSpelled
-pub mod ReadIffSpelled
-pub mod SpelledIsRead

@@ -1,9 +1,0 @@
-use Rattle.line_format.proofs.LawsOfTexts.{bytes_after_end_are_a_line}
-use Rattle.bridge_text.specs.Spelling.{IsSpelling}
-use Rattle.bridge_text.specs.Judge.{machine, sense}
-use Rattle.bridge_text.specs.Laws.{line_count}
-use Rattle.bridge_text.proofs.SpelledIsRead.{is_forward}
-use Rattle.bridge_text.proofs.laws.bytes_after_end_are_bad_line.Goals as goal
-
-pub returns : goal.returns
-returns c = bytes_after_end_are_a_line machine sense IsSpelling line_count is_forward

@@ -1,6 +1,0 @@
--- A draft as the value of its lines.
-use Rattle.bridge_text.specs.declared.drafts.Draft.{Draft}
-use Rattle.bridge_text.specs.Judge.{DraftView}
-
-abbrev pub draft_view : Draft → DraftView
-draft_view d = record { position = d.position; ports = d.ports; rounds = d.rounds; sent = d.sent }

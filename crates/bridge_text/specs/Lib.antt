@@ -1,6 +1,0 @@
-pub mod Table
-pub mod Spelling
-pub mod Judge
-pub mod Answers
-pub mod Drafts
-pub mod Laws

@@ -1,0 +1,111 @@
+//! A text of a bridge as a grammar: the tests of a line, and its effect on a draft.
+ghost use Rattle.std.proofs.Common.{rules as found};
+ghost use Rattle.frame_bridge.specs.Judge.{DraftView, rules};
+ghost use Rattle.frame_bridge.specs.Drafts.{draft_view};
+
+use crate::drafts::Draft;
+use crate::faults::Cause;
+use crate::forms::{FORMS, Form};
+use crate::limits::MOST_FRAMES;
+use crate::positions::Position;
+use crate::scripts::Sent;
+use ivs_base::Frame;
+use line_format::{FieldKind, Grammar, LineFault, Test, number_at};
+use std::alloc::Global;
+
+impl Grammar for Draft {
+    type Form = Form;
+
+    type Cause = Cause;
+
+    ghost DraftView = { DraftView };
+
+    ghost draft_view = { draft_view };
+
+    ghost rules = { rules };
+
+    ghost few = { Prim.search found };
+
+    fn forms() -> &'static [Form] {
+        &FORMS
+    }
+
+    fn slots(form: Form) -> &'static [FieldKind] {
+        form.slots()
+    }
+
+    fn cause(test: Test) -> Cause {
+        match test {
+            Test::Line => Cause::BadLine,
+            Test::Order => Cause::BadOrder,
+            Test::Bytes => Cause::BadFrame,
+            Test::Count => Cause::TooManyFrames,
+            Test::Number | Test::Peer | Test::Sizes => Cause::BadNumber,
+        }
+    }
+
+    fn is_out_of_order(&self, form: Form, _fields: &[&[u8]]) -> bool {
+        Position::of(form) != self.position
+    }
+
+    /// Whether the run has the port of a frame.
+    fn is_in_range(&self, form: Form, numbers: &[u64]) -> bool {
+        match form {
+            Form::Frame => number_at(numbers, 0) < u64::from(self.ports),
+            _ => true,
+        }
+    }
+
+    fn is_its_peer(&self, _form: Form, _numbers: &[u64]) -> bool {
+        true
+    }
+
+    /// Whether a frame has 14 to 274 bytes.
+    fn fits(&self, form: Form, size: u64) -> bool {
+        match form {
+            Form::Frame => 14 <= size && size <= 274,
+            _ => true,
+        }
+    }
+
+    fn is_ended(&self) -> bool {
+        self.position == Position::Ended
+    }
+
+    #[tactic(auto, using(crate::proofs::RowTests::port_below))]
+    fn add(
+        &mut self,
+        alloc: Global,
+        form: Form,
+        _fields: &[&[u8]],
+        numbers: &[u64],
+        bytes: Vec<u8>,
+    ) -> Result<(), LineFault<Cause>> {
+        let number = number_at(numbers, 0);
+        match form {
+            Form::Version => self.position = Position::AtPorts,
+            Form::Ports => {
+                self.position = Position::AtRounds;
+                self.ports = number as u32;
+            }
+            Form::Rounds => {
+                self.position = Position::AtBegin;
+                self.rounds = number as u32;
+            }
+            Form::Begin => self.position = Position::AtFrames,
+            Form::Frame => {
+                // A port is below this number, so it has 32 bits.
+                let _ports = self.ports;
+                if self.sent.items().len() >= MOST_FRAMES {
+                    return Err(LineFault::Wrong(Cause::TooManyFrames));
+                }
+                self.sent.push(Sent {
+                    port: number as u32,
+                    frame: Frame::of(alloc, &bytes)?,
+                })?
+            }
+            Form::End => self.position = Position::Ended,
+        }
+        Ok(())
+    }
+}

@@ -1,6 +1,6 @@
 //! The values of an end that cross to C.
 ghost use Rattle.std.specs.Prelude.{◌≡◌, ◌≤◌, length};
-ghost use Rattle.ivshm_c.specs.Crossing.{call_numbered, state_of, field_number, outcome_number, order_number, access_crossed, burst_crossed, bursts_crossed, refusal_crossed, note_crossed, notes_crossed, field_of, value_of, view_of, CrossingsHaveContracts};
+ghost use Rattle.ivshm_c.specs.Crossing.{call_numbered, state_of, field_number, outcome_number, order_number, access_crossed, burst_crossed, bursts_crossed, frame_return_crossed, refusal_crossed, note_crossed, notes_crossed, field_of, value_of, view_of, CrossingsHaveContracts};
 
 use crate::end_state::{EndState, Outcome};
 use link_endpoint::{Call, Order, Ordering};
@@ -44,6 +44,19 @@ pub struct Bursts {
     pub frame: Burst,
     pub descriptor: Burst,
     pub entry: Burst,
+}
+
+/// The writes that return a frame which was read as a whole. `length` is the frame's length in
+/// bytes. The used element is at the word `element`: its words are `id` and 1. The used index is
+/// at the word `index`, and its value is `returned`.
+#[repr(C)]
+#[derive(Clone, Copy)]
+pub struct FrameReturn {
+    pub length: u32,
+    pub element: u32,
+    pub id: u32,
+    pub index: u32,
+    pub returned: u32,
 }
 
 /// A note of a step.
@@ -174,6 +187,18 @@ pub(crate) fn bursts_crossed(bursts: link_endpoint::Bursts) -> Bursts
         frame: burst_crossed(bursts.frame),
         descriptor: burst_crossed(bursts.descriptor),
         entry: burst_crossed(bursts.entry),
+    }
+}
+
+pub(crate) fn frame_return_crossed(made: link_endpoint::FrameReturn) -> FrameReturn
+    ensures { result ≡ frame_return_crossed made }
+{
+    FrameReturn {
+        length: made.length,
+        element: made.element,
+        id: made.id,
+        index: made.index,
+        returned: made.returned,
     }
 }
 

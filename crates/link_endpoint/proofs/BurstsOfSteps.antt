@@ -104,27 +104,30 @@ stands_on old new [] notes config end place each refines = record { end = end; p
 stands_on old new (value ∷ []) notes config end place each refines = record { end = _; place = _; refines = each.takes.refines config end place refines }
 stands_on old new (value ∷ other ∷ values) notes config end place (between, first, rest) refines = stands_on between new (other ∷ values) notes config _ _ rest (first.takes.refines config end place refines)
 
+-- The endpoint stays well formed if it refines an end after the receiver's steps.
+pub kept_received : (i : Inside) (next : Receiver) → IsWellFormed i → receiver.KeepsNumbers i.rx next → StandsFor (engine_of (record i { rx = next })) (engine_of i).config → IsWellFormed (record i { rx = next })
+kept_received i next kept keeps later = record {
+  sections = kept.sections;
+  own_room = kept.own_room;
+  their_room = kept.their_room;
+  sender = kept.sender;
+  receiver = record {
+    sizes = kept.receiver.sizes ∙ sym keeps.sizes;
+    own = kept.receiver.own ∙ sym keeps.own;
+    theirs = kept.receiver.theirs ∙ sym keeps.theirs;
+    target = kept.receiver.target ∙ sym keeps.target;
+    vector = kept.receiver.vector ∙ sym keeps.vector;
+  };
+  mark = kept.mark;
+  left = kept.left;
+  end = later.end;
+  at = later.place;
+  refines = later.refines;
+}
+
 pub kept_polled : (i : Inside) (next : Receiver) (values : List ℕ) (notes : List Note) → IsWellFormed i → receiver.KeepsNumbers i.rx next → StepsThrough IsTaken (engine_of i) values notes (engine_of (record i { rx = next })) → IsWellFormed (record i { rx = next })
 kept_polled i next values notes kept keeps each =
-    let later = stands_on (engine_of i) (engine_of (record i { rx = next })) values notes (engine_of i).config kept.end kept.at each kept.refines in
-    record {
-      sections = kept.sections;
-      own_room = kept.own_room;
-      their_room = kept.their_room;
-      sender = kept.sender;
-      receiver = record {
-        sizes = kept.receiver.sizes ∙ sym keeps.sizes;
-        own = kept.receiver.own ∙ sym keeps.own;
-        theirs = kept.receiver.theirs ∙ sym keeps.theirs;
-        target = kept.receiver.target ∙ sym keeps.target;
-        vector = kept.receiver.vector ∙ sym keeps.vector;
-      };
-      mark = kept.mark;
-      left = kept.left;
-      end = later.end;
-      at = later.place;
-      refines = later.refines;
-    }
+    kept_received i next kept keeps (stands_on (engine_of i) (engine_of (record i { rx = next })) values notes (engine_of i).config kept.end kept.at each kept.refines)
 
 pub kept_offered : (i : Inside) (next : Sender) (values : List ℕ) (notes : List Note) → IsWellFormed i → KeepsNumbers i.tx next → StepsThrough IsTaken (engine_of i) values notes (engine_of (record i { tx = next })) → IsWellFormed (record i { tx = next })
 kept_offered i next values notes kept keeps each =

@@ -2,6 +2,7 @@ pub mod Engine
 pub mod Refinement
 pub mod Refusal
 pub mod Bursts
+pub mod Items
 pub mod Offered
 pub mod Orders
 pub mod Runs

@@ -1,5 +1,5 @@
 //! One end of the link, which makes its calls step by step. It performs no access itself.
-ghost use Rattle.std.specs.Prelude.{◌≡◌, ℕ, ◌+◌, ◌*◌, ◌%◌, ◌<◌, ◌≤◌, ◌↔◌, not, is_some, Some, None, List, [], ◌∷◌, true, false, IsTrue, IfOk, IfSome, ◌++◌, length, take, flat_map};
+ghost use Rattle.std.specs.Prelude.{◌≡◌, ◌≢◌, ℕ, ◌+◌, ◌*◌, ◌%◌, ◌<◌, ◌≤◌, ◌↔◌, ◌⊎◌, not, is_some, Some, None, List, [], ◌∷◌, true, false, IsTrue, IfOk, IfSome, ◌++◌, length, take, flat_map};
 ghost use Rattle.split_ring.specs.declared.sizes.TheConstants.{FRAME_OVERHEAD, SHORTEST_FRAME};
 ghost use Rattle.call_grammar.specs.Ends.{End, fresh, after_reset};
 ghost use Rattle.call_grammar.specs.Calls.{EndConfig, Offer, in_run};
@@ -14,6 +14,7 @@ ghost use Rattle.link_endpoint.specs.Engine.{config_of, fresh_engine, engine_aft
 ghost use Rattle.link_endpoint.specs.Refinement.{RefinesAt, AtEachEnd, is_armed, Takes, Opens};
 ghost use Rattle.link_endpoint.specs.Refusal.{RecordsRefusal, EndsRefusal, KeepsRefused, KeepsPhase, StaysRefused};
 ghost use Rattle.link_endpoint.specs.Bursts.{IsTaken};
+ghost use Rattle.link_endpoint.specs.Items.{is_field, ReadsNext, RefusesNext, ReadsAndReturns};
 ghost use Rattle.link_endpoint.specs.Orders.{order_at, order_of};
 ghost use Rattle.link_endpoint.specs.Runs.{EndpointsMakeCalls};
 
@@ -21,7 +22,7 @@ use crate::order::{Order, Ordering};
 use crate::place::{Call, Place};
 use ivs_base::NoMemory;
 use link_handshake::{Handshake, Move, Phase, phase_of};
-use rx_engine::Rx;
+use rx_engine::{FrameReturn, NextRead, Rx};
 use section_map::Geometry;
 use split_ring::steps::{Access, Note, Notes, WordKind, leaving};
 use split_ring::{Queue, Refused};
@@ -322,6 +323,50 @@ impl Endpoint {
             Place::Offering => self.took_offer(value, notes),
             Place::Polling => self.took_poll(value, notes),
             Place::Closed => unreachable!(),
+        }
+    }
+
+    /// Completes the read of a field of an item in a poll (its entry, or a word of its descriptor)
+    /// if the value passes its check. Returns the next access, which is a relaxed read. Equivalent
+    /// to `took`, and the step has no note.
+    ///
+    /// Returns `None` and changes nothing if the value is refused, or if no field of an item is
+    /// next. Then `took` completes the step.
+    // claim step, access, count, refused, unchanged: The read of a field of an item in a poll that
+    //    passes its check is one single step, and the next access is a relaxed read, with the burst
+    //    that begins with it. Exactly a value that is refused, or another access, changes nothing.
+    pub fn took_field(&mut self, value: u32) -> Option<NextRead>
+        ensures step { IfSome result (λ next. IsTaken self.old value [] self.new) }
+        ensures access { IfSome result (λ next. ReadsNext self.new next.word) }
+        ensures count { IfSome result (λ next. next.count ≡ reads_ahead self.new) }
+        ensures refused { result ≡ None → is_field self.old ≡ true → RefusesNext self.old value }
+        ensures unchanged { result ≡ None → self.new ≡ self.old }
+    {
+        match self.place {
+            Place::Polling => self.rx.took_field(value),
+            _ => None,
+        }
+    }
+
+    /// Completes the reads of a whole frame in a poll, whose words are `words`, four bytes each,
+    /// the lowest byte first. Returns the frame: completes the writes of its used element and of
+    /// the used index, which the caller makes now. Equivalent to `took` for each of these steps.
+    ///
+    /// Returns `None` and changes nothing if these aren't all words of a frame whose first word is
+    /// next.
+    // claim steps, other, phase, unchanged: All words of a frame and the writes that return the
+    //    frame are completed as by single steps, none of which changes the phase. These writes are
+    //    the accesses of the steps, and the index is released. Exactly other words, or another
+    //    access, change nothing.
+    pub fn took_frame(&mut self, words: &[u8]) -> Option<FrameReturn>
+        ensures steps { IfSome result (λ made. ReadsAndReturns self.old words.now made self.new) }
+        ensures other { result ≡ None → (frame_ahead self.old ≡ None) ⊎ (length words.now ≢ 4 * reads_ahead self.old) }
+        ensures phase { self.new.phase ≡ self.old.phase }
+        ensures unchanged { result ≡ None → self.new ≡ self.old }
+    {
+        match self.place {
+            Place::Polling => self.rx.took_frame(words),
+            _ => None,
         }
     }
 

@@ -128,6 +128,7 @@ static int check_handles(void) {
     ivshm_view view;
     ivshm_burst bursts[3] = {{7, 7}};
     ivshm_frame_return made;
+    ivshm_publication published;
     ivshm_counts counts = {.down = 7};
     uint8_t frame[14] = {0};
     size_t length;
@@ -138,6 +139,7 @@ static int check_handles(void) {
     WANT(ivshm_end_took_reads(&none, frame, 4, &notes) == IVSHM_NO_END && ivshm_end_words(&none, frame, 4) == IVSHM_NO_END);
     WANT(ivshm_end_took_writes(&none, 1) == IVSHM_NO_END && ivshm_end_took_bursts(&none) == IVSHM_NO_END);
     WANT(ivshm_end_took_field(&none, 0, bursts) == IVSHM_NO_END && ivshm_end_took_frame(&none, frame, 12, &made) == IVSHM_NO_END);
+    WANT(ivshm_end_publish(&none, &published, frame, 14) == IVSHM_NO_END);
     WANT(ivshm_end_bursts(&none, bursts, frame, 14) == IVSHM_NO_END && bursts[0].word == 7);
     WANT(ivshm_end_tail(&none, bursts, frame, 14) == IVSHM_NO_END && bursts[0].word == 7);
     WANT(ivshm_end_view(&none, &view) == IVSHM_NO_END && ivshm_end_frame(&none, frame, 14, &length) == IVSHM_NO_END);
@@ -200,13 +202,26 @@ static int check_tail(ivshm_end *a, ivshm_end *b, const uint8_t *frame) {
     return 0;
 }
 
-/* And once more: the other takes the item by its fields and its words, and returns it. */
+/* And once more: the frame is published at once. The other takes the item by its fields and its
+ * words, and returns it. */
 static int check_item(ivshm_end *a, ivshm_end *b, const uint8_t *frame) {
+    static uint8_t room[20];
+    ivshm_publication published;
     ivshm_access access;
     ivshm_notes notes;
     ivshm_burst next;
     ivshm_frame_return made;
-    WANT(ivshm_end_offer_again(a) == IVSHM_DONE && run(a, 0) == 0);
+    WANT(ivshm_end_publish(a, &published, room, 20) == IVSHM_NO_CALL && ivshm_end_offer_again(a) == IVSHM_DONE);
+    while (ivshm_end_publish(a, &published, room, 19) == IVSHM_OTHER_ACCESS)
+        WANT(ivshm_end_next(a, &access) == IVSHM_DONE && ivshm_end_took(a, words[access.word], &notes) == IVSHM_DONE);
+    WANT(ivshm_end_publish(a, &published, room, 19) == IVSHM_SHORT_ROOM && ivshm_end_publish(a, &published, room, 20) == IVSHM_DONE);
+    WANT(published.bursts[0].count == 10 && ivshm_end_publish(a, &published, room, 20) == IVSHM_OTHER_ACCESS);
+    words[published.bursts[0].word + 9] = 0;
+    memcpy(words + published.bursts[0].word, frame, 38);
+    memcpy(words + published.bursts[1].word, room, 16);
+    memcpy(words + published.bursts[2].word, room + 16, 4);
+    words[published.index] = published.accepted;
+    WANT(run(a, 0) == 0);
     WANT(ivshm_end_took_field(b, 0, &next) == IVSHM_NO_CALL && ivshm_end_begin(b, IVSHM_POLL) == IVSHM_DONE);
     WANT(ivshm_end_next(b, &access) == IVSHM_DONE && ivshm_end_took_field(b, words[access.word], &next) == IVSHM_OTHER_ACCESS);
     WANT(ivshm_end_took(b, words[access.word], &notes) == IVSHM_DONE && ivshm_end_next(b, &access) == IVSHM_DONE);

@@ -185,6 +185,16 @@ uint32_t ivshm_end_bursts(ivshm_end *end, ivshm_burst bursts[3], uint8_t *room, 
 
 uint32_t ivshm_end_tail(ivshm_end *end, ivshm_burst bursts[3], uint8_t *room, size_t size) { return ivshm_end_bursts(end, bursts, room, size); }
 
+uint32_t ivshm_end_publish(ivshm_end *end, ivshm_publication *made, uint8_t *room, size_t size) {
+    struct empty *e = end->at;
+    uint32_t answer = ivshm_end_tail(end, made->bursts, room, size);
+    if (answer != IVSHM_DONE) return answer;
+    e->at += made->bursts[0].count + 6;
+    made->index = e->now->access[e->at - 1].word;
+    made->accepted = 0;
+    return IVSHM_DONE;
+}
+
 uint32_t ivshm_end_took_bursts(ivshm_end *end) {
     struct empty *e = end->at;
     if (!e) return IVSHM_NO_END;

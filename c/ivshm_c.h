@@ -482,6 +482,21 @@ uint32_t ivshm_end_tail(ivshm_end *end, ivshm_burst bursts[3], uint8_t *room, si
  * IVSHM_OTHER_ACCESS. */
 uint32_t ivshm_end_took_bursts(ivshm_end *end);
 
+/* A publication: the writes of an offer up to its index, from a word of its frame on. */
+typedef struct ivshm_publication {
+    ivshm_burst bursts[3]; /* as of ivshm_end_tail, all relaxed */
+    uint32_t index;        /* the available index: this word .. */
+    uint32_t accepted;     /* .. is `accepted`, released */
+} ivshm_publication;
+
+/* Completes the writes of an offer before its index, and that of its index. `bursts` and `room` are
+ * those of ivshm_end_tail. Make these writes now, the index last. The note, which isn't reported,
+ * is IVSHM_ACCEPT.
+ *
+ * Returns IVSHM_DONE. Otherwise the end, *made and the room don't change: IVSHM_NO_END,
+ * IVSHM_NO_CALL, IVSHM_OTHER_ACCESS (no word of a frame is next), IVSHM_SHORT_ROOM (size < 20). */
+uint32_t ivshm_end_publish(ivshm_end *end, ivshm_publication *made, uint8_t *room, size_t size);
+
 /* AN ITEM OF A POLL. In a poll each frame is an item: the reads of its entry and of the four words
  * of its descriptor, each relaxed and by itself, then the words of the frame, and the writes that
  * return it. These two calls make the same steps with fewer calls. They may be mixed with the

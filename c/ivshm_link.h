@@ -255,24 +255,6 @@ static inline void ivshm_link_copy_frame(ivshm_link *link, uint32_t *to, uint32_
     ivshm_link_copy_in(to + whole, (const uint8_t *)&last, 1);
 }
 
-/* Makes the writes of an offer before its index, and returns their number; 0 if no word of a frame
- * comes next. */
-static inline uint32_t ivshm_link_write_offer(ivshm_link *link) {
-    uint8_t tail[20];
-    ivshm_burst bursts[3];
-    uint32_t *own = link->setup.own_section;
-    if (ivshm_end_tail(&link->end, bursts, tail, sizeof tail) != IVSHM_DONE) return 0;
-    for (int i = 0; i < 3; i++)
-        if (!ivshm_link_has(link, link->own, bursts[i].word, bursts[i].count)) return 0;
-    ivshm_link_copy_frame(link, own + (bursts[0].word - link->own), bursts[0].count);
-    ivshm_link_copy_in(own + (bursts[1].word - link->own), tail, 4);
-    ivshm_link_copy_in(own + (bursts[2].word - link->own), tail + 16, 1);
-    if (link->setup.accessed)
-        for (int i = 0; i < 3; i++) ivshm_link_report(link, IVSHM_WRITE, &bursts[i], NULL);
-    if (ivshm_end_took_bursts(&link->end) != IVSHM_DONE) return 0;
-    return bursts[0].count + 5;
-}
-
 static inline uint32_t ivshm_link_write_burst(ivshm_link *link, const ivshm_burst *burst) {
     uint8_t *room = (uint8_t *)link->setup.room;
     size_t bytes = 4 * (size_t)burst->count;
@@ -298,7 +280,6 @@ static inline uint32_t ivshm_link_read_burst(ivshm_link *link, const ivshm_burst
 /* Makes a burst, if the access begins one, and returns the number of its words, or 0. */
 static inline uint32_t ivshm_link_burst(ivshm_link *link, const ivshm_access *access, ivshm_notes *notes) {
     ivshm_burst burst;
-    uint32_t made = 0;
     notes->count = 0;
 #ifdef IVSHM_LINK_SINGLE
     link->whole = 0;
@@ -312,8 +293,7 @@ static inline uint32_t ivshm_link_burst(ivshm_link *link, const ivshm_access *ac
         return 0;
     }
     if (access->kind == IVSHM_READ) return ivshm_link_read_burst(link, &burst, access->count, notes);
-    if (access->word - link->own >= link->layout.data_area / 4) made = ivshm_link_write_offer(link);
-    return made > 0 ? made : ivshm_link_write_burst(link, &burst);
+    return ivshm_link_write_burst(link, &burst);
 }
 
 static inline void ivshm_link_delivered(ivshm_link *link, const ivshm_note *note) {
@@ -454,6 +434,42 @@ static inline int ivshm_link_begins_item(const ivshm_link *link, const ivshm_acc
 #endif
 }
 
+/* Makes the writes of an offer up to its index. Returns 0 if no word of a frame is next. */
+static inline uint32_t ivshm_link_publish(ivshm_link *link) {
+    uint8_t tail[20];
+    ivshm_publication made;
+    ivshm_note note;
+    uint32_t *own = link->setup.own_section;
+    const ivshm_burst *bursts = made.bursts;
+    memset(&note, 0, sizeof note);
+    note.kind = IVSHM_ACCEPT;
+    if (ivshm_end_publish(&link->end, &made, tail, sizeof tail) != IVSHM_DONE) return 0;
+    for (int i = 0; i < 3; i++) {
+        if (ivshm_link_has(link, link->own, bursts[i].word, bursts[i].count)) continue;
+        link->counts.stray++;
+        return 1;
+    }
+    ivshm_link_copy_frame(link, own + (bursts[0].word - link->own), bursts[0].count);
+    ivshm_link_copy_in(own + (bursts[1].word - link->own), tail, 4);
+    ivshm_link_copy_in(own + (bursts[2].word - link->own), tail + 16, 1);
+    link->counts.accesses += bursts[0].count + 5;
+    if (link->setup.accessed)
+        for (int i = 0; i < 3; i++) ivshm_link_report(link, IVSHM_WRITE, &bursts[i], NULL);
+    ivshm_link_write(link, made.index, made.accepted, IVSHM_RELEASE);
+    ivshm_link_heed(link, &note);
+    return 1;
+}
+
+/* Whether the access begins the writes of a frame that is offered. */
+static inline int ivshm_link_begins_frame(const ivshm_link *link, const ivshm_access *access) {
+#ifdef IVSHM_LINK_SINGLE
+    (void)link, (void)access;
+    return 0;
+#else
+    return access->kind == IVSHM_WRITE && access->count > 0 && access->word - link->own >= link->layout.data_area / 4 && link->frame;
+#endif
+}
+
 /* Makes the steps of the open call, until it is over or until the poll has delivered `budget`
  * frames and returned the last of them. IVSHM_DONE: the call is over. IVSHM_CALL_OPEN: it isn't. */
 static inline uint32_t ivshm_link_run(ivshm_link *link, uint32_t budget) {
@@ -467,6 +483,7 @@ static inline uint32_t ivshm_link_run(ivshm_link *link, uint32_t budget) {
             if (ivshm_link_take_item(link, access.word) && link->counts.delivered == last) return IVSHM_CALL_OPEN;
             continue;
         }
+        if (ivshm_link_begins_frame(link, &access) && ivshm_link_publish(link)) continue;
         made = ivshm_link_burst(link, &access, &notes);
         link->counts.accesses += made > 0 ? made : access.kind != IVSHM_NOTHING;
         if (made == 0) {

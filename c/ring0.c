@@ -134,6 +134,13 @@ static bool step_offer(ivshm_end *end) {
         memcpy(now->words + bursts[i].word % WORDS, from, 4 * (size_t)bursts[i].count);
         from += 4 * (size_t)bursts[i].count;
     }
+    if (run % 4 == 0) {
+        ivshm_publication made;
+        if (ivshm_end_publish(end, &made, room, sizeof room) != IVSHM_DONE) return false;
+        now->words[made.index % WORDS] = made.accepted;
+        mix(made.accepted);
+        return true;
+    }
     mix(ivshm_end_took_bursts(end));
     return true;
 }

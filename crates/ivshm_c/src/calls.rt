@@ -4,15 +4,16 @@ ghost use Rattle.tx_engine.specs.Ahead.{words_of};
 ghost use Rattle.link_endpoint.specs.Engine.{delivered, offered};
 ghost use Rattle.ivshm_c.specs.Answers.{begin_answer, offer_answer, step_answer, count_answer, bytes_answer, reads_answer, words_answer, writes_answer, bursts_answer, tail_answer, took_bursts_answer, frame_answer, BeginsAnswered, OffersAnswered, GivesNext, TakesAnswered, TakesWords, GivesWords, TakesWrites, GivesBursts, GivesTail, TakesBursts, CopiesFrame, IsNew, MayMake, RefusesNew};
 ghost use Rattle.ivshm_c.specs.Statuses.{number_of};
-ghost use Rattle.ivshm_c.specs.Items.{idle_answer, TakesField, TakesFrame};
+ghost use Rattle.ivshm_c.specs.Items.{idle_answer, TakesField, TakesFrame, PublishesFrame};
 
 use crate::crossing::{
     access_crossed, bursts_crossed, call_numbered, frame_return_crossed, notes_crossed,
+    publication_crossed,
 };
 use crate::device::{Found, sized};
 use crate::end_state::EndState;
 use crate::status::Status;
-use crate::{Access, Burst, Bursts, FrameReturn, Notes};
+use crate::{Access, Burst, Bursts, FrameReturn, Notes, Publication};
 use link_endpoint::Endpoint;
 use split_ring::steps;
 use std::alloc::Global;
@@ -174,6 +175,31 @@ pub(crate) fn took_frame(port: &mut EndState, words: &[u8], made: &mut FrameRetu
             Status::Done
         }
         None => idle(port),
+    }
+}
+
+/// Completes all that an offer writes up to its index, and writes these writes into `made`. Writes
+/// only the words after the frame into the front of `room`.
+pub(crate) fn publish(port: &mut EndState, made: &mut Publication, room: &mut [u8]) -> Status
+    ensures answer { result ≡ tail_answer (length room.old) port.old }
+    ensures step { PublishesFrame made.old made.new room.old room.new port.old port.new }
+{
+    if !port.endpoint.busy() {
+        return Status::NoCall;
+    }
+    if room.len() <= 19 {
+        return if port.endpoint.bursts().is_none() {
+            Status::OtherAccess
+        } else {
+            Status::ShortRoom
+        };
+    }
+    match port.publish(&mut room[..20]) {
+        Some(published) => {
+            *made = publication_crossed(published);
+            Status::Done
+        }
+        None => Status::OtherAccess,
     }
 }
 

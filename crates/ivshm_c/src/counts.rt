@@ -61,6 +61,13 @@ impl Counts {
         self.note(&Note::Deliver);
     }
 
+    /// Counts the step that publishes a frame.
+    pub(crate) fn accept(&mut self)
+        ensures { self.new ≡ noted_all (Note.Accept ∷ []) self.old }
+    {
+        self.note(&Note::Accept);
+    }
+
     /// Counts a session if the phase became READY.
     fn open(&mut self, old: Phase, new: Phase)
         ensures { self.new ≡ opened old new self.old }

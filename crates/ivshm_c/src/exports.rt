@@ -6,16 +6,16 @@ ghost use Rattle.ivshm_c.specs.declared.status.Status.{Status as Answer};
 ghost use Rattle.link_endpoint.specs.Engine.{delivered};
 ghost use Rattle.ivshm_c.specs.Crossing.{view_of};
 ghost use Rattle.ivshm_c.specs.Answers.{answer_at, begin_answer, offer_answer, again_answer, step_answer, reads_answer, words_answer, writes_answer, bursts_answer, tail_answer, took_bursts_answer, frame_answer, done_answer, BeginsAnswered, OffersAnswered, OffersAgain, GivesNext, TakesAnswered, TakesWords, GivesWords, TakesWrites, GivesBursts, GivesTail, TakesBursts, CopiesFrame, Renews, MakesAnswered};
-ghost use Rattle.ivshm_c.specs.Items.{TakesField, TakesFrame};
+ghost use Rattle.ivshm_c.specs.Items.{TakesField, TakesFrame, PublishesFrame};
 
 use crate::calls::{
-    begun, bursts, framed, made, next, offered, offered_again, tail, took, took_bursts, took_field,
-    took_frame, took_reads, took_writes, words,
+    begun, bursts, framed, made, next, offered, offered_again, publish, tail, took, took_bursts,
+    took_field, took_frame, took_reads, took_writes, words,
 };
 use crate::crossing::view_of;
 use crate::device::Found;
 use crate::status::Status;
-use crate::{Access, Burst, Bursts, Counts, End, FrameReturn, Notes, View};
+use crate::{Access, Burst, Bursts, Counts, End, FrameReturn, Notes, Publication, View};
 use std::alloc::Global;
 
 /// Makes the end of peer `me` of a region of these sizes with `peers` peers, for frames of this
@@ -344,6 +344,32 @@ pub extern "C" fn ivshm_end_took_bursts(alloc: Global, end: &mut End) -> u32
         return Status::NoEnd.number();
     };
     let status = took_bursts(&mut port);
+    end.put(port);
+    status.number()
+}
+
+/// Completes all that an offer writes up to its index, and writes these writes into `made`. Writes
+/// only the words of the descriptor and of the available entry into the front of `room`, in 20
+/// bytes, as `ivshm_end_tail` does.
+// claim answer, step, untouched: All that an offer writes up to its index is completed as by single
+//    steps, exactly if a word of its frame is next and the room has 20 bytes. The writes are the
+//    accesses of these steps; the rest of the room stays. Otherwise the answer says why, and
+//    nothing changes.
+#[unsafe(no_mangle)]
+pub extern "C" fn ivshm_end_publish(
+    alloc: Global,
+    end: &mut End,
+    made: &mut Publication,
+    room: &mut [u8],
+) -> u32
+    ensures answer { result ≡ number_of (answer_at end.old.port (tail_answer (length room.old))) }
+    ensures step { Leads end.old.port (PublishesFrame made.old made.new room.old room.new) end.new.port }
+    ensures untouched { end.old.port ≡ None → (made.new ≡ made.old) × (room.new ≡ room.old) }
+{
+    let Some(mut port) = end.take(alloc) else {
+        return Status::NoEnd.number();
+    };
+    let status = publish(&mut port, made, room);
     end.put(port);
     status.number()
 }

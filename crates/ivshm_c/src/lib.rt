@@ -24,7 +24,7 @@ mod tables;
 
 pub use counts::Counts;
 pub use crossing::{
-    Access, Burst, Bursts, FrameReturn, Note, Notes, View, crossings_have_contracts,
+    Access, Burst, Bursts, FrameReturn, Note, Notes, Publication, View, crossings_have_contracts,
 };
 pub use device::{Found, Layout, Limits};
 pub use held::End;

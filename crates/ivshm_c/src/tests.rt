@@ -2,15 +2,16 @@
 use crate::exports::{
     ivshm_end_begin, ivshm_end_bursts, ivshm_end_counts, ivshm_end_frame, ivshm_end_free,
     ivshm_end_new, ivshm_end_new_version, ivshm_end_next, ivshm_end_offer, ivshm_end_offer_again,
-    ivshm_end_reset, ivshm_end_tail, ivshm_end_took, ivshm_end_took_bursts, ivshm_end_took_field,
-    ivshm_end_took_frame, ivshm_end_took_reads, ivshm_end_took_writes, ivshm_end_view,
-    ivshm_end_words,
+    ivshm_end_publish, ivshm_end_reset, ivshm_end_tail, ivshm_end_took, ivshm_end_took_bursts,
+    ivshm_end_took_field, ivshm_end_took_frame, ivshm_end_took_reads, ivshm_end_took_writes,
+    ivshm_end_view, ivshm_end_words,
 };
 use crate::tables::{
     ivshm_abi_version, ivshm_layout, ivshm_library_version, ivshm_limits, ivshm_walk,
 };
 use crate::{
-    Access, Burst, Bursts, Counts, End, Found, FrameReturn, Layout, Limits, Note, Notes, View,
+    Access, Burst, Bursts, Counts, End, Found, FrameReturn, Layout, Limits, Note, Notes,
+    Publication, View,
 };
 use std::alloc::Global;
 use std::process::Abort;
@@ -83,6 +84,12 @@ const OLD_BURSTS: Bursts = Bursts {
 
 const OLD_ROOM: [u8; 40] = [9; 40];
 
+const OLD_PUBLICATION: Publication = Publication {
+    bursts: OLD_BURSTS,
+    index: 9,
+    accepted: 9,
+};
+
 const OLD_RETURN: FrameReturn = FrameReturn {
     length: 9,
     element: 9,
@@ -153,6 +160,9 @@ enum Act {
     Bursts(usize, u32, Bursts, &'static [u8; 40]),
     /// The same with the words after the frame.
     Tail(usize, u32, Bursts, &'static [u8; 40]),
+    /// Completes the writes of an offer up to its index: the length of the room, the answer, and
+    /// what the writes and the 40 bytes that hold the room are then.
+    Publish(usize, u32, Publication, &'static [u8; 40]),
     /// Completes the read of a field with this value: the answer, and the word and the count of the
     /// next read then.
     Field(u32, u32, u32, u32),
@@ -307,6 +317,26 @@ fn is_tail(
     answer == due && places(&into) == places(bursts) && room == *bytes
 }
 
+/// Completes the writes of an offer up to its index. Returns whether all is as the act says.
+#[must_use]
+fn is_published(
+    alloc: Global,
+    end: &mut End,
+    size: usize,
+    due: u32,
+    made: &Publication,
+    bytes: &[u8; 40],
+) -> bool {
+    let mut room = OLD_ROOM;
+    let mut into = OLD_PUBLICATION;
+    if size > 40 {
+        return false;
+    }
+    let answer = ivshm_end_publish(alloc, end, &mut into, &mut room[..size]);
+    let index = into.index == made.index && into.accepted == made.accepted;
+    answer == due && index && places(&into.bursts) == places(&made.bursts) && room == *bytes
+}
+
 /// Completes the read of a field with this value. Returns whether the answer and the next read are
 /// these.
 #[must_use]
@@ -382,6 +412,7 @@ fn makes(alloc: Global, end: &mut End, act: &Act) -> bool {
         Act::Words(bytes, due) => are_words(alloc, end, bytes, *due),
         Act::Bursts(size, due, bursts, bytes) => are_bursts(alloc, end, *size, *due, bursts, bytes),
         Act::Tail(size, due, bursts, bytes) => is_tail(alloc, end, *size, *due, bursts, bytes),
+        Act::Publish(size, due, made, bytes) => is_published(alloc, end, *size, *due, made, bytes),
         Act::Field(value, due, word, count) => is_field(alloc, end, *value, *due, [*word, *count]),
         Act::Frame(words, due, made) => is_frame(alloc, end, words, *due, made),
         Act::View(outcome, longest) => is_viewed(alloc, end, *outcome, *longest),
@@ -609,6 +640,60 @@ const BY_THE_TAIL: [Act; 13] = [
 fn an_offer_by_its_tail(rt: HostRuntime) {
     let mut end = End::empty(rt.alloc());
     makes_all(&rt, rt.alloc(), &mut end, &BY_THE_TAIL);
+}
+
+/// The writes of the same offer up to its index.
+const PUBLICATION: Publication = Publication {
+    bursts: OFFERED,
+    index: 1_280,
+    accepted: 65_536,
+};
+
+/// The doorbell to peer 1.
+const DOORBELL: Access = Access {
+    kind: 4,
+    word: 1,
+    value: 1,
+    count: 0,
+    order: 2,
+    fence_before: 0,
+    fence_after: 0,
+};
+
+const PUBLISHED: Counts = Counts {
+    sessions: 1,
+    accepted: 1,
+    full: 0,
+    down: 0,
+    delivered: 0,
+    refused: 0,
+};
+
+const UP_TO_THE_INDEX: [Act; 15] = [
+    Act::Publish(24, 1, OLD_PUBLICATION, &OLD_ROOM),
+    Act::Makes(Call::New(0), 0),
+    Act::Runs,
+    Act::Publish(24, 4, OLD_PUBLICATION, &OLD_ROOM),
+    Act::Makes(Call::Offer(&[7; 14]), 0),
+    Act::Publish(24, 26, OLD_PUBLICATION, &OLD_ROOM),
+    Act::Publish(19, 26, OLD_PUBLICATION, &OLD_ROOM),
+    Act::Makes(Call::Took(0), 0),
+    Act::Publish(19, 9, OLD_PUBLICATION, &OLD_ROOM),
+    Act::Publish(24, 0, PUBLICATION, &TAIL),
+    Act::View(2, 274),
+    Act::Counts(0, PUBLISHED),
+    Act::Next(DOORBELL),
+    Act::Publish(24, 26, OLD_PUBLICATION, &OLD_ROOM),
+    Act::Makes(Call::Free, 0),
+];
+
+/// The same offer is published by one call, and its doorbell is next. No end, no call, another
+/// access and a room that is too short have their answers.
+// claim ivshm_c.ivshm_end_publish.answer
+#[test]
+fn an_offer_up_to_its_index(rt: HostRuntime) {
+    let mut end = End::empty(rt.alloc());
+    makes_all(&rt, rt.alloc(), &mut end, &UP_TO_THE_INDEX);
 }
 
 /// The writes that return the first frame of peer 1, of 14 bytes.

@@ -11,5 +11,6 @@ pub mod RefusedEndsStay
 pub mod CallsOfEndpoint
 pub mod BurstsOfSteps
 pub mod ItemSteps
+pub mod PublishSteps
 pub mod AccessOrders
 pub mod NoteCounts

@@ -15,6 +15,7 @@ ghost use Rattle.link_endpoint.specs.Refinement.{RefinesAt, AtEachEnd, is_armed,
 ghost use Rattle.link_endpoint.specs.Refusal.{RecordsRefusal, EndsRefusal, KeepsRefused, KeepsPhase, StaysRefused};
 ghost use Rattle.link_endpoint.specs.Bursts.{IsTaken};
 ghost use Rattle.link_endpoint.specs.Items.{is_field, ReadsNext, RefusesNext, ReadsAndReturns};
+ghost use Rattle.link_endpoint.specs.Publishing.{Publishes};
 ghost use Rattle.link_endpoint.specs.Orders.{order_at, order_of};
 ghost use Rattle.link_endpoint.specs.Runs.{EndpointsMakeCalls};
 
@@ -28,7 +29,7 @@ use split_ring::steps::{Access, Note, Notes, WordKind, leaving};
 use split_ring::{Queue, Refused};
 use std::alloc::Global;
 use std::marker::Model;
-use tx_engine::{Bursts, Tx};
+use tx_engine::{Bursts, Publication, Tx};
 
 /// An end of the link: its handshake, its sender, its receiver, and the place in the open call.
 ///
@@ -542,6 +543,27 @@ impl Endpoint {
         match self.place {
             Place::Offering => self.tx.took_bursts(),
             _ => unreachable!(),
+        }
+    }
+
+    /// Completes all writes of `bursts` and the write of the available index, which the caller
+    /// makes now. Writes into `tail` what `tail_words` does. Equivalent to `took` for each of these
+    /// steps. Returns `None` and changes nothing if no word of a frame is written next.
+    // claim steps, sized, other, phase, unchanged: All that an offer writes up to its index is
+    //    completed as by single steps, none of which changes the phase. These writes are the
+    //    accesses of the steps, and the index is released. Exactly if no word of a frame is next,
+    //    nothing changes.
+    pub fn publish(&mut self, tail: &mut [u8]) -> Option<Publication>
+        requires { length tail.old ≡ 20 }
+        ensures steps { IfSome result (λ made. Publishes self.old tail.new made self.new) }
+        ensures sized { length tail.new ≡ length tail.old }
+        ensures other { result ≡ None → bursts_of self.old ≡ None }
+        ensures phase { self.new.phase ≡ self.old.phase }
+        ensures unchanged { result ≡ None → (self.new ≡ self.old) × (tail.new ≡ tail.old) }
+    {
+        match self.place {
+            Place::Offering => self.tx.publish(tail),
+            _ => None,
         }
     }
 

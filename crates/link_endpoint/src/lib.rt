@@ -43,4 +43,4 @@ pub use endpoint::{Endpoint, endpoints_make_calls};
 pub use order::{Order, Ordering};
 pub use place::Call;
 pub use rx_engine::{FrameReturn, NextRead};
-pub use tx_engine::{Burst, Bursts};
+pub use tx_engine::{Burst, Bursts, Publication};

@@ -16,16 +16,16 @@ ghost use Rattle.link_endpoint.specs.Refusal.{RecordsRefusal, EndsRefusal, Keeps
 ghost use Rattle.link_endpoint.specs.Bursts.{IsTaken};
 ghost use Rattle.link_endpoint.specs.Items.{is_field, ReadsNext, RefusesNext, ReadsAndReturns};
 ghost use Rattle.link_endpoint.specs.Publishing.{Publishes};
-ghost use Rattle.link_endpoint.specs.Orders.{order_at, order_of};
+ghost use Rattle.link_endpoint.specs.Orders.{order_at};
 ghost use Rattle.link_endpoint.specs.Runs.{EndpointsMakeCalls};
 
-use crate::order::{Order, Ordering};
+use crate::order::{Order, Ordering, order_of, plain};
 use crate::place::{Call, Place};
 use ivs_base::NoMemory;
 use link_handshake::{Handshake, Move, Phase, phase_of};
 use rx_engine::{FrameReturn, NextRead, Rx};
 use section_map::Geometry;
-use split_ring::steps::{Access, Note, Notes, WordKind, leaving};
+use split_ring::steps::{Access, Note, Notes, leaving};
 use split_ring::{Queue, Refused};
 use std::alloc::Global;
 use std::marker::Model;
@@ -732,42 +732,6 @@ fn clearing(at: u32, end: u32, then: u32) -> Place
         Place::WritingState(then)
     } else {
         Place::Clearing { at, then }
-    }
-}
-
-/// Returns `order` without a fence.
-fn plain(order: Order) -> Ordering
-    ensures { result ≡ record { order = order; fence_before = false; fence_after = false } }
-{
-    Ordering {
-        order,
-        fence_before: false,
-        fence_after: false,
-    }
-}
-
-/// Returns the memory order of an access of an offer or a poll: a doorbell has its own, and any
-/// other access has the order of its kind of word.
-fn order_of(rings: bool, kind: WordKind) -> Ordering
-    ensures { result ≡ order_of rings kind }
-{
-    if rings {
-        return plain(Order::Release);
-    }
-    match kind {
-        WordKind::Plain => plain(Order::Relaxed),
-        WordKind::IndexRead => plain(Order::Acquire),
-        WordKind::IndexWrite => plain(Order::Release),
-        WordKind::EventRead => Ordering {
-            order: Order::Relaxed,
-            fence_before: true,
-            fence_after: false,
-        },
-        WordKind::EventWrite => Ordering {
-            order: Order::Relaxed,
-            fence_before: false,
-            fence_after: true,
-        },
     }
 }
 

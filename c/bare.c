@@ -127,6 +127,8 @@ static int check_handles(void) {
     ivshm_notes notes;
     ivshm_view view;
     ivshm_burst bursts[3] = {{7, 7}};
+    ivshm_frame_return made;
+    ivshm_publication published;
     ivshm_counts counts = {.down = 7};
     uint8_t frame[14] = {0};
     size_t length;
@@ -136,6 +138,8 @@ static int check_handles(void) {
     WANT(ivshm_end_next(&none, &access) == IVSHM_NO_END && ivshm_end_took(&none, 0, &notes) == IVSHM_NO_END);
     WANT(ivshm_end_took_reads(&none, frame, 4, &notes) == IVSHM_NO_END && ivshm_end_words(&none, frame, 4) == IVSHM_NO_END);
     WANT(ivshm_end_took_writes(&none, 1) == IVSHM_NO_END && ivshm_end_took_bursts(&none) == IVSHM_NO_END);
+    WANT(ivshm_end_took_field(&none, 0, bursts) == IVSHM_NO_END && ivshm_end_took_frame(&none, frame, 12, &made) == IVSHM_NO_END);
+    WANT(ivshm_end_publish(&none, &published, frame, 14) == IVSHM_NO_END);
     WANT(ivshm_end_bursts(&none, bursts, frame, 14) == IVSHM_NO_END && bursts[0].word == 7);
     WANT(ivshm_end_tail(&none, bursts, frame, 14) == IVSHM_NO_END && bursts[0].word == 7);
     WANT(ivshm_end_view(&none, &view) == IVSHM_NO_END && ivshm_end_frame(&none, frame, 14, &length) == IVSHM_NO_END);
@@ -198,6 +202,42 @@ static int check_tail(ivshm_end *a, ivshm_end *b, const uint8_t *frame) {
     return 0;
 }
 
+/* And once more: the frame is published at once. The other takes the item by its fields and its
+ * words, and returns it. */
+static int check_item(ivshm_end *a, ivshm_end *b, const uint8_t *frame) {
+    static uint8_t room[20];
+    ivshm_publication published;
+    ivshm_access access;
+    ivshm_notes notes;
+    ivshm_burst next;
+    ivshm_frame_return made;
+    WANT(ivshm_end_publish(a, &published, room, 20) == IVSHM_NO_CALL && ivshm_end_offer_again(a) == IVSHM_DONE);
+    while (ivshm_end_publish(a, &published, room, 19) == IVSHM_OTHER_ACCESS)
+        WANT(ivshm_end_next(a, &access) == IVSHM_DONE && ivshm_end_took(a, words[access.word], &notes) == IVSHM_DONE);
+    WANT(ivshm_end_publish(a, &published, room, 19) == IVSHM_SHORT_ROOM && ivshm_end_publish(a, &published, room, 20) == IVSHM_DONE);
+    WANT(published.bursts[0].count == 10 && ivshm_end_publish(a, &published, room, 20) == IVSHM_OTHER_ACCESS);
+    words[published.bursts[0].word + 9] = 0;
+    memcpy(words + published.bursts[0].word, frame, 38);
+    memcpy(words + published.bursts[1].word, room, 16);
+    memcpy(words + published.bursts[2].word, room + 16, 4);
+    words[published.index] = published.accepted;
+    WANT(run(a, 0) == 0);
+    WANT(ivshm_end_took_field(b, 0, &next) == IVSHM_NO_CALL && ivshm_end_begin(b, IVSHM_POLL) == IVSHM_DONE);
+    WANT(ivshm_end_next(b, &access) == IVSHM_DONE && ivshm_end_took_field(b, words[access.word], &next) == IVSHM_OTHER_ACCESS);
+    WANT(ivshm_end_took(b, words[access.word], &notes) == IVSHM_DONE && ivshm_end_next(b, &access) == IVSHM_DONE);
+    next = (ivshm_burst){access.word, 0};
+    for (int i = 0; i < 5; i++) WANT(next.count == 0 && ivshm_end_took_field(b, words[next.word], &next) == IVSHM_DONE);
+    const uint8_t *read = (const uint8_t *)(words + next.word);
+    WANT(next.count == 10 && ivshm_end_took_frame(b, read, 36, &made) == IVSHM_OTHER_ACCESS);
+    WANT(ivshm_end_took_frame(b, read, 40, &made) == IVSHM_DONE && made.length == 38);
+    for (int i = 0; i < 38; i++) WANT(frame[i] == read[i]);
+    words[made.element] = made.id;
+    words[made.element + 1] = 1;
+    words[made.index] = made.returned;
+    WANT(run(b, 1) == 0 && ivshm_end_took_field(b, 0, &next) == IVSHM_NO_CALL);
+    return 0;
+}
+
 /* Bursts: a section that is cleared, and a whole frame of 40 bytes. */
 static int check_bursts(void) {
     static ivshm_end a = IVSHM_END_NONE, b = IVSHM_END_NONE;
@@ -246,6 +286,7 @@ static int check_bursts(void) {
     WANT(run(&b, 1) == 0);
     int line = check_before_index(&a, &b, frame);
     if (!line) line = check_tail(&a, &b, frame);
+    if (!line) line = check_item(&a, &b, frame);
     if (line) return line;
     WANT(ivshm_end_free(&a) == IVSHM_DONE && ivshm_end_free(&b) == IVSHM_DONE);
     return 0;

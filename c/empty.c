@@ -151,6 +151,25 @@ uint32_t ivshm_end_took_writes(ivshm_end *end, uint32_t count) {
     return IVSHM_DONE;
 }
 
+uint32_t ivshm_end_took_field(ivshm_end *end, uint32_t value, ivshm_burst *next) {
+    struct empty *e = end->at;
+    const ivshm_access *read = &e->now->access[e->at];
+    (void)value;
+    if (e->now != &e->poll || read->kind != IVSHM_READ || read->order != IVSHM_RELAXED || read->count > 0) return IVSHM_OTHER_ACCESS;
+    e->at++;
+    *next = (ivshm_burst){read[1].word, read[1].count};
+    return IVSHM_DONE;
+}
+
+uint32_t ivshm_end_took_frame(ivshm_end *end, const uint8_t *words, size_t size, ivshm_frame_return *made) {
+    struct empty *e = end->at;
+    (void)words;
+    const ivshm_access *element = &e->now->access[e->at + size / 4];
+    *made = (ivshm_frame_return){.length = (uint32_t)e->length, .element = element->word, .index = element[2].word};
+    e->at += (uint32_t)(size / 4) + 3;
+    return IVSHM_DONE;
+}
+
 /* An offer reads two words first. */
 uint32_t ivshm_end_bursts(ivshm_end *end, ivshm_burst bursts[3], uint8_t *room, size_t size) {
     struct empty *e = end->at;
@@ -165,6 +184,16 @@ uint32_t ivshm_end_bursts(ivshm_end *end, ivshm_burst bursts[3], uint8_t *room, 
 }
 
 uint32_t ivshm_end_tail(ivshm_end *end, ivshm_burst bursts[3], uint8_t *room, size_t size) { return ivshm_end_bursts(end, bursts, room, size); }
+
+uint32_t ivshm_end_publish(ivshm_end *end, ivshm_publication *made, uint8_t *room, size_t size) {
+    struct empty *e = end->at;
+    uint32_t answer = ivshm_end_tail(end, made->bursts, room, size);
+    if (answer != IVSHM_DONE) return answer;
+    e->at += made->bursts[0].count + 6;
+    made->index = e->now->access[e->at - 1].word;
+    made->accepted = 0;
+    return IVSHM_DONE;
+}
 
 uint32_t ivshm_end_took_bursts(ivshm_end *end) {
     struct empty *e = end->at;

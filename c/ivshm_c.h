@@ -483,6 +483,54 @@ uint32_t ivshm_end_tail(ivshm_end *end, ivshm_burst bursts[3], uint8_t *room, si
  * IVSHM_OTHER_ACCESS. */
 uint32_t ivshm_end_took_bursts(ivshm_end *end);
 
+/* A publication: the writes of an offer up to its index, from a word of its frame on. */
+typedef struct ivshm_publication {
+    ivshm_burst bursts[3]; /* as of ivshm_end_tail, all relaxed */
+    uint32_t index;        /* the available index: this word .. */
+    uint32_t accepted;     /* .. is `accepted`, released */
+} ivshm_publication;
+
+/* Completes the writes of an offer before its index, and that of its index. `bursts` and `room` are
+ * those of ivshm_end_tail. Make these writes now, the index last. The note, which isn't reported,
+ * is IVSHM_ACCEPT.
+ *
+ * Returns IVSHM_DONE. Otherwise the end, *made and the room don't change: IVSHM_NO_END,
+ * IVSHM_NO_CALL, IVSHM_OTHER_ACCESS (no word of a frame is next), IVSHM_SHORT_ROOM (size < 20). */
+uint32_t ivshm_end_publish(ivshm_end *end, ivshm_publication *made, uint8_t *room, size_t size);
+
+/* AN ITEM OF A POLL. In a poll each frame is an item: the reads of its entry and of the four words
+ * of its descriptor, each relaxed and by itself, then the words of the frame, and the writes that
+ * return it. These two calls make the same steps with fewer calls. They may be mixed with the
+ * single calls at any step. */
+
+/* Completes the access, if it is the read of a field of an item, and if `value` passes its check:
+ * the same as ivshm_end_took, without a note, and ivshm_end_next. The next access is a relaxed read
+ * of next->word. If next->count is 0, it is the next field. Otherwise it is the first of
+ * next->count words, which are all words of the frame.
+ *
+ * Returns IVSHM_DONE. Otherwise the end and *next don't change: IVSHM_NO_END, IVSHM_NO_CALL,
+ * IVSHM_OTHER_ACCESS. The last means that no field of an item is next, or that the value is
+ * refused: then pass it to ivshm_end_took. */
+uint32_t ivshm_end_took_field(ivshm_end *end, uint32_t value, ivshm_burst *next);
+
+/* The writes that return a frame. */
+typedef struct ivshm_frame_return {
+    uint32_t length;   /* bytes of the frame */
+    uint32_t element;  /* the used element: this word and the one after it .. */
+    uint32_t id;       /* .. are `id` and 1, relaxed */
+    uint32_t index;    /* the used index: this word .. */
+    uint32_t returned; /* .. is `returned`, released */
+} ivshm_frame_return;
+
+/* Completes the reads of all words of a frame, passed as to ivshm_end_took_reads, and the three
+ * writes that return the frame. Make these writes now, in this order. The notes, which aren't
+ * reported, are IVSHM_DELIVER after the reads and IVSHM_RETURN after the used index. The frame is
+ * the first made->length bytes of `words`.
+ *
+ * Returns IVSHM_DONE. Otherwise the end and *made don't change: IVSHM_NO_END, IVSHM_NO_CALL,
+ * IVSHM_OTHER_ACCESS (the first word of a frame isn't next, or these aren't all its words). */
+uint32_t ivshm_end_took_frame(ivshm_end *end, const uint8_t *words, size_t size, ivshm_frame_return *made);
+
 /* The states, as in the State Table. */
 enum {
     IVSHM_RESET = 0, /* no link */

@@ -255,25 +255,6 @@ static inline void ivshm_link_copy_frame(ivshm_link *link, uint32_t *to, uint32_
     ivshm_link_copy_in(to + whole, (const uint8_t *)&last, 1);
 }
 
-/* Makes the writes of an offer before its index, and returns their number; 0 if no word of a frame
- * comes next. */
-static inline uint32_t ivshm_link_write_offer(ivshm_link *link) {
-    uint8_t tail[20];
-    ivshm_burst bursts[3];
-    uint32_t *own = link->setup.own_section;
-    if (ivshm_end_tail(&link->end, bursts, tail, sizeof tail) != IVSHM_DONE) return 0;
-    for (int i = 0; i < 3; i++)
-        if (!ivshm_link_has(link, link->own, bursts[i].word, bursts[i].count)) return 0;
-    ivshm_link_copy_frame(link, own + (bursts[0].word - link->own), bursts[0].count);
-    ivshm_link_copy_in(own + (bursts[1].word - link->own), tail, 4);
-    ivshm_link_copy_in(own + (bursts[2].word - link->own), tail + 16, 1);
-    if (link->setup.accessed)
-        for (int i = 0; i < 3; i++) ivshm_link_report(link, IVSHM_WRITE, &bursts[i], NULL);
-    if (ivshm_end_took_bursts(&link->end) != IVSHM_DONE) return 0;
-    return bursts[0].count + 5;
-}
-
-/* Writes a burst other than an offer's, and returns the number of its words, or 0. */
 static inline uint32_t ivshm_link_write_burst(ivshm_link *link, const ivshm_burst *burst) {
     uint8_t *room = (uint8_t *)link->setup.room;
     size_t bytes = 4 * (size_t)burst->count;
@@ -300,7 +281,6 @@ static inline uint32_t ivshm_link_read_burst(ivshm_link *link, const ivshm_burst
 /* Makes a burst, if the access begins one, and returns the number of its words, or 0. */
 static inline uint32_t ivshm_link_burst(ivshm_link *link, const ivshm_access *access, ivshm_notes *notes) {
     ivshm_burst burst;
-    uint32_t made = 0;
     notes->count = 0;
 #ifdef IVSHM_LINK_SINGLE
     link->whole = 0;
@@ -314,8 +294,7 @@ static inline uint32_t ivshm_link_burst(ivshm_link *link, const ivshm_access *ac
         return 0;
     }
     if (access->kind == IVSHM_READ) return ivshm_link_read_burst(link, &burst, access->count, notes);
-    if (access->word - link->own >= link->layout.data_area / 4) made = ivshm_link_write_offer(link);
-    return made > 0 ? made : ivshm_link_write_burst(link, &burst);
+    return ivshm_link_write_burst(link, &burst);
 }
 
 /* Passes a delivered frame to the program. */
@@ -366,6 +345,133 @@ static inline void ivshm_link_heed(ivshm_link *link, const ivshm_note *note) {
     if (setup->noted) setup->noted(setup->context, note, link->frame, link->length);
 }
 
+/* Writes a word of the own section, and reports it. */
+static inline void ivshm_link_write(ivshm_link *link, uint32_t word, uint32_t value, uint32_t order) {
+    ivshm_access access;
+    memset(&access, 0, sizeof access);
+    access.kind = IVSHM_WRITE;
+    access.word = word;
+    access.value = value;
+    access.order = order;
+    if (!ivshm_link_has(link, link->own, word, 1)) {
+        link->counts.stray++;
+        return;
+    }
+    ivshm_link_store(&link->setup.own_section[word - link->own], &access);
+    link->counts.accesses++;
+    if (link->setup.accessed) link->setup.accessed(link->setup.context, &access, 0);
+}
+
+/* Reads a field of an item, and reports it. */
+static inline uint32_t ivshm_link_read_field(ivshm_link *link, uint32_t word) {
+    ivshm_access access;
+    uint32_t value;
+    memset(&access, 0, sizeof access);
+    access.kind = IVSHM_READ;
+    access.word = word;
+    access.order = IVSHM_RELAXED;
+    if (!ivshm_link_has(link, link->other, word, 1)) {
+        link->counts.stray++;
+        return 0;
+    }
+    value = ivshm_link_load(&link->setup.other_section[word - link->other], &access);
+    link->counts.accesses++;
+    if (link->setup.accessed) link->setup.accessed(link->setup.context, &access, value);
+    return value;
+}
+
+/* Notes a step of a poll. */
+static inline void ivshm_link_note(ivshm_link *link, uint32_t kind, size_t length) {
+    ivshm_note note;
+    note.kind = kind;
+    note.field = 0;
+    note.value = 0;
+    if (link->setup.noted) link->setup.noted(link->setup.context, &note, (const uint8_t *)link->setup.room, length);
+}
+
+/* Reads the words of a frame, delivers it and returns it. Returns 0 if nothing was made. */
+static inline uint32_t ivshm_link_take_frame(ivshm_link *link, const ivshm_burst *words) {
+    const ivshm_link_setup *setup = &link->setup;
+    ivshm_frame_return made;
+    if (words->count > link->burst || !ivshm_link_has(link, link->other, words->word, words->count)) return 0;
+    ivshm_link_copy_out(setup->room, &setup->other_section[words->word - link->other], words->count);
+    if (setup->accessed) ivshm_link_report(link, IVSHM_READ, words, setup->room);
+    if (ivshm_end_took_frame(&link->end, (const uint8_t *)setup->room, 4 * (size_t)words->count, &made) != IVSHM_DONE) return 0;
+    link->counts.accesses += words->count;
+    link->counts.delivered++;
+    link->counts.delivered_bytes += made.length;
+    ivshm_link_note(link, IVSHM_DELIVER, made.length);
+    if (setup->deliver) setup->deliver(setup->context, (const uint8_t *)setup->room, made.length);
+    ivshm_link_write(link, made.element, made.id, IVSHM_RELAXED);
+    ivshm_link_write(link, made.element + 1, 1, IVSHM_RELAXED);
+    ivshm_link_write(link, made.index, made.returned, IVSHM_RELEASE);
+    ivshm_link_note(link, IVSHM_RETURN, 0);
+    return 1;
+}
+
+/* Takes an item of a poll from the read of `word` on, one of its fields. Returns 1 if its frame was
+ * delivered and returned, or 0 if the call goes on within the item, or after a refusal. */
+static inline uint32_t ivshm_link_take_item(ivshm_link *link, uint32_t word) {
+    ivshm_burst next;
+    ivshm_notes notes;
+    for (;;) {
+        uint32_t value = ivshm_link_read_field(link, word);
+        if (ivshm_end_took_field(&link->end, value, &next) != IVSHM_DONE) {
+            if (ivshm_end_took(&link->end, value, &notes) != IVSHM_DONE) return 0;
+            for (uint32_t i = 0; i < notes.count; i++) ivshm_link_heed(link, &notes.note[i]);
+            return 0;
+        }
+        if (next.count > 0) return ivshm_link_take_frame(link, &next);
+        word = next.word;
+    }
+}
+
+/* Whether the access reads a field of an item: in a poll, the relaxed reads of one word. */
+static inline int ivshm_link_begins_item(const ivshm_link *link, const ivshm_access *access) {
+#ifdef IVSHM_LINK_SINGLE
+    (void)link, (void)access;
+    return 0;
+#else
+    return access->kind == IVSHM_READ && access->order == IVSHM_RELAXED && access->count == 0 && !link->frame;
+#endif
+}
+
+/* Makes the writes of an offer up to its index. Returns 0 if no word of a frame is next. */
+static inline uint32_t ivshm_link_publish(ivshm_link *link) {
+    uint8_t tail[20];
+    ivshm_publication made;
+    ivshm_note note;
+    uint32_t *own = link->setup.own_section;
+    const ivshm_burst *bursts = made.bursts;
+    memset(&note, 0, sizeof note);
+    note.kind = IVSHM_ACCEPT;
+    if (ivshm_end_publish(&link->end, &made, tail, sizeof tail) != IVSHM_DONE) return 0;
+    for (int i = 0; i < 3; i++) {
+        if (ivshm_link_has(link, link->own, bursts[i].word, bursts[i].count)) continue;
+        link->counts.stray++;
+        return 1;
+    }
+    ivshm_link_copy_frame(link, own + (bursts[0].word - link->own), bursts[0].count);
+    ivshm_link_copy_in(own + (bursts[1].word - link->own), tail, 4);
+    ivshm_link_copy_in(own + (bursts[2].word - link->own), tail + 16, 1);
+    link->counts.accesses += bursts[0].count + 5;
+    if (link->setup.accessed)
+        for (int i = 0; i < 3; i++) ivshm_link_report(link, IVSHM_WRITE, &bursts[i], NULL);
+    ivshm_link_write(link, made.index, made.accepted, IVSHM_RELEASE);
+    ivshm_link_heed(link, &note);
+    return 1;
+}
+
+/* Whether the access begins the writes of a frame that is offered. */
+static inline int ivshm_link_begins_frame(const ivshm_link *link, const ivshm_access *access) {
+#ifdef IVSHM_LINK_SINGLE
+    (void)link, (void)access;
+    return 0;
+#else
+    return access->kind == IVSHM_WRITE && access->count > 0 && access->word - link->own >= link->layout.data_area / 4 && link->frame;
+#endif
+}
+
 /* Makes the steps of the open call, until it is over or until the poll has delivered `budget`
  * frames and returned the last of them. IVSHM_DONE: the call is over. IVSHM_CALL_OPEN: it isn't. */
 static inline uint32_t ivshm_link_run(ivshm_link *link, uint32_t budget) {
@@ -373,8 +479,14 @@ static inline uint32_t ivshm_link_run(ivshm_link *link, uint32_t budget) {
     ivshm_notes notes;
     uint64_t last = link->counts.delivered + budget;
     while (ivshm_end_next(&link->end, &access) == IVSHM_DONE) {
-        uint32_t made = ivshm_link_burst(link, &access, &notes), value;
+        uint32_t made, value;
         link->counts.steps++;
+        if (ivshm_link_begins_item(link, &access)) {
+            if (ivshm_link_take_item(link, access.word) && link->counts.delivered == last) return IVSHM_CALL_OPEN;
+            continue;
+        }
+        if (ivshm_link_begins_frame(link, &access) && ivshm_link_publish(link)) continue;
+        made = ivshm_link_burst(link, &access, &notes);
         link->counts.accesses += made > 0 ? made : access.kind != IVSHM_NOTHING;
         if (made == 0) {
             value = ivshm_link_single(link, &access);

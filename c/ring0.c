@@ -81,6 +81,26 @@ static void mix_notes(const ivshm_notes *notes) {
     }
 }
 
+/* Completes the read of a field of an item, or the words of a frame and the writes that return it,
+ * if such a read comes next. */
+static bool step_item(ivshm_end *end, const ivshm_access *access) {
+    const uint32_t *from = now->words + access->word % WORDS;
+    ivshm_frame_return made;
+    ivshm_burst next;
+    if (access->count == 0) {
+        if (ivshm_end_took_field(end, *from, &next) != IVSHM_DONE) return false;
+        mix(next.word);
+        mix(next.count);
+        return true;
+    }
+    if (ivshm_end_took_frame(end, (const uint8_t *)from, 4 * (size_t)access->count, &made) != IVSHM_DONE) return false;
+    now->words[made.element % WORDS] = made.id;
+    now->words[(made.element + 1) % WORDS] = 1;
+    now->words[made.index % WORDS] = made.returned;
+    mix(made.length);
+    return true;
+}
+
 /* Makes a single access, or the reads of a burst, and reports its values to the end. */
 static void step(ivshm_end *end, uint32_t me, const ivshm_access *access) {
     ivshm_notes notes = {.count = 0};
@@ -114,6 +134,13 @@ static bool step_offer(ivshm_end *end) {
         memcpy(now->words + bursts[i].word % WORDS, from, 4 * (size_t)bursts[i].count);
         from += 4 * (size_t)bursts[i].count;
     }
+    if (run % 4 == 0) {
+        ivshm_publication made;
+        if (ivshm_end_publish(end, &made, room, sizeof room) != IVSHM_DONE) return false;
+        now->words[made.index % WORDS] = made.accepted;
+        mix(made.accepted);
+        return true;
+    }
     mix(ivshm_end_took_bursts(end));
     return true;
 }
@@ -127,6 +154,7 @@ static void finish(uint32_t me) {
         mix(access.value);
         mix(access.count);
         if (access.kind == IVSHM_WRITE && run % 2 == 0 && step_offer(end)) continue;
+        if (access.kind == IVSHM_READ && run % 2 == 0 && step_item(end, &access)) continue;
         step(end, me, &access);
     }
 }

@@ -1,28 +1,34 @@
 -- Answers with their causes, and the outcomes of notes.
-use Rattle.std.proofs.Common.{◌≡◌, ◌*◌, ◌++◌, ℕ, List, sym, ap, ◌∙◌, subst, length, take, drop, Option, Some, None, IfSome, true, false, nat_lt, if◌then◌else◌}
+use Rattle.std.proofs.Common.{◌≡◌, ◌*◌, ◌++◌, ℕ, List, [], ◌∷◌, refl, sym, ap, ◌∙◌, subst, length, take, drop, Option, Some, None, IfSome, true, false, nat_lt, if◌then◌else◌}
 use Rattle.std.proofs.Math.Seq.{take-append_seam, drop-append_seam}
+use Rattle.std.proofs.lemmas.List.{take-append-drop}
 use Rattle.section_map.specs.Geometry.{Shape, IsShape}
 use Rattle.split_ring.specs.Layout.{Sizes, IsQueue}
 use Rattle.ivshm_c.specs.declared.device.Found.{Found}
 use Rattle.ivshm_c.specs.declared.device.Layout.{Layout}
 use Rattle.ivshm_c.specs.declared.end_state.EndState.{EndState}
 use Rattle.ivshm_c.specs.declared.status.Status.{Status}
-use Rattle.ivshm_c.specs.declared.status.Status.TheVariants.{Done, NoCall, HasEnd, ShortRoom}
+use Rattle.ivshm_c.specs.declared.status.Status.TheVariants.{Done, NoCall, HasEnd, ShortRoom, OtherAccess}
 use Rattle.split_ring.specs.declared.steps.Access as steps
 use Rattle.call_grammar.specs.Ends.{End}
 use Rattle.call_grammar.specs.Calls.{EndConfig}
 use Rattle.call_grammar.specs.Places as places
 use Rattle.tx_engine.specs.declared.ahead.Bursts.{Bursts}
+use Rattle.tx_engine.specs.declared.ahead.Publication.{Publication}
+use Rattle.split_ring.specs.declared.steps.Note.TheVariants as note
+use Rattle.link_endpoint.specs.Publishing.{Publishes}
+use Rattle.ivshm_c.specs.Items.{FramePublished, PublishesFrame}
 use Rattle.tx_engine.specs.Ahead.{words_of, listed, last_words, WritesAll}
 use Rattle.link_endpoint.specs.Refinement.{RefinesAt}
 use Rattle.link_endpoint.specs.declared.order.Ordering.{Ordering}
 use Rattle.link_endpoint.specs.Engine.{is_busy, offered, reads_ahead, writes_ahead, bursts_of}
 use Rattle.ivshm_c.specs.declared.crossing.Access.{Access}
 use Rattle.ivshm_c.specs.declared.crossing.Bursts as crossed
-use Rattle.ivshm_c.specs.Crossing.{access_crossed, bursts_crossed}
+use Rattle.ivshm_c.specs.declared.crossing.Publication as crossed_publication
+use Rattle.ivshm_c.specs.Crossing.{access_crossed, bursts_crossed, publication_crossed}
 use Rattle.ivshm_c.specs.EndStates.{IsNext, IsAhead, AreBursts, AreBurstTail}
 use Rattle.ivshm_c.specs.Sizes.{shape_found, sizes_found, layout_of, LaysOut, laid_out}
-use Rattle.ivshm_c.specs.Answers.{IsNew, MayMake, RefusesNew, MakesAnswered, GivesNext, GivesBursts, GivesTail, Where, room_answer, bursts_answer, took_tail_answer, tail_answer, made, has_end, refused}
+use Rattle.ivshm_c.specs.Answers.{Follows, IsNew, MayMake, RefusesNew, MakesAnswered, GivesNext, GivesBursts, GivesTail, Where, room_answer, bursts_answer, took_tail_answer, tail_answer, made, has_end, refused}
 
 -- The words of the sizes that were found.
 pub words_are_those : (found : Found) (peers mtu : ℕ) (before after : Layout) (shape : Shape) (queue : Sizes) → shape ≡ shape_found found peers → IsShape shape
@@ -82,6 +88,28 @@ tail_is_reported port before after room front bursts busy some fits sized crosse
     ((reported : Bursts) × (bursts_of port.endpoint ≡ Some reported) × (after ≡ bursts_crossed reported) × AreBurstTail port.endpoint reported filled ×
     (drop 20 filled ≡ drop 20 room))
     ((after ≡ before) × (filled ≡ room))) (sym done) (bursts, some, crossed_is, written, rest_is)
+
+-- A frame is published, with the words after it at the front of `room`.
+pub frame_is_published : (old new : EndState) (before after : crossed_publication.Publication) (room front : List ℕ) (published : Publication) → is_busy old.endpoint ≡ true → nat_lt (length room) 20 ≡ false → length front ≡ 20 →
+    after ≡ publication_crossed published → Publishes old.endpoint front published new.endpoint → Follows (note.Accept ∷ []) old new → PublishesFrame before after room (front ++ drop 20 room) old new
+frame_is_published old new before after room front published busy fits sized crossed_is steps follows =
+    let filled = front ++ drop 20 room in
+    let done : tail_answer (length room) old ≡ Done =
+    ap (λ b. if b then took_tail_answer (bursts_of old.endpoint) (length room) else NoCall) busy ∙ ap (λ s. took_tail_answer s (length room)) steps.bursts
+    ∙ ap (λ b. if b then ShortRoom else Done) fits in
+    let front_is : take 20 filled ≡ front = ap (λ k. take k filled) (sym sized) ∙ take-append_seam front (drop 20 room) in
+    let rest_is : drop 20 filled ≡ drop 20 room = ap (λ k. drop k filled) (sym sized) ∙ drop-append_seam front (drop 20 room) in
+    subst (λ status. Where status (FramePublished after room filled old new) ((new ≡ old) × (after ≡ before) × (filled ≡ room))) (sym done)
+    (record { made = published; crossed_is = crossed_is; steps = subst (λ b. Publishes old.endpoint b published new.endpoint) (sym front_is) steps; rest = rest_is; follows = follows })
+
+-- No frame is published: the room stays.
+pub frame_is_left : (old new : EndState) (before : crossed_publication.Publication) (room front : List ℕ) → is_busy old.endpoint ≡ true → bursts_of old.endpoint ≡ None → new ≡ old → front ≡ take 20 room →
+    PublishesFrame before before room (front ++ drop 20 room) old new
+frame_is_left old new before room front busy none same front_is =
+    let other : tail_answer (length room) old ≡ OtherAccess =
+    ap (λ b. if b then took_tail_answer (bursts_of old.endpoint) (length room) else NoCall) busy ∙ ap (λ s. took_tail_answer s (length room)) none in
+    let whole : front ++ drop 20 room ≡ room = ap (λ f. f ++ drop 20 room) front_is ∙ take-append-drop 20 room in
+    subst (λ status. Where status (FramePublished before room (front ++ drop 20 room) old new) ((new ≡ old) × (before ≡ before) × (front ++ drop 20 room ≡ room))) (sym other) (same, refl, whole)
 
 module _ (found : Found) (version peers me mtu vector : ℕ) (old new : Option EndState) where
   -- A handle with an end keeps it.

@@ -18,9 +18,13 @@ use Rattle.link_endpoint.specs.declared.order.Ordering.{Ordering}
 use Rattle.link_endpoint.specs.Engine.{is_busy, delivered}
 use Rattle.tx_engine.specs.declared.ahead.Burst.{Burst}
 use Rattle.tx_engine.specs.declared.ahead.Bursts.{Bursts}
+use Rattle.tx_engine.specs.declared.ahead.Publication.{Publication}
+use Rattle.rx_engine.specs.declared.ahead.FrameReturn.{FrameReturn}
 use Rattle.ivshm_c.specs.declared.crossing.Access as crossed_access
 use Rattle.ivshm_c.specs.declared.crossing.Burst as crossed_burst
 use Rattle.ivshm_c.specs.declared.crossing.Bursts as crossed_bursts
+use Rattle.ivshm_c.specs.declared.crossing.FrameReturn as crossed_return
+use Rattle.ivshm_c.specs.declared.crossing.Publication as crossed_publication
 use Rattle.ivshm_c.specs.declared.crossing.Note as crossed_note
 use Rattle.ivshm_c.specs.declared.crossing.Notes as crossed_notes
 use Rattle.ivshm_c.specs.declared.crossing.View.{View}
@@ -83,6 +87,14 @@ burst_crossed s = record { word = s.word; count = s.count }
 
 abbrev pub bursts_crossed : Bursts → crossed_bursts.Bursts
 bursts_crossed s = record { frame = burst_crossed s.frame; descriptor = burst_crossed s.descriptor; entry = burst_crossed s.entry }
+
+-- The writes that publish a frame.
+abbrev pub publication_crossed : Publication → crossed_publication.Publication
+publication_crossed made = record { bursts = bursts_crossed made.bursts; index = made.index; accepted = made.accepted }
+
+-- The writes that return a frame.
+abbrev pub frame_return_crossed : FrameReturn → crossed_return.FrameReturn
+frame_return_crossed made = record { length = made.length; element = made.element; id = made.id; index = made.index; returned = made.returned }
 
 -- The note of a refusal.
 abbrev pub refusal_crossed : Refused → crossed_note.Note

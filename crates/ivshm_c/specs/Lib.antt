@@ -6,3 +6,4 @@ pub mod Versions
 pub mod EndStates
 pub mod Sizes
 pub mod Answers
+pub mod Items

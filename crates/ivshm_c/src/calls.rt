@@ -3,12 +3,17 @@ ghost use Rattle.std.specs.Prelude.{◌≡◌, ◌*◌, ◌%◌, ◌<◌, ◌≤
 ghost use Rattle.tx_engine.specs.Ahead.{words_of};
 ghost use Rattle.link_endpoint.specs.Engine.{delivered, offered};
 ghost use Rattle.ivshm_c.specs.Answers.{begin_answer, offer_answer, step_answer, count_answer, bytes_answer, reads_answer, words_answer, writes_answer, bursts_answer, tail_answer, took_bursts_answer, frame_answer, BeginsAnswered, OffersAnswered, GivesNext, TakesAnswered, TakesWords, GivesWords, TakesWrites, GivesBursts, GivesTail, TakesBursts, CopiesFrame, IsNew, MayMake, RefusesNew};
+ghost use Rattle.ivshm_c.specs.Statuses.{number_of};
+ghost use Rattle.ivshm_c.specs.Items.{idle_answer, TakesField, TakesFrame, PublishesFrame};
 
-use crate::crossing::{access_crossed, bursts_crossed, call_numbered, notes_crossed};
+use crate::crossing::{
+    access_crossed, bursts_crossed, call_numbered, frame_return_crossed, notes_crossed,
+    publication_crossed,
+};
 use crate::device::{Found, sized};
 use crate::end_state::EndState;
 use crate::status::Status;
-use crate::{Access, Bursts, Notes};
+use crate::{Access, Burst, Bursts, FrameReturn, Notes, Publication};
 use link_endpoint::Endpoint;
 use split_ring::steps;
 use std::alloc::Global;
@@ -129,6 +134,73 @@ pub(crate) fn took(port: &mut EndState, value: u32, notes: &mut Notes) -> Status
     port.took(value, &mut reported);
     *notes = notes_crossed(reported.as_slice());
     Status::Done
+}
+
+/// Returns the answer of a call that takes nothing.
+fn idle(port: &EndState) -> Status
+    ensures { result ≡ idle_answer port.now }
+{
+    if port.endpoint.busy() {
+        Status::OtherAccess
+    } else {
+        Status::NoCall
+    }
+}
+
+/// Completes the read of a field of an item, and writes the next access, a read, into `next`.
+pub(crate) fn took_field(port: &mut EndState, value: u32, next: &mut Burst) -> Status
+    ensures { TakesField value next.old next.new (number_of result) port.old port.new }
+{
+    match port.endpoint.took_field(value) {
+        Some(read) => {
+            *next = Burst {
+                word: read.word,
+                count: read.count,
+            };
+            Status::Done
+        }
+        None => idle(port),
+    }
+}
+
+/// Completes the reads of a whole frame and the writes that return it, and writes these into
+/// `made`.
+pub(crate) fn took_frame(port: &mut EndState, words: &[u8], made: &mut FrameReturn) -> Status
+    ensures { TakesFrame words.now made.old made.new (number_of result) port.old port.new }
+{
+    match port.endpoint.took_frame(words) {
+        Some(returned) => {
+            *made = frame_return_crossed(returned);
+            port.counts.deliver();
+            Status::Done
+        }
+        None => idle(port),
+    }
+}
+
+/// Completes all that an offer writes up to its index, and writes these writes into `made`. Writes
+/// only the words after the frame into the front of `room`.
+pub(crate) fn publish(port: &mut EndState, made: &mut Publication, room: &mut [u8]) -> Status
+    ensures answer { result ≡ tail_answer (length room.old) port.old }
+    ensures step { PublishesFrame made.old made.new room.old room.new port.old port.new }
+{
+    if !port.endpoint.busy() {
+        return Status::NoCall;
+    }
+    if room.len() <= 19 {
+        return if port.endpoint.bursts().is_none() {
+            Status::OtherAccess
+        } else {
+            Status::ShortRoom
+        };
+    }
+    match port.publish(&mut room[..20]) {
+        Some(published) => {
+            *made = publication_crossed(published);
+            Status::Done
+        }
+        None => Status::OtherAccess,
+    }
 }
 
 /// Returns the answer for `count` steps to be completed, if `ahead` steps are next.

@@ -1,5 +1,5 @@
 //! The counts of an end.
-ghost use Rattle.std.specs.Prelude.{◌≡◌};
+ghost use Rattle.std.specs.Prelude.{◌≡◌, [], ◌∷◌};
 ghost use Rattle.ivshm_c.specs.Counts.{no_counts, one_more, noted, opened, noted_all, counts_after};
 
 use link_handshake::Phase;
@@ -52,6 +52,20 @@ impl Counts {
     {
         self.open(old, new);
         self.note_all(notes);
+    }
+
+    /// Counts the steps that deliver a frame and return it.
+    pub(crate) fn deliver(&mut self)
+        ensures { self.new ≡ noted_all (Note.Deliver ∷ Note.Return ∷ []) self.old }
+    {
+        self.note(&Note::Deliver);
+    }
+
+    /// Counts the step that publishes a frame.
+    pub(crate) fn accept(&mut self)
+        ensures { self.new ≡ noted_all (Note.Accept ∷ []) self.old }
+    {
+        self.note(&Note::Accept);
     }
 
     /// Counts a session if the phase became READY.

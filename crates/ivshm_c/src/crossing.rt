@@ -1,6 +1,6 @@
 //! The values of an end that cross to C.
 ghost use Rattle.std.specs.Prelude.{◌≡◌, ◌≤◌, length};
-ghost use Rattle.ivshm_c.specs.Crossing.{call_numbered, state_of, field_number, outcome_number, order_number, access_crossed, burst_crossed, bursts_crossed, refusal_crossed, note_crossed, notes_crossed, field_of, value_of, view_of, CrossingsHaveContracts};
+ghost use Rattle.ivshm_c.specs.Crossing.{call_numbered, state_of, field_number, outcome_number, order_number, access_crossed, burst_crossed, bursts_crossed, publication_crossed, frame_return_crossed, refusal_crossed, note_crossed, notes_crossed, field_of, value_of, view_of, CrossingsHaveContracts};
 
 use crate::end_state::{EndState, Outcome};
 use link_endpoint::{Call, Order, Ordering};
@@ -44,6 +44,29 @@ pub struct Bursts {
     pub frame: Burst,
     pub descriptor: Burst,
     pub entry: Burst,
+}
+
+/// The writes that publish a frame: the bursts before its index, and the index. That is the value
+/// `accepted` of the word `index`.
+#[repr(C)]
+#[derive(Clone, Copy)]
+pub struct Publication {
+    pub bursts: Bursts,
+    pub index: u32,
+    pub accepted: u32,
+}
+
+/// The writes that return a frame which was read as a whole. `length` is the frame's length in
+/// bytes. The used element is at the word `element`: its words are `id` and 1. The used index is
+/// at the word `index`, and its value is `returned`.
+#[repr(C)]
+#[derive(Clone, Copy)]
+pub struct FrameReturn {
+    pub length: u32,
+    pub element: u32,
+    pub id: u32,
+    pub index: u32,
+    pub returned: u32,
 }
 
 /// A note of a step.
@@ -174,6 +197,28 @@ pub(crate) fn bursts_crossed(bursts: link_endpoint::Bursts) -> Bursts
         frame: burst_crossed(bursts.frame),
         descriptor: burst_crossed(bursts.descriptor),
         entry: burst_crossed(bursts.entry),
+    }
+}
+
+pub(crate) fn publication_crossed(made: link_endpoint::Publication) -> Publication
+    ensures { result ≡ publication_crossed made }
+{
+    Publication {
+        bursts: bursts_crossed(made.bursts),
+        index: made.index,
+        accepted: made.accepted,
+    }
+}
+
+pub(crate) fn frame_return_crossed(made: link_endpoint::FrameReturn) -> FrameReturn
+    ensures { result ≡ frame_return_crossed made }
+{
+    FrameReturn {
+        length: made.length,
+        element: made.element,
+        id: made.id,
+        index: made.index,
+        returned: made.returned,
     }
 }
 

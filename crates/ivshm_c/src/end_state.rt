@@ -1,14 +1,16 @@
 //! An end of the link, with the outcome of its last offer and its counts.
-ghost use Rattle.std.specs.Prelude.{◌≡◌, ℕ, ◌+◌, ◌*◌, ◌%◌, ◌<◌, ◌≤◌, [], true, false, length};
+ghost use Rattle.std.specs.Prelude.{◌≡◌, ℕ, ◌+◌, ◌*◌, ◌%◌, ◌<◌, ◌≤◌, [], ◌∷◌, true, false, None, IfSome, length};
 ghost use Rattle.split_ring.specs.declared.sizes.TheConstants.{FRAME_OVERHEAD, SHORTEST_FRAME};
 ghost use Rattle.tx_engine.specs.Ahead.{words_of};
 ghost use Rattle.link_endpoint.specs.Engine.{is_busy, reads_ahead, writes_ahead, bursts_of, offered};
 ghost use Rattle.link_endpoint.specs.declared.place.Call.TheVariants.{Stop};
+ghost use Rattle.link_endpoint.specs.Publishing.{Publishes};
+ghost use Rattle.ivshm_c.specs.Answers.{Follows};
 ghost use Rattle.ivshm_c.specs.Counts.{no_counts, counts_after};
 ghost use Rattle.ivshm_c.specs.EndStates.{Begins, Offers, Steps, ReadsAtOnce, ReadsWhole, WritesAtOnce, Restarts, outcome_after, outcome_cut, outcome_with, outcome_noted, noted_by};
 
 use crate::counts::Counts;
-use link_endpoint::{Call, Endpoint};
+use link_endpoint::{Call, Endpoint, Publication};
 use link_handshake::Phase;
 use split_ring::steps::{Note, Notes};
 
@@ -145,6 +147,24 @@ impl EndState {
         ensures counts { self.new.counts ≡ self.old.counts }
     {
         self.endpoint.took_bursts();
+    }
+
+    /// Publishes the frame of the open offer: completes all writes up to its index.
+    pub(crate) fn publish(&mut self, tail: &mut [u8]) -> Option<Publication>
+        requires { length tail.old ≡ 20 }
+        ensures steps { IfSome result (λ made. Publishes self.old.endpoint tail.new made self.new.endpoint × Follows (Note.Accept ∷ []) self.old self.new) }
+        ensures sized { length tail.new ≡ length tail.old }
+        ensures other { result ≡ None → bursts_of self.old.endpoint ≡ None }
+        ensures unchanged { result ≡ None → (self.new ≡ self.old) × (tail.new ≡ tail.old) }
+    {
+        match self.endpoint.publish(tail) {
+            Some(made) => {
+                self.outcome = outcome_with(&Note::Accept, self.outcome);
+                self.counts.accept();
+                Some(made)
+            }
+            None => None,
+        }
     }
 
     /// Resets the end after a reset of the device: cuts the open call, and opens a Stop, whose

@@ -6,15 +6,16 @@ ghost use Rattle.ivshm_c.specs.declared.status.Status.{Status as Answer};
 ghost use Rattle.link_endpoint.specs.Engine.{delivered};
 ghost use Rattle.ivshm_c.specs.Crossing.{view_of};
 ghost use Rattle.ivshm_c.specs.Answers.{answer_at, begin_answer, offer_answer, again_answer, step_answer, reads_answer, words_answer, writes_answer, bursts_answer, tail_answer, took_bursts_answer, frame_answer, done_answer, BeginsAnswered, OffersAnswered, OffersAgain, GivesNext, TakesAnswered, TakesWords, GivesWords, TakesWrites, GivesBursts, GivesTail, TakesBursts, CopiesFrame, Renews, MakesAnswered};
+ghost use Rattle.ivshm_c.specs.Items.{TakesField, TakesFrame, PublishesFrame};
 
 use crate::calls::{
-    begun, bursts, framed, made, next, offered, offered_again, tail, took, took_bursts, took_reads,
-    took_writes, words,
+    begun, bursts, framed, made, next, offered, offered_again, publish, tail, took, took_bursts,
+    took_field, took_frame, took_reads, took_writes, words,
 };
 use crate::crossing::view_of;
 use crate::device::Found;
 use crate::status::Status;
-use crate::{Access, Bursts, Counts, End, Notes, View};
+use crate::{Access, Burst, Bursts, Counts, End, FrameReturn, Notes, Publication, View};
 use std::alloc::Global;
 
 /// Makes the end of peer `me` of a region of these sizes with `peers` peers, for frames of this
@@ -172,6 +173,55 @@ pub extern "C" fn ivshm_end_took(alloc: Global, end: &mut End, value: u32, notes
     status.number()
 }
 
+/// Completes the read of a field of an item in a poll, if the value passes its check. Writes the
+/// next access, a relaxed read, into `next`: its word, and the number of words of the burst that it
+/// begins, or 0.
+// claim step, empty, untouched: The read of a field of an item that passes its check is
+//    completed as by a single step, and the next access is the read after it. Otherwise the value
+//    is refused or no such read is next, the answer says so, and nothing changes.
+#[unsafe(no_mangle)]
+pub extern "C" fn ivshm_end_took_field(
+    alloc: Global,
+    end: &mut End,
+    value: u32,
+    next: &mut Burst,
+) -> u32
+    ensures step { Leads end.old.port (TakesField value next.old next.new result) end.new.port }
+    ensures empty { end.old.port ≡ None → result ≡ number_of Answer.NoEnd }
+    ensures untouched { end.old.port ≡ None → next.new ≡ next.old }
+{
+    let Some(mut port) = end.take(alloc) else {
+        return Status::NoEnd.number();
+    };
+    let status = took_field(&mut port, value, next);
+    end.put(port);
+    status.number()
+}
+
+/// Completes the reads of a whole frame in a poll, whose words are `words`, and the writes that
+/// return it. Writes these writes into `made`.
+// claim step, empty, untouched: All words of a frame, and the writes that return the frame, are
+//    completed as by single steps, and the writes are the accesses of these steps. If these aren't
+//    all words of a frame, the answer says so, and nothing changes.
+#[unsafe(no_mangle)]
+pub extern "C" fn ivshm_end_took_frame(
+    alloc: Global,
+    end: &mut End,
+    words: &[u8],
+    made: &mut FrameReturn,
+) -> u32
+    ensures step { Leads end.old.port (TakesFrame words.now made.old made.new result) end.new.port }
+    ensures empty { end.old.port ≡ None → result ≡ number_of Answer.NoEnd }
+    ensures untouched { end.old.port ≡ None → made.new ≡ made.old }
+{
+    let Some(mut port) = end.take(alloc) else {
+        return Status::NoEnd.number();
+    };
+    let status = took_frame(&mut port, words, made);
+    end.put(port);
+    status.number()
+}
+
 /// Completes the next reads, 1 up to the `count` that `ivshm_end_next` returned. `words` holds the
 /// values read, four bytes each, the lowest byte first. If these are all words of a frame, the
 /// frame delivered is their first bytes.
@@ -294,6 +344,32 @@ pub extern "C" fn ivshm_end_took_bursts(alloc: Global, end: &mut End) -> u32
         return Status::NoEnd.number();
     };
     let status = took_bursts(&mut port);
+    end.put(port);
+    status.number()
+}
+
+/// Completes all that an offer writes up to its index, and writes these writes into `made`. Writes
+/// only the words of the descriptor and of the available entry into the front of `room`, in 20
+/// bytes, as `ivshm_end_tail` does.
+// claim answer, step, untouched: All that an offer writes up to its index is completed as by single
+//    steps, exactly if a word of its frame is next and the room has 20 bytes. The writes are the
+//    accesses of these steps; the rest of the room stays. Otherwise the answer says why, and
+//    nothing changes.
+#[unsafe(no_mangle)]
+pub extern "C" fn ivshm_end_publish(
+    alloc: Global,
+    end: &mut End,
+    made: &mut Publication,
+    room: &mut [u8],
+) -> u32
+    ensures answer { result ≡ number_of (answer_at end.old.port (tail_answer (length room.old))) }
+    ensures step { Leads end.old.port (PublishesFrame made.old made.new room.old room.new) end.new.port }
+    ensures untouched { end.old.port ≡ None → (made.new ≡ made.old) × (room.new ≡ room.old) }
+{
+    let Some(mut port) = end.take(alloc) else {
+        return Status::NoEnd.number();
+    };
+    let status = publish(&mut port, made, room);
     end.put(port);
     status.number()
 }

@@ -23,7 +23,9 @@ mod status;
 mod tables;
 
 pub use counts::Counts;
-pub use crossing::{Access, Burst, Bursts, Note, Notes, View, crossings_have_contracts};
+pub use crossing::{
+    Access, Burst, Bursts, FrameReturn, Note, Notes, Publication, View, crossings_have_contracts,
+};
 pub use device::{Found, Layout, Limits};
 pub use held::End;
 pub use laws::sessions_follow_state;

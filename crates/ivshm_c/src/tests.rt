@@ -2,13 +2,17 @@
 use crate::exports::{
     ivshm_end_begin, ivshm_end_bursts, ivshm_end_counts, ivshm_end_frame, ivshm_end_free,
     ivshm_end_new, ivshm_end_new_version, ivshm_end_next, ivshm_end_offer, ivshm_end_offer_again,
-    ivshm_end_reset, ivshm_end_tail, ivshm_end_took, ivshm_end_took_bursts, ivshm_end_took_reads,
-    ivshm_end_took_writes, ivshm_end_view, ivshm_end_words,
+    ivshm_end_publish, ivshm_end_reset, ivshm_end_tail, ivshm_end_took, ivshm_end_took_bursts,
+    ivshm_end_took_field, ivshm_end_took_frame, ivshm_end_took_reads, ivshm_end_took_writes,
+    ivshm_end_view, ivshm_end_words,
 };
 use crate::tables::{
     ivshm_abi_version, ivshm_layout, ivshm_library_version, ivshm_limits, ivshm_walk,
 };
-use crate::{Access, Burst, Bursts, Counts, End, Found, Layout, Limits, Note, Notes, View};
+use crate::{
+    Access, Burst, Bursts, Counts, End, Found, FrameReturn, Layout, Limits, Note, Notes,
+    Publication, View,
+};
 use std::alloc::Global;
 use std::process::Abort;
 
@@ -80,6 +84,20 @@ const OLD_BURSTS: Bursts = Bursts {
 
 const OLD_ROOM: [u8; 40] = [9; 40];
 
+const OLD_PUBLICATION: Publication = Publication {
+    bursts: OLD_BURSTS,
+    index: 9,
+    accepted: 9,
+};
+
+const OLD_RETURN: FrameReturn = FrameReturn {
+    length: 9,
+    element: 9,
+    id: 9,
+    index: 9,
+    returned: 9,
+};
+
 /// A call of an export that writes nothing, or whose notes don't count. The region has two peers,
 /// and the link an MTU of 256 and vector 1.
 #[derive(Clone, Copy)]
@@ -142,6 +160,14 @@ enum Act {
     Bursts(usize, u32, Bursts, &'static [u8; 40]),
     /// The same with the words after the frame.
     Tail(usize, u32, Bursts, &'static [u8; 40]),
+    /// Completes the writes of an offer up to its index: the length of the room, the answer, and
+    /// what the writes and the 40 bytes that hold the room are then.
+    Publish(usize, u32, Publication, &'static [u8; 40]),
+    /// Completes the read of a field with this value: the answer, and the word and the count of the
+    /// next read then.
+    Field(u32, u32, u32, u32),
+    /// Completes these words of a frame: the answer, and the writes that return it then.
+    Frame(&'static [u8], u32, FrameReturn),
     /// The outcome of the last offer, and the longest frame that may be offered.
     View(u32, u32),
     /// Writes the counts, which are these then, with this answer.
@@ -291,6 +317,53 @@ fn is_tail(
     answer == due && places(&into) == places(bursts) && room == *bytes
 }
 
+/// Completes the writes of an offer up to its index. Returns whether all is as the act says.
+#[must_use]
+fn is_published(
+    alloc: Global,
+    end: &mut End,
+    size: usize,
+    due: u32,
+    made: &Publication,
+    bytes: &[u8; 40],
+) -> bool {
+    let mut room = OLD_ROOM;
+    let mut into = OLD_PUBLICATION;
+    if size > 40 {
+        return false;
+    }
+    let answer = ivshm_end_publish(alloc, end, &mut into, &mut room[..size]);
+    let index = into.index == made.index && into.accepted == made.accepted;
+    answer == due && index && places(&into.bursts) == places(&made.bursts) && room == *bytes
+}
+
+/// Completes the read of a field with this value. Returns whether the answer and the next read are
+/// these.
+#[must_use]
+fn is_field(alloc: Global, end: &mut End, value: u32, due: u32, next: [u32; 2]) -> bool {
+    let mut into = OLD_BURST;
+    let answer = ivshm_end_took_field(alloc, end, value, &mut into);
+    answer == due && [into.word, into.count] == next
+}
+
+/// Returns the fields of the writes that return a frame.
+fn writes(made: &FrameReturn) -> [u32; 5] {
+    [
+        made.length,
+        made.element,
+        made.id,
+        made.index,
+        made.returned,
+    ]
+}
+
+/// Completes these words of a frame. Returns whether the answer and the writes are these.
+#[must_use]
+fn is_frame(alloc: Global, end: &mut End, words: &[u8], due: u32, made: &FrameReturn) -> bool {
+    let mut into = OLD_RETURN;
+    ivshm_end_took_frame(alloc, end, words, &mut into) == due && writes(&into) == writes(made)
+}
+
 /// Whether the last offer has this outcome, and this is the longest frame that may be offered.
 #[must_use]
 fn is_viewed(alloc: Global, end: &mut End, outcome: u32, longest: u32) -> bool {
@@ -339,6 +412,9 @@ fn makes(alloc: Global, end: &mut End, act: &Act) -> bool {
         Act::Words(bytes, due) => are_words(alloc, end, bytes, *due),
         Act::Bursts(size, due, bursts, bytes) => are_bursts(alloc, end, *size, *due, bursts, bytes),
         Act::Tail(size, due, bursts, bytes) => is_tail(alloc, end, *size, *due, bursts, bytes),
+        Act::Publish(size, due, made, bytes) => is_published(alloc, end, *size, *due, made, bytes),
+        Act::Field(value, due, word, count) => is_field(alloc, end, *value, *due, [*word, *count]),
+        Act::Frame(words, due, made) => is_frame(alloc, end, words, *due, made),
         Act::View(outcome, longest) => is_viewed(alloc, end, *outcome, *longest),
         Act::Counts(due, counts) => are_counts(alloc, end, *due, counts),
         Act::NoFrame => has_no_frame(alloc, end),
@@ -564,6 +640,120 @@ const BY_THE_TAIL: [Act; 13] = [
 fn an_offer_by_its_tail(rt: HostRuntime) {
     let mut end = End::empty(rt.alloc());
     makes_all(&rt, rt.alloc(), &mut end, &BY_THE_TAIL);
+}
+
+/// The writes of the same offer up to its index.
+const PUBLICATION: Publication = Publication {
+    bursts: OFFERED,
+    index: 1_280,
+    accepted: 65_536,
+};
+
+/// The doorbell to peer 1.
+const DOORBELL: Access = Access {
+    kind: 4,
+    word: 1,
+    value: 1,
+    count: 0,
+    order: 2,
+    fence_before: 0,
+    fence_after: 0,
+};
+
+const PUBLISHED: Counts = Counts {
+    sessions: 1,
+    accepted: 1,
+    full: 0,
+    down: 0,
+    delivered: 0,
+    refused: 0,
+};
+
+const UP_TO_THE_INDEX: [Act; 15] = [
+    Act::Publish(24, 1, OLD_PUBLICATION, &OLD_ROOM),
+    Act::Makes(Call::New(0), 0),
+    Act::Runs,
+    Act::Publish(24, 4, OLD_PUBLICATION, &OLD_ROOM),
+    Act::Makes(Call::Offer(&[7; 14]), 0),
+    Act::Publish(24, 26, OLD_PUBLICATION, &OLD_ROOM),
+    Act::Publish(19, 26, OLD_PUBLICATION, &OLD_ROOM),
+    Act::Makes(Call::Took(0), 0),
+    Act::Publish(19, 9, OLD_PUBLICATION, &OLD_ROOM),
+    Act::Publish(24, 0, PUBLICATION, &TAIL),
+    Act::View(2, 274),
+    Act::Counts(0, PUBLISHED),
+    Act::Next(DOORBELL),
+    Act::Publish(24, 26, OLD_PUBLICATION, &OLD_ROOM),
+    Act::Makes(Call::Free, 0),
+];
+
+/// The same offer is published by one call, and its doorbell is next. No end, no call, another
+/// access and a room that is too short have their answers.
+// claim ivshm_c.ivshm_end_publish.answer
+#[test]
+fn an_offer_up_to_its_index(rt: HostRuntime) {
+    let mut end = End::empty(rt.alloc());
+    makes_all(&rt, rt.alloc(), &mut end, &UP_TO_THE_INDEX);
+}
+
+/// The writes that return the first frame of peer 1, of 14 bytes.
+const RETURNED: FrameReturn = FrameReturn {
+    length: 14,
+    element: 1_329,
+    id: 0,
+    index: 1_328,
+    returned: 65_536,
+};
+
+const DELIVERED: Counts = Counts {
+    sessions: 1,
+    accepted: 0,
+    full: 0,
+    down: 0,
+    delivered: 1,
+    refused: 1,
+};
+
+const ITEMS: [Act; 28] = [
+    Act::Field(0, 1, 9, 9),
+    Act::Frame(&[7; 16], 1, OLD_RETURN),
+    Act::Makes(Call::New(0), 0),
+    Act::Field(0, 26, 9, 9),
+    Act::Runs,
+    Act::Field(0, 4, 9, 9),
+    Act::Frame(&[7; 16], 4, OLD_RETURN),
+    Act::Makes(Call::Begin(1), 0),
+    Act::Field(0, 26, 9, 9),
+    Act::Makes(Call::Took(65_536 * 2), 0),
+    Act::Field(64, 26, 9, 9),
+    Act::Field(0, 0, 5_120, 0),
+    Act::Field(1_792, 0, 5_121, 0),
+    Act::Field(0, 0, 5_122, 0),
+    Act::Frame(&[7; 16], 26, OLD_RETURN),
+    Act::Field(14, 0, 5_123, 0),
+    Act::Field(0, 0, 5_568, 4),
+    Act::Field(0, 26, 9, 9),
+    Act::Frame(&[7; 12], 26, OLD_RETURN),
+    Act::Frame(&[7; 16], 0, RETURNED),
+    Act::Field(0, 0, 5_120, 0),
+    Act::Field(1_792, 0, 5_121, 0),
+    Act::Field(1, 26, 9, 9),
+    Act::Makes(Call::Took(1), 0),
+    Act::NextState(0),
+    Act::Makes(Call::Took(0), 0),
+    Act::Counts(0, DELIVERED),
+    Act::Makes(Call::Free, 0),
+];
+
+/// A poll of two frames takes the first by its fields and its words, and returns it. An address of
+/// the second is refused. No end, no call, another access, other values than the words of a frame
+/// and a value out of range have their answers.
+// claim ivshm_c.ivshm_end_took_field.step
+// claim ivshm_c.ivshm_end_took_frame.step
+#[test]
+fn items_of_a_poll(rt: HostRuntime) {
+    let mut end = End::empty(rt.alloc());
+    makes_all(&rt, rt.alloc(), &mut end, &ITEMS);
 }
 
 const OUTSIDE_RUN: [Act; 16] = [

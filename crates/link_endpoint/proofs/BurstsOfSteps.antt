@@ -65,12 +65,16 @@ polls_on old (value ∷ other ∷ values) notes next config end place polls (bet
     (record old { receiver = between }, one, polls_on (record old { receiver = between }) (other ∷ values) notes next config _ _ polls rest (one.takes.refines config end place refines) none)
 
 -- The steps of the sender are steps of the endpoint.
+pub offers_noted : (old : Engine) (value : ℕ) (notes : List Note) (next : Sender) (config : EndConfig) (end : End) (place : places.Place) → old.place ≡ Offering →
+    tx.StaysOpen old.sender value notes next → RefinesAt old config end place → refused_after notes None ≡ None → IsTaken old value notes (record old { sender = next })
+offers_noted old value notes next config end place offers step refines none = record {
+  takes = sending.takes_on old value notes next true config end place offers step.takes refines none step.sender (λ w e p at. sym step.opened ∙ open_is next w e p at) refl;
+  away = away_on old _ value notes (ap is_refusing_at offers) (ap is_reading_state_at offers) none refl;
+}
+
 offers_one : (old : Engine) (value : ℕ) (next : Sender) (config : EndConfig) (end : End) (place : places.Place) → old.place ≡ Offering →
     tx.StaysOpen old.sender value [] next → RefinesAt old config end place → IsTaken old value [] (record old { sender = next })
-offers_one old value next config end place offers step refines = record {
-  takes = sending.takes_on old value [] next true config end place offers step.takes refines refl step.sender (λ w e p at. sym step.opened ∙ open_is next w e p at) refl;
-  away = away_on old _ value [] (ap is_refusing_at offers) (ap is_reading_state_at offers) refl refl;
-}
+offers_one old value next config end place offers step refines = offers_noted old value [] next config end place offers step refines refl
 
 pub offers_on : (old : Engine) (values : List ℕ) (next : Sender) (config : EndConfig) (end : End) (place : places.Place) → old.place ≡ Offering →
     StepsThrough tx.StaysOpen old.sender values [] next → RefinesAt old config end place → StepsThrough IsTaken old values [] (record old { sender = next })
@@ -81,7 +85,7 @@ offers_on old (value ∷ other ∷ values) next config end place offers (between
     (record old { sender = between }, one, offers_on (record old { sender = between }) (other ∷ values) next config _ _ offers rest (one.takes.refines config end place refines))
 
 -- The sender's parameters are unchanged.
-keeps_one : (old new : Sender) (value : ℕ) (notes : List Note) → tx.StaysOpen old value notes new → KeepsNumbers old new
+pub keeps_one : (old new : Sender) (value : ℕ) (notes : List Note) → tx.StaysOpen old value notes new → KeepsNumbers old new
 keeps_one old new value notes takes = let kept = takes.takes.kept in
     record { sizes = ap (λ s. s.sizes) kept; own = ap (λ s. s.own) kept; theirs = ap (λ s. s.theirs) kept; target = ap (λ s. s.target) kept; vector = ap (λ s. s.vector) kept }
 
@@ -104,32 +108,35 @@ stands_on old new [] notes config end place each refines = record { end = end; p
 stands_on old new (value ∷ []) notes config end place each refines = record { end = _; place = _; refines = each.takes.refines config end place refines }
 stands_on old new (value ∷ other ∷ values) notes config end place (between, first, rest) refines = stands_on between new (other ∷ values) notes config _ _ rest (first.takes.refines config end place refines)
 
+-- The endpoint stays well formed if it refines an end after the receiver's steps.
+pub kept_received : (i : Inside) (next : Receiver) → IsWellFormed i → receiver.KeepsNumbers i.rx next → StandsFor (engine_of (record i { rx = next })) (engine_of i).config → IsWellFormed (record i { rx = next })
+kept_received i next kept keeps later = record {
+  sections = kept.sections;
+  own_room = kept.own_room;
+  their_room = kept.their_room;
+  sender = kept.sender;
+  receiver = record {
+    sizes = kept.receiver.sizes ∙ sym keeps.sizes;
+    own = kept.receiver.own ∙ sym keeps.own;
+    theirs = kept.receiver.theirs ∙ sym keeps.theirs;
+    target = kept.receiver.target ∙ sym keeps.target;
+    vector = kept.receiver.vector ∙ sym keeps.vector;
+  };
+  mark = kept.mark;
+  left = kept.left;
+  end = later.end;
+  at = later.place;
+  refines = later.refines;
+}
+
 pub kept_polled : (i : Inside) (next : Receiver) (values : List ℕ) (notes : List Note) → IsWellFormed i → receiver.KeepsNumbers i.rx next → StepsThrough IsTaken (engine_of i) values notes (engine_of (record i { rx = next })) → IsWellFormed (record i { rx = next })
 kept_polled i next values notes kept keeps each =
-    let later = stands_on (engine_of i) (engine_of (record i { rx = next })) values notes (engine_of i).config kept.end kept.at each kept.refines in
-    record {
-      sections = kept.sections;
-      own_room = kept.own_room;
-      their_room = kept.their_room;
-      sender = kept.sender;
-      receiver = record {
-        sizes = kept.receiver.sizes ∙ sym keeps.sizes;
-        own = kept.receiver.own ∙ sym keeps.own;
-        theirs = kept.receiver.theirs ∙ sym keeps.theirs;
-        target = kept.receiver.target ∙ sym keeps.target;
-        vector = kept.receiver.vector ∙ sym keeps.vector;
-      };
-      mark = kept.mark;
-      left = kept.left;
-      end = later.end;
-      at = later.place;
-      refines = later.refines;
-    }
+    kept_received i next kept keeps (stands_on (engine_of i) (engine_of (record i { rx = next })) values notes (engine_of i).config kept.end kept.at each kept.refines)
 
-pub kept_offered : (i : Inside) (next : Sender) (values : List ℕ) (notes : List Note) → IsWellFormed i → KeepsNumbers i.tx next → StepsThrough IsTaken (engine_of i) values notes (engine_of (record i { tx = next })) → IsWellFormed (record i { tx = next })
-kept_offered i next values notes kept keeps each =
+-- The endpoint stays well formed if it refines an end after the sender's steps.
+pub kept_sent : (i : Inside) (next : Sender) → IsWellFormed i → KeepsNumbers i.tx next → StandsFor (engine_of (record i { tx = next })) (engine_of i).config → IsWellFormed (record i { tx = next })
+kept_sent i next kept keeps later =
     let new : Inside = record i { tx = next } in
-    let later = stands_on (engine_of i) (engine_of new) values notes (engine_of i).config kept.end kept.at each kept.refines in
     record {
       sections = subst HasSections (config_stays i next keeps) kept.sections;
       own_room = rw keeps.sizes kept.own_room;
@@ -142,6 +149,10 @@ kept_offered i next values notes kept keeps each =
       at = later.place;
       refines = subst (λ w. RefinesAt (engine_of new) w later.end later.place) (config_stays i next keeps) later.refines;
     }
+
+pub kept_offered : (i : Inside) (next : Sender) (values : List ℕ) (notes : List Note) → IsWellFormed i → KeepsNumbers i.tx next → StepsThrough IsTaken (engine_of i) values notes (engine_of (record i { tx = next })) → IsWellFormed (record i { tx = next })
+kept_offered i next values notes kept keeps each =
+    kept_sent i next kept keeps (stands_on (engine_of i) (engine_of (record i { tx = next })) values notes (engine_of i).config kept.end kept.at each kept.refines)
 
 -- Writes of 0 to own words.
 

@@ -10,5 +10,7 @@ pub mod InitialEndpoint
 pub mod RefusedEndsStay
 pub mod CallsOfEndpoint
 pub mod BurstsOfSteps
+pub mod ItemSteps
+pub mod PublishSteps
 pub mod AccessOrders
 pub mod NoteCounts

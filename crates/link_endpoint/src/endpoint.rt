@@ -1,5 +1,5 @@
 //! One end of the link, which makes its calls step by step. It performs no access itself.
-ghost use Rattle.std.specs.Prelude.{◌≡◌, ℕ, ◌+◌, ◌*◌, ◌%◌, ◌<◌, ◌≤◌, ◌↔◌, not, is_some, Some, None, List, [], ◌∷◌, true, false, IsTrue, IfOk, IfSome, ◌++◌, length, take, flat_map};
+ghost use Rattle.std.specs.Prelude.{◌≡◌, ◌≢◌, ℕ, ◌+◌, ◌*◌, ◌%◌, ◌<◌, ◌≤◌, ◌↔◌, ◌⊎◌, not, is_some, Some, None, List, [], ◌∷◌, true, false, IsTrue, IfOk, IfSome, ◌++◌, length, take, flat_map};
 ghost use Rattle.split_ring.specs.declared.sizes.TheConstants.{FRAME_OVERHEAD, SHORTEST_FRAME};
 ghost use Rattle.call_grammar.specs.Ends.{End, fresh, after_reset};
 ghost use Rattle.call_grammar.specs.Calls.{EndConfig, Offer, in_run};
@@ -14,20 +14,22 @@ ghost use Rattle.link_endpoint.specs.Engine.{config_of, fresh_engine, engine_aft
 ghost use Rattle.link_endpoint.specs.Refinement.{RefinesAt, AtEachEnd, is_armed, Takes, Opens};
 ghost use Rattle.link_endpoint.specs.Refusal.{RecordsRefusal, EndsRefusal, KeepsRefused, KeepsPhase, StaysRefused};
 ghost use Rattle.link_endpoint.specs.Bursts.{IsTaken};
-ghost use Rattle.link_endpoint.specs.Orders.{order_at, order_of};
+ghost use Rattle.link_endpoint.specs.Items.{is_field, ReadsNext, RefusesNext, ReadsAndReturns};
+ghost use Rattle.link_endpoint.specs.Publishing.{Publishes};
+ghost use Rattle.link_endpoint.specs.Orders.{order_at};
 ghost use Rattle.link_endpoint.specs.Runs.{EndpointsMakeCalls};
 
-use crate::order::{Order, Ordering};
+use crate::order::{Order, Ordering, order_of, plain};
 use crate::place::{Call, Place};
 use ivs_base::NoMemory;
 use link_handshake::{Handshake, Move, Phase, phase_of};
-use rx_engine::Rx;
+use rx_engine::{FrameReturn, NextRead, Rx};
 use section_map::Geometry;
-use split_ring::steps::{Access, Note, Notes, WordKind, leaving};
+use split_ring::steps::{Access, Note, Notes, leaving};
 use split_ring::{Queue, Refused};
 use std::alloc::Global;
 use std::marker::Model;
-use tx_engine::{Bursts, Tx};
+use tx_engine::{Bursts, Publication, Tx};
 
 /// An end of the link: its handshake, its sender, its receiver, and the place in the open call.
 ///
@@ -325,6 +327,50 @@ impl Endpoint {
         }
     }
 
+    /// Completes the read of a field of an item in a poll (its entry, or a word of its descriptor)
+    /// if the value passes its check. Returns the next access, which is a relaxed read. Equivalent
+    /// to `took`, and the step has no note.
+    ///
+    /// Returns `None` and changes nothing if the value is refused, or if no field of an item is
+    /// next. Then `took` completes the step.
+    // claim step, access, count, refused, unchanged: The read of a field of an item in a poll that
+    //    passes its check is one single step, and the next access is a relaxed read, with the burst
+    //    that begins with it. Exactly a value that is refused, or another access, changes nothing.
+    pub fn took_field(&mut self, value: u32) -> Option<NextRead>
+        ensures step { IfSome result (λ next. IsTaken self.old value [] self.new) }
+        ensures access { IfSome result (λ next. ReadsNext self.new next.word) }
+        ensures count { IfSome result (λ next. next.count ≡ reads_ahead self.new) }
+        ensures refused { result ≡ None → is_field self.old ≡ true → RefusesNext self.old value }
+        ensures unchanged { result ≡ None → self.new ≡ self.old }
+    {
+        match self.place {
+            Place::Polling => self.rx.took_field(value),
+            _ => None,
+        }
+    }
+
+    /// Completes the reads of a whole frame in a poll, whose words are `words`, four bytes each,
+    /// the lowest byte first. Returns the frame: completes the writes of its used element and of
+    /// the used index, which the caller makes now. Equivalent to `took` for each of these steps.
+    ///
+    /// Returns `None` and changes nothing if these aren't all words of a frame whose first word is
+    /// next.
+    // claim steps, other, phase, unchanged: All words of a frame and the writes that return the
+    //    frame are completed as by single steps, none of which changes the phase. These writes are
+    //    the accesses of the steps, and the index is released. Exactly other words, or another
+    //    access, change nothing.
+    pub fn took_frame(&mut self, words: &[u8]) -> Option<FrameReturn>
+        ensures steps { IfSome result (λ made. ReadsAndReturns self.old words.now made self.new) }
+        ensures other { result ≡ None → (frame_ahead self.old ≡ None) ⊎ (length words.now ≢ 4 * reads_ahead self.old) }
+        ensures phase { self.new.phase ≡ self.old.phase }
+        ensures unchanged { result ≡ None → self.new ≡ self.old }
+    {
+        match self.place {
+            Place::Polling => self.rx.took_frame(words),
+            _ => None,
+        }
+    }
+
     /// Returns the memory order that the next access needs if the shared words aren't all
     /// sequentially consistent.
     // claim: Each access has the memory order of its place. The other's State is acquired; the own
@@ -500,6 +546,27 @@ impl Endpoint {
         }
     }
 
+    /// Completes all writes of `bursts` and the write of the available index, which the caller
+    /// makes now. Writes into `tail` what `tail_words` does. Equivalent to `took` for each of these
+    /// steps. Returns `None` and changes nothing if no word of a frame is written next.
+    // claim steps, sized, other, phase, unchanged: All that an offer writes up to its index is
+    //    completed as by single steps, none of which changes the phase. These writes are the
+    //    accesses of the steps, and the index is released. Exactly if no word of a frame is next,
+    //    nothing changes.
+    pub fn publish(&mut self, tail: &mut [u8]) -> Option<Publication>
+        requires { length tail.old ≡ 20 }
+        ensures steps { IfSome result (λ made. Publishes self.old tail.new made self.new) }
+        ensures sized { length tail.new ≡ length tail.old }
+        ensures other { result ≡ None → bursts_of self.old ≡ None }
+        ensures phase { self.new.phase ≡ self.old.phase }
+        ensures unchanged { result ≡ None → (self.new ≡ self.old) × (tail.new ≡ tail.old) }
+    {
+        match self.place {
+            Place::Offering => self.tx.publish(tail),
+            _ => None,
+        }
+    }
+
     /// Resets the end after a reset of its own device: cuts the open call and clears the refused
     /// value. The frame offered last and the frame delivered last stay.
     pub fn reset(&mut self)
@@ -665,42 +732,6 @@ fn clearing(at: u32, end: u32, then: u32) -> Place
         Place::WritingState(then)
     } else {
         Place::Clearing { at, then }
-    }
-}
-
-/// Returns `order` without a fence.
-fn plain(order: Order) -> Ordering
-    ensures { result ≡ record { order = order; fence_before = false; fence_after = false } }
-{
-    Ordering {
-        order,
-        fence_before: false,
-        fence_after: false,
-    }
-}
-
-/// Returns the memory order of an access of an offer or a poll. A doorbell has its own, and any
-/// other access has the order of its kind of word.
-fn order_of(rings: bool, kind: WordKind) -> Ordering
-    ensures { result ≡ order_of rings kind }
-{
-    if rings {
-        return plain(Order::Release);
-    }
-    match kind {
-        WordKind::Plain => plain(Order::Relaxed),
-        WordKind::IndexRead => plain(Order::Acquire),
-        WordKind::IndexWrite => plain(Order::Release),
-        WordKind::EventRead => Ordering {
-            order: Order::Relaxed,
-            fence_before: true,
-            fence_after: false,
-        },
-        WordKind::EventWrite => Ordering {
-            order: Order::Relaxed,
-            fence_before: false,
-            fence_after: true,
-        },
     }
 }
 

@@ -42,4 +42,5 @@ pub use auto_endpoint::AutoEndpoint;
 pub use endpoint::{Endpoint, endpoints_make_calls};
 pub use order::{Order, Ordering};
 pub use place::Call;
-pub use tx_engine::{Burst, Bursts};
+pub use rx_engine::{FrameReturn, NextRead};
+pub use tx_engine::{Burst, Bursts, Publication};

@@ -1,3 +1,4 @@
 pub mod Receiver
 pub mod Refinement
+pub mod Items
 pub mod Representation

@@ -15,7 +15,11 @@
 // tested: No memory is taken after `new`: tried by hand.
 #![tactic(auto)]
 
+mod ahead;
+mod buffers;
+mod fields;
 mod place;
 mod receiver;
 
+pub use ahead::{FrameReturn, NextRead};
 pub use receiver::{Rx, idle_engine_outlives_steps};

@@ -1,4 +1,6 @@
 //! The place in an open poll.
+ghost use Rattle.std.specs.Prelude.{◌≡◌};
+ghost use Rattle.rx_engine.specs.Receiver.{given};
 
 /// The place of a poll between two steps, before the access that it is named after. `more` is the
 /// number of items after the current one, and `entry` is the current item's descriptor. `address`
@@ -67,4 +69,15 @@ pub(crate) enum Place {
     Ringing,
     /// The State step of a poll that refused a value.
     Refusing,
+}
+
+/// Returns the place after `count` writes of a used element's words, with `count` 1 or 2.
+pub(crate) fn used_element_place(more: u32, count: u32) -> Place
+    ensures { result ≡ given more count }
+{
+    if count == 1 {
+        Place::WritingUsedLength { more }
+    } else {
+        Place::WritingUsedIndex { more }
+    }
 }

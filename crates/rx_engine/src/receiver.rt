@@ -1,5 +1,5 @@
 //! The receiver of an end.
-ghost use Rattle.std.specs.Prelude.{ℕ, ◌≡◌, ◌+◌, ◌-◌, ◌*◌, ◌%◌, ◌≤◌, ◌<◌, ◌^◌, ◌⊎◌, List, [], ◌∷◌, ◌++◌, true, false, IfOk, IfSome, min, length, take, flat_map};
+ghost use Rattle.std.specs.Prelude.{ℕ, ◌≡◌, ◌≢◌, ◌+◌, ◌-◌, ◌*◌, ◌%◌, ◌≤◌, ◌<◌, ◌^◌, ◌⊎◌, List, [], ◌∷◌, ◌++◌, true, false, IfOk, IfSome, None, min, length, take, flat_map};
 ghost use Rattle.section_map.specs.declared.limits.TheConstants.{LARGEST_REGION};
 ghost use Rattle.link_handshake.specs.declared.Phase.TheVariants.{Run};
 ghost use Rattle.call_grammar.specs.Ends.{End};
@@ -10,10 +10,14 @@ ghost use Rattle.call_grammar.specs.Bursts.{StepsThrough, ReadsBurst, WritesBurs
 ghost use Rattle.call_grammar.specs.Orders.{word_kind};
 ghost use Rattle.call_grammar.specs.Places as laws;
 ghost use Rattle.call_grammar.specs.Permitted.{HasSections, IsPermittedAccess};
-ghost use Rattle.rx_engine.specs.Receiver.{fresh_receiver, renewed, is_last, is_armed, is_busy, reads_ahead, frame_ahead, writes_ahead, given, words_read, IsReached, KeepsNumbers};
+ghost use Rattle.rx_engine.specs.Receiver.{fresh_receiver, renewed, is_last, is_armed, is_busy, reads_ahead, frame_ahead, writes_ahead, words_read, IsReached, KeepsNumbers};
+ghost use Rattle.split_ring.specs.Layout.{word_offset, UsedIndex};
+ghost use Rattle.rx_engine.specs.Items.{is_field, ReadsNext, RefusesNext, ReadsAndReturns};
 ghost use Rattle.rx_engine.specs.Refinement.{IsMadeFor, IsFreshSession, RefinesAt, rings, TakesStep, StaysOpen, IdleEngineOutlivesSteps};
 
-use crate::place::Place;
+use crate::ahead::{FrameReturn, NextRead};
+use crate::buffers::{put_element, put_words};
+use crate::place::{Place, used_element_place};
 use ivs_base::NoMemory;
 use split_ring::steps::{Access, Note, Notes, WordKind, leaving};
 use split_ring::{LONGEST_FRAME, Queue, Refused, desc_flags, entry_half, high_half, of_halves};
@@ -31,14 +35,14 @@ use std::mem::swap;
 /// delivered, and nothing is copied. A step reads or writes one word, and never returns NoMemory.
 #[derive(Debug, Drop)]
 pub struct Rx {
-    queue: Queue,
+    pub(crate) queue: Queue,
     own: u32,
-    theirs: u32,
+    pub(crate) theirs: u32,
     target: u32,
     vector: u32,
-    returned: u16,
+    pub(crate) returned: u16,
     found_none: bool,
-    place: Place,
+    pub(crate) place: Place,
     buffer: Vec<u8>,
     last: Vec<u8>,
     delivered: usize,
@@ -54,41 +58,6 @@ impl Model for Rx {
     ghost view = { receiver_of };
 
     ghost invariant = { IsWellFormed };
-}
-
-/// Copies words of a frame of `bytes` bytes to their position in `buffer`, from word `at` of the
-/// frame on. Bytes after the frame's last byte are left out.
-fn put_words(buffer: &mut [u8], bytes: usize, at: usize, words: &[u8])
-    requires within { 4 * at < bytes }
-    requires room { bytes ≤ length buffer.old }
-    requires fits { 4 * at + length words.now < 2 ^ 32 }
-    ensures { take (min bytes (4 * at + length words.now)) buffer.new ≡ take (4 * at) buffer.old ++ take (bytes - 4 * at) words.now }
-{
-    let start = 4 * at;
-    let count = (bytes - start).min(words.len());
-    buffer[start..start + count].copy_from_slice(&words[..count]);
-}
-
-/// Writes the first words of a used element, as many bytes as `into` has.
-fn put_element(into: &mut [u8], entry: u32)
-    requires { length into.old ≤ 8 }
-    ensures bytes { into.new ≡ take (length into.old) (word_bytes entry ++ word_bytes 1) }
-    ensures fits { entry < 4294967296 }
-{
-    let id = entry.to_le_bytes();
-    let words = [id[0], id[1], id[2], id[3], 1, 0, 0, 0];
-    into.copy_from_slice(&words[..into.len()]);
-}
-
-/// Returns the place after `count` writes of a used element's words, with `count` 1 or 2.
-fn used_element_place(more: u32, count: u32) -> Place
-    ensures { result ≡ given more count }
-{
-    if count == 1 {
-        Place::WritingUsedLength { more }
-    } else {
-        Place::WritingUsedIndex { more }
-    }
 }
 
 impl Rx {
@@ -268,6 +237,90 @@ impl Rx {
         }
     }
 
+    /// Completes the read of a field of an item (its entry, or a word of its descriptor) if the
+    /// value passes its check. Returns the next access, which is a read without an order.
+    /// Equivalent to `took`, and the step has no note.
+    ///
+    /// Returns `None` and changes nothing if the value is refused, or if no field of an item is
+    /// next. Then `took` completes the step.
+    // claim step, access, count, refused, unchanged: The read of a field of an item that passes its
+    //    check is one single step, and the next access is a read, with the burst that begins with
+    //    it. Exactly a value that is refused, or another access, changes nothing.
+    pub fn took_field(&mut self, value: u32) -> Option<NextRead>
+        ensures step { IfSome result (λ next. StaysOpen self.old value [] self.new) }
+        ensures access { IfSome result (λ next. ReadsNext self.new next.word) }
+        ensures count { IfSome result (λ next. next.count ≡ reads_ahead self.new.place) }
+        ensures refused { result ≡ None → is_field self.old.place ≡ true → RefusesNext self.old value }
+        ensures unchanged { result ≡ None → self.new ≡ self.old }
+        ensures kept { KeepsNumbers self.old self.new }
+    {
+        match self.place {
+            Place::ReadingAvailEntry { more } => self.passed_entry(more, value),
+            Place::ReadingDescAddressLow { more, entry } => self.passed_low(more, entry, value),
+            Place::ReadingDescAddressHigh { more, entry, low } => self.passed_high(
+                more, entry, low, value,
+            ),
+            Place::ReadingDescLength {
+                more,
+                entry,
+                address,
+            } => self.passed_length(more, entry, address, value),
+            Place::ReadingDescFlags {
+                more,
+                entry,
+                address,
+                bytes,
+            } => self.passed_flags(more, entry, address, bytes, value),
+            _ => None,
+        }
+    }
+
+    /// Completes the reads of a whole frame, whose words are `words`, four bytes each, the lowest
+    /// byte first. Returns the frame: completes the writes of its used element and of the used
+    /// index, which the caller makes now. Equivalent to `took` for each of these steps.
+    ///
+    /// Returns `None` and changes nothing if these aren't all words of a frame whose first word is
+    /// next.
+    // claim steps, sized, other, unchanged: All words of a frame and the writes that return the
+    //    frame are completed as by single steps, and these writes are the accesses of the steps.
+    //    Exactly other words, or another access, change nothing.
+    pub fn took_frame(&mut self, words: &[u8]) -> Option<FrameReturn>
+        ensures steps { IfSome result (λ made. ReadsAndReturns self.old words.now made self.new) }
+        ensures sized { IfSome result (λ made. length words.now ≡ 4 * words_for made.length) }
+        ensures other { result ≡ None → (frame_ahead self.old.place ≡ None) ⊎ (length words.now ≢ 4 * reads_ahead self.old.place) }
+        ensures unchanged { result ≡ None → self.new ≡ self.old }
+        ensures kept { KeepsNumbers self.old self.new }
+    {
+        let Place::ReadingFrameWord {
+            more,
+            entry,
+            address,
+            bytes,
+            at,
+        } = self.place
+        else {
+            return None;
+        };
+        if at != 0 || words.len() != 4 * bytes.div_ceil(4) as usize {
+            return None;
+        }
+        let mut delivered = Notes::new();
+        self.took_frame_words(more, entry, address, bytes, at, words, &mut delivered);
+        let element = self.element_word(more, entry);
+        self.gave_element(more, entry);
+        let index = self.own + self.queue.used_word();
+        let returned = self.next_index(more, index);
+        let mut notes = Notes::new();
+        self.wrote_index(more, &mut notes);
+        Some(FrameReturn {
+            length: bytes,
+            element,
+            id: entry,
+            index,
+            returned,
+        })
+    }
+
     /// Returns the kind of the next access's word, which determines its memory order.
     // claim with Rx::rings: The kind of the next access is known: an index word, an event, another
     //    word, or the doorbell.
@@ -419,7 +472,7 @@ impl Rx {
 /// The steps of `took_into`, one function for each place.
 impl Rx {
     /// Moves to `place` without a note.
-    fn go_on(&mut self, place: Place)
+    pub(crate) fn go_on(&mut self, place: Place)
         requires reached { IsReached self.old.sizes place }
         requires unread { words_read place ≡ 0 }
         ensures { self.new ≡ record self.old { place = place; gathered = [] } }
@@ -571,6 +624,8 @@ impl Rx {
         ensures steps { (values : List ℕ) → words.now ≡ flat_map word_bytes values → StepsThrough StaysOpen self.old values notes.new.items self.new }
         ensures frame { at ≡ 0 → length words.now ≡ 4 * words_for bytes → self.new.frame ≡ take bytes words.now }
         ensures notes { (notes.new.items ≡ []) ⊎ (notes.new.items ≡ Note.Deliver ∷ []) }
+        ensures delivers { bytes ≤ 4 * at + length words.now → notes.new.items ≡ Note.Deliver ∷ [] }
+        ensures last { bytes ≤ 4 * at + length words.now → self.new.place ≡ Place.WritingUsedId more entry }
         ensures kept { KeepsNumbers self.old self.new }
     {
         put_words(&mut self.buffer, bytes as usize, at as usize, words);
@@ -597,6 +652,8 @@ impl Rx {
         requires place { self.old.place ≡ Place.WritingUsedIndex more }
         requires empty { notes.old.items ≡ [] }
         ensures steps { (value : ℕ) → TakesStep self.old value notes.new.items self.new }
+        ensures note { notes.new.items ≡ Note.Return ∷ [] }
+        ensures open { is_busy self.new ≡ true }
         ensures kept { KeepsNumbers self.old self.new }
     {
         self.returned = self.returned.wrapping_add(1);
@@ -606,6 +663,38 @@ impl Rx {
         } else {
             Place::ReadingAvailEntry { more: more - 1 }
         };
+    }
+}
+
+/// The writes that return a frame.
+impl Rx {
+    /// Returns the number of the used element's first word.
+    #[tactic(auto, using(crate::proofs::ModularNumbers::ring_place))]
+    fn element_word(&self, more: u32, entry: u32) -> u32
+        requires { self.now.place ≡ Place.WritingUsedId more entry }
+        ensures first { (config : EndConfig) (end : End) (place : laws.Place) → RefinesAt self.now config end place → laws.access_at config place ≡ Access.Write result entry }
+    {
+        self.own + self.queue.used_id(u32::from(self.returned))
+    }
+
+    /// Completes the writes of the used element.
+    fn gave_element(&mut self, more: u32, entry: u32)
+        requires { self.old.place ≡ Place.WritingUsedId more entry }
+        ensures steps { (values : List ℕ) → length values ≡ 2 → StepsThrough StaysOpen self.old values [] self.new }
+        ensures place { self.new.place ≡ Place.WritingUsedIndex more }
+        ensures kept { KeepsNumbers self.old self.new }
+    {
+        self.place = Place::WritingUsedIndex { more };
+    }
+
+    /// Returns the used index that is written to the word `index`.
+    fn next_index(&self, more: u32, index: u32) -> u32
+        requires place { self.now.place ≡ Place.WritingUsedIndex more }
+        requires index { index ≡ self.now.own + word_offset self.now.sizes UsedIndex }
+        ensures index { (config : EndConfig) (end : End) (place : laws.Place) → RefinesAt self.now config end place → laws.access_at config place ≡ Access.Write index result }
+        ensures kind { (config : EndConfig) (end : End) (place : laws.Place) → RefinesAt self.now config end place → word_kind place ≡ WordKind.IndexWrite }
+    {
+        of_halves(0, self.returned.wrapping_add(1))
     }
 }
 

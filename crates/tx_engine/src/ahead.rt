@@ -19,3 +19,15 @@ pub struct Bursts {
     /// The word that holds the available entry.
     pub entry: Burst,
 }
+
+/// The writes that publish a frame, from a word of it on: the bursts before the index, and the
+/// index.
+#[derive(Clone, Copy, Debug, PartialEq, Eq)]
+pub struct Publication {
+    /// The bursts before the index.
+    pub bursts: Bursts,
+    /// The number of the word with the available index, from the base of the region.
+    pub index: u32,
+    /// The value of that word.
+    pub accepted: u32,
+}

@@ -27,5 +27,5 @@ mod ahead;
 mod place;
 mod tx;
 
-pub use ahead::{Burst, Bursts};
+pub use ahead::{Burst, Bursts, Publication};
 pub use tx::{Tx, idle_engine_outlives_steps};

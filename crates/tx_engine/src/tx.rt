@@ -2,7 +2,7 @@
 ghost use Rattle.std.specs.Prelude.{◌≡◌, ℕ, ◌+◌, ◌-◌, ◌*◌, ◌%◌, ◌<◌, ◌≤◌, IfOk, IfSome, None, true, false, List, [], ◌∷◌, ◌++◌, length, take, replicate};
 ghost use Rattle.section_map.specs.declared.limits.TheConstants.{LARGEST_REGION};
 ghost use Rattle.split_ring.specs.declared.sizes.TheConstants.{FRAME_OVERHEAD, SHORTEST_FRAME};
-ghost use Rattle.split_ring.specs.Layout.{size_of, limit_of};
+ghost use Rattle.split_ring.specs.Layout.{size_of, limit_of, word_offset, AvailIndex};
 ghost use Rattle.call_grammar.specs.Ends.{End};
 ghost use Rattle.call_grammar.specs.Ticks.{EndConfig};
 ghost use Rattle.call_grammar.specs.Calls.{Offer};
@@ -14,9 +14,10 @@ ghost use Rattle.call_grammar.specs.Orders.{word_kind};
 ghost use Rattle.link_handshake.specs.declared.Phase.TheVariants.{Run};
 ghost use Rattle.tx_engine.specs.Sender.{IsSender, fresh_sender, renewed, is_open, writes_ahead, IsFrame, IsPlace, IsSenderAccess, entry_word_of};
 ghost use Rattle.tx_engine.specs.Ahead.{bursts_of, words_of, listed, last_words, WritesAll};
+ghost use Rattle.tx_engine.specs.Publishing.{Publishes};
 ghost use Rattle.tx_engine.specs.Refinement.{RefinesAt, rings, TakesStep, StaysOpen, IsMadeFor, IsFreshSession, IdleEngineOutlivesSteps};
 
-use crate::ahead::{Burst, Bursts};
+use crate::ahead::{Burst, Bursts, Publication};
 use crate::place::{
     Place, descriptor_place, frame_place, note_full, offer_after_ids, place_after_index,
 };
@@ -343,12 +344,7 @@ impl Tx {
         let Place::WritingFrameWord { slot, at, more } = self.place else {
             return None;
         };
-        let queue = &self.queue;
-        Some(Bursts {
-            frame: self.burst(slot.address / 4 + at, more + 1),
-            descriptor: self.burst(queue.descriptor(slot.descriptor), 4),
-            entry: self.burst(queue.entry_word(u32::from(self.accepted)), 1),
-        })
+        Some(self.bursts_from(slot, at, more))
     }
 
     /// Writes all words of `bursts` into `into`, four bytes each, the lowest byte first.
@@ -397,12 +393,41 @@ impl Tx {
         ensures { (values : List ℕ) → length values ≡ words_of (bursts_of self.old) → StepsThrough StaysOpen self.old values [] self.new }
     {
         match self.place {
-            Place::WritingFrameWord { slot, .. } => {
-                self.place = Place::WritingAvailEntry(slot);
-                self.write_avail_entry(slot);
-            }
+            Place::WritingFrameWord { slot, at, more } => self.wrote_before_index(slot, at, more),
             _ => unreachable!(),
         }
+    }
+
+    /// Completes all writes of `bursts` and the write of the available index, which the caller
+    /// makes now. Writes the words of the descriptor and of the available entry into `tail`, as
+    /// `tail_words` does. Equivalent to `took` for each of these steps.
+    ///
+    /// Returns `None` and changes nothing if the next access isn't the write of a word of the
+    /// frame.
+    // claim steps, sized, other, unchanged: All that an offer writes up to its index is completed
+    //    as by single steps, and these writes are the accesses of the steps. Exactly if no word of
+    //    the frame is next, nothing changes.
+    pub fn publish(&mut self, tail: &mut [u8]) -> Option<Publication>
+        requires { length tail.old ≡ 20 }
+        ensures steps { IfSome result (λ made. Publishes self.old tail.new made self.new) }
+        ensures sized { length tail.new ≡ length tail.old }
+        ensures other { result ≡ None → bursts_of self.old ≡ None }
+        ensures unchanged { result ≡ None → (self.new ≡ self.old) × (tail.new ≡ tail.old) }
+    {
+        let Place::WritingFrameWord { slot, at, more } = self.place else {
+            return None;
+        };
+        let bursts = self.bursts_from(slot, at, more);
+        self.tail_words(tail);
+        self.wrote_before_index(slot, at, more);
+        let index = self.own + self.queue.avail_word();
+        let accepted = self.next_index(index);
+        self.accept();
+        Some(Publication {
+            bursts,
+            index,
+            accepted,
+        })
     }
 
     /// Resets the sender for a new session: no offer is open, no frame is in flight, and the
@@ -496,7 +521,8 @@ impl Tx {
     /// Completes the write of the available entry, and stores its word in the own copy.
     fn write_avail_entry(&mut self, slot: Slot)
         requires { self.old.place ≡ Place.WritingAvailEntry slot }
-        ensures { (value : ℕ) → StaysOpen self.old value [] self.new }
+        ensures step { (value : ℕ) → StaysOpen self.old value [] self.new }
+        ensures place { self.new.place ≡ Place.WritingAvailIndex }
     {
         let at = (self.entry() / 2) as usize;
         self.entries[at] = self.entry_word(slot.descriptor);
@@ -509,9 +535,51 @@ impl Tx {
         requires empty { notes.old.items ≡ [] }
         ensures { (value : ℕ) → TakesStep self.old value notes.new.items self.new }
     {
+        self.accept();
+        notes.push(Note::Accept);
+    }
+
+    /// Accepts the frame: the state of the sender after the write of the available index.
+    fn accept(&mut self)
+        requires { self.old.place ≡ Place.WritingAvailIndex }
+        ensures { (value : ℕ) → StaysOpen self.old value (Note.Accept ∷ []) self.new }
+    {
         self.accepted = plus(self.accepted, 1);
         self.place = place_after_index(self.queue.has_events());
-        notes.push(Note::Accept);
+    }
+
+    /// Returns the bursts before the index, from word `at` of the frame on.
+    fn bursts_from(&self, slot: Slot, at: u32, more: u32) -> Bursts
+        requires { self.now.place ≡ Place.WritingFrameWord slot at more }
+        ensures { bursts_of self.now ≡ Some result }
+    {
+        let queue = &self.queue;
+        Bursts {
+            frame: self.burst(slot.address / 4 + at, more + 1),
+            descriptor: self.burst(queue.descriptor(slot.descriptor), 4),
+            entry: self.burst(queue.entry_word(u32::from(self.accepted)), 1),
+        }
+    }
+
+    /// Completes the writes before the index, from word `at` of the frame on.
+    fn wrote_before_index(&mut self, slot: Slot, at: u32, more: u32)
+        requires { self.old.place ≡ Place.WritingFrameWord slot at more }
+        ensures steps { (values : List ℕ) → length values ≡ more + 1 + 4 + 1 → StepsThrough StaysOpen self.old values [] self.new }
+        ensures place { self.new.place ≡ Place.WritingAvailIndex }
+    {
+        self.place = Place::WritingAvailEntry(slot);
+        self.write_avail_entry(slot);
+    }
+
+    /// Returns the available index that is written to the word `index`.
+    fn next_index(&self, index: u32) -> u32
+        requires place { self.now.place ≡ Place.WritingAvailIndex }
+        requires index { index ≡ self.now.own + word_offset self.now.sizes AvailIndex }
+        ensures index { (config : EndConfig) (end : End) (place : laws.Place) → RefinesAt self.now config end place → laws.access_at config place ≡ Access.Write index result }
+        ensures kind { (config : EndConfig) (end : End) (place : laws.Place) → RefinesAt self.now config end place → word_kind place ≡ WordKind.IndexWrite }
+        ensures plain { (config : EndConfig) (end : End) (place : laws.Place) → RefinesAt self.now config end place → rings place ≡ false }
+    {
+        of_halves(0, plus(self.accepted, 1))
     }
 
     /// Completes the read of the other's avail_event. The doorbell is next if avail_event wants one

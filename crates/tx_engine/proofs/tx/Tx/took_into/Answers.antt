@@ -36,7 +36,7 @@ returns-in-WritingDescFlags c =
     quiet _ _ _ _ _ (writes_flags _ _ c.args.value is here) c.go_on-in-WritingDescFlags.ensures c.requires.empty
 
 pub returns-in-WritingAvailEntry : goal.returns-in-WritingAvailEntry
-returns-in-WritingAvailEntry c = quiet _ _ _ _ _ (c.write_avail_entry.ensures c.args.value).takes refl c.requires.empty
+returns-in-WritingAvailEntry c = quiet _ _ _ _ _ (c.write_avail_entry.ensures.step c.args.value).takes refl c.requires.empty
 
 pub returns-in-WritingAvailIndex : goal.returns-in-WritingAvailIndex
 returns-in-WritingAvailIndex c = c.wrote_index.ensures c.args.value

@@ -16,3 +16,4 @@ pub mod FieldsAreReadOnce
 pub mod ItemWords
 pub mod ReplaysAreCalls
 pub mod WordsOfBytes
+pub mod BytesOfWords

@@ -28,9 +28,10 @@ open_more config place opened m = by_tree (remaining config place) _ _ (followin
     by_tree (Does access marks rest) step left g m = m
     by_tree (Reads word marks rest) step left g m = m
 
-closed_or_open : (place : Place) → (b : Bool) → is_open place ≡ b → (b ≡ false → place ≡ Closed)
-closed_or_open Closed b is f = refl
-closed_or_open place b is f = absurd (let e : true ≡ false = is ∙ f in cc)
+-- A place that isn't open is closed.
+pub shut_place : (place : Place) → is_open place ≡ false → place ≡ Closed
+shut_place Closed shut = refl
+shut_place _ shut = absurd (cc)
 
 call_lem : (config : EndConfig) (place : Place) (steps : List Step) → IsReplayed config place steps → Makes (remaining config place) steps
 call_lem config place [] p = subst (λ (x : Place). Makes (remaining config x) []) (sym p) refl
@@ -39,7 +40,7 @@ call_lem config place (step ∷ steps) p = makes_more (remaining config place) (
     (call_lem config (next_place config place step.value) steps p.2)
 
 -- A step without a read has one next place.
-given : (config : EndConfig) (place : Place) (v : ℕ) → (step_at config place (value_given (access_at config place) v) ≡ step_at config place v) × (next_place config place (value_given (access_at config place) v) ≡ next_place config place v)
+pub given : (config : EndConfig) (place : Place) (v : ℕ) → (step_at config place (value_given (access_at config place) v) ≡ step_at config place v) × (next_place config place (value_given (access_at config place) v) ≡ next_place config place v)
 given config Closed v = (refl, refl)
 given config place v = (refl, refl)
 
@@ -48,9 +49,9 @@ is_closed config place m = by_bool (is_open place) refl
   where
     by_bool : (b : Bool) → is_open place ≡ b → place ≡ Closed
     by_bool true e = absurd (open_more config place e m)
-    by_bool false e = closed_or_open place false e refl
+    by_bool false e = shut_place place e
 
-opened : (config : EndConfig) (place : Place) (step : Step) (left : CallTree) → Goes (remaining config place) step left → is_open place ≡ true
+pub opened : (config : EndConfig) (place : Place) (step : Step) (left : CallTree) → Goes (remaining config place) step left → is_open place ≡ true
 opened config Closed step left g = absurd g
 opened config place step left g = refl
 

@@ -8,6 +8,7 @@ ghost use Rattle.frame_slots.specs.Allocator.{initial_allocator, IsAllocator, Is
 ghost use Rattle.frame_slots.specs.Refinement.{IsOldest, AllocatorRefinesSession};
 
 use ivs_base::up64;
+use section_map::LARGEST_REGION;
 use split_ring::{Queue, queues_are_laid_out};
 use std::marker::Model;
 
@@ -78,7 +79,8 @@ impl Slots {
         requires least { SHORTEST_FRAME ≤ len }
         requires most { len ≤ self.old.sizes.mtu + FRAME_OVERHEAD }
         ensures taken { MatchOption result ((has_room_in self.old len ≡ false) × (self.new ≡ self.old))
-            (λ slot. (has_room_in self.old len ≡ true) × (slot ≡ next_slot self.old len) × (self.new ≡ with_placed self.old len)) }
+            (λ slot. (has_room_in self.old len ≡ true) × (slot ≡ next_slot self.old len) ×
+            (self.new ≡ with_placed self.old len)) }
         ensures known { IfSome result (λ slot. slot.descriptor < limit_of self.old.sizes) }
         ensures alone { IfSome result (λ slot. ¬ IsInFlight self.old slot.descriptor) }
         ensures room { IfSome result (λ slot. slot.address + len ≤ self.old.sizes.out) }
@@ -198,7 +200,7 @@ fn ring_bytes(queue: &Queue, len: u32) -> u32
     ensures value { result ≡ ring_bytes queue.now len }
     ensures fits { result ≤ data_area_len queue.now }
 {
-    prove!(queue.room() < 16_777_216);
+    prove!(queue.room() < LARGEST_REGION);
     if queue.is_byte_ring() {
         up64(u64::from(len)) as u32
     } else {

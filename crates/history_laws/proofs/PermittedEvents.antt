@@ -1,7 +1,7 @@
 -- Each event of a scenario is permitted to its peer. Calls and automatic ends belong to honest link
 -- peers, storms and accesses outside calls to the others.
-use Rattle.std.proofs.Common.{◌≡◌, ℕ, zero, suc, ◌+◌, ◌<◌, ◌≤◌, Bool, true, false, List, [], ◌∷◌, ◌++◌, refl, arith, replicate}
-use Rattle.std.specs.Prelude.{slice_get, slice_index, Some, nat_lt, nat_le, ◌&&◌, ◌==◌, not, if◌then◌else◌, length}
+use Rattle.std.proofs.Common.{◌≡◌, ℕ, zero, suc, ◌+◌, ◌<◌, Bool, true, false, List, [], ◌∷◌, ◌++◌, refl, arith, replicate}
+use Rattle.std.specs.Prelude.{slice_get, Some, nat_lt, ◌&&◌, ◌==◌, not, if◌then◌else◌, length}
 use Rattle.std.specs.List.{AllByRecursion}
 use Rattle.std.proofs.lemmas.Bool.Decides.{nat_tests}
 use Rattle.std.proofs.lemmas.List.Elements.{All-from_recursion}
@@ -14,6 +14,7 @@ use Rattle.scenario_text.specs.declared.acts.Act.TheVariants.{Tick, Offer, Poll,
 use Rattle.scenario_text.specs.Scenario.{World, IsWorld, is_link, is_its_peer, is_frame_size}
 use Rattle.scenario_text.specs.Table.{pieces_of}
 use Rattle.scenario_text.specs.ActRows.{row_of_act}
+use Rattle.scenario_text.proofs.ActNumbers.{bytes_recursion, frame_least, frame_most}
 use Rattle.link_invariant.specs.LinkConfig.{LinkConfig, IsLinkConfig, IsGivenTo}
 use Rattle.lawful_history.specs.Sides.{traffic_vector}
 use Rattle.lawful_history.specs.Schedule.{Event, CallQueued, AutoStarted, StormStarted, TurnTaken, RegionAccessed, DeviceReset, DeviceAccessed, InterruptDropped, InterruptRepeated, register_event, events_of, schedule}
@@ -48,16 +49,6 @@ not_link p peers flag is = grind (arith, nat_tests)
 turns_proper : (P : Event → Type 0) (p steps : ℕ) (others : List Event) → P (TurnTaken p) → AllByRecursion P others → AllByRecursion P (replicate steps (TurnTaken p) ++ others)
 turns_proper P p zero others here all = all
 turns_proper P p (suc steps) others here all = (here, turns_proper P p steps others here all)
-
-bytes_recursion : (bytes : List ℕ) → ((i : ℕ) → slice_index bytes i < 256) → AllByRecursion (λ byte. byte < 256) bytes
-bytes_recursion [] below = tt
-bytes_recursion (byte ∷ bytes) below = (below 0, bytes_recursion bytes (λ i. below (suc i)))
-
-frame_least : (size most : ℕ) → (nat_le 14 size && nat_le size most) ≡ true → 14 ≤ size
-frame_least size most is = grind (arith, nat_tests)
-
-frame_most : (size most : ℕ) → (nat_le 14 size && nat_le size most) ≡ true → size ≤ most
-frame_most size most is = grind (arith, nat_tests)
 
 state_proper : (p peers : ℕ) (at flag : Bool) → at ≡ true → (if at then nat_lt p peers && not flag else nat_lt p peers) ≡ true → (nat_lt p 2 && flag) ≡ false
 state_proper p peers true flag here is = not_link p peers flag is

@@ -2,11 +2,11 @@
 use Rattle.std.proofs.Common.{◌≡◌, ◌≢◌, ℕ, ◌<◌, Bool, true, false, List, [], ◌∷◌, ◌++◌, length, refl, sym, ◌∙◌, ap, subst, arith, inl, inr, ◌⊎◌}
 use mathlib.Core.Logic.{dite}
 use native.Mathlib.Decide.{ℕ_discrete}
-use Rattle.std.specs.Prelude.{◌==◌, ◌&&◌, nat_lt, reverse}
+use Rattle.std.specs.Prelude.{◌==◌, nat_lt, reverse}
 use Rattle.std.specs.List.{AllByRecursion}
-use Rattle.std.proofs.lemmas.Bool.Decides.{nat_tests}
 use Rattle.std.proofs.lemmas.List.{reverse-reverse}
 use Rattle.scenario_text.specs.Scenario.{World, IsWorld, is_link}
+use Rattle.scenario_text.proofs.ActNumbers.{link_below}
 use Rattle.call_grammar.specs.Ends.{End, after_reset}
 use Rattle.call_grammar.specs.Places.{Place, Closed, remaining}
 use Rattle.link_machine.specs.LinkMachine.{initial_side}
@@ -50,9 +50,6 @@ pub record Ran (world : World) (moment : HistoryState) : Type 0 where
   pub refines : Stands world moment.past (ends_of moment) places
   pub left : (p : ℕ) → p < 2 → is_link world p ≡ true → remaining (pair.config_of (link_config_of world) p) (places p) ≡ (peer_at moment p).left
   pub suits : (p : ℕ) → Suits world (is_link world p) (peer_at moment p)
-
-link_below : (p : ℕ) (flag : Bool) → (nat_lt p 2 && flag) ≡ true → p < 2
-link_below p flag is = grind (arith, nat_tests)
 
 pub two_links : (world : World) (p : ℕ) → is_link world p ≡ true → p < 2
 two_links world p is = link_below p _ is

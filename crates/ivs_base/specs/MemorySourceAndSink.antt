@@ -1,5 +1,5 @@
 -- Sources and sinks in memory, which fail at listed calls (profile).
-use Rattle.std.specs.Prelude.{ℕ, ◌-◌, ◌==◌, Bool, true, false, if◌then◌else◌, List, ◌++◌, Some, length, drop, min}
+use Rattle.std.specs.Prelude.{ℕ, ◌-◌, ◌==◌, Bool, true, false, if◌then◌else◌, List, [], ◌++◌, Some, length, drop, min}
 use Rattle.ivs_base.specs.SourceAndSink.{Input, Output, counted}
 
 -- A source: the bytes left, the greatest number of bytes of a call, and the numbers of the calls
@@ -25,7 +25,15 @@ pub record MemoryOutput : Type 0 where
   pub faults : ℕ
   pub failed : Bool
 
--- The view of a source in memory: its bytes are known. It has ended if none is left, and it never
+-- The source before its first call.
+abbrev pub source_at_start : (bytes : List ℕ) (piece : ℕ) (fails : List ℕ) → MemoryInput
+source_at_start bytes piece fails = record { left = bytes; piece = piece; fails = fails; calls = 0; faults = 0; failed = false }
+
+-- The empty sink before its first call.
+abbrev pub sink_at_start : (room piece : ℕ) (fails : List ℕ) → MemoryOutput
+sink_at_start room piece fails = record { written = []; room = room; piece = piece; fails = fails; calls = 0; faults = 0; failed = false }
+
+-- The view of a source in memory: its bytes are known, it has ended if none is left, and it never
 -- fails if no call is listed.
 abbrev pub input_of : MemoryInput → Input
 input_of source = record {

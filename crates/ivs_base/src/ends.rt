@@ -121,7 +121,8 @@ pub fn read_all<S: Source>(alloc: Global, source: &mut S, limit: u64) -> Result<
     ensures last { IsErrOf result ReadEnd.ReadFault → LastReadFailed (S.input source.old) (S.input source.new) }
     ensures front { IsErrOf result ReadEnd.ReadFault → GaveAtMost (S.input source.old) limit (S.input source.new) }
     ensures sound { IsTrue (S.input source.old).never_fails → result ≢ Err ReadEnd.ReadFault }
-    ensures no_memory { IsErrOf result ReadEnd.NoMemory → GaveAtMost (S.input source.old) (limit + 1) (S.input source.new) }
+    ensures no_memory { IsErrOf result ReadEnd.NoMemory →
+        GaveAtMost (S.input source.old) (limit + 1) (S.input source.new) }
     ensures quiet { result ≢ Err ReadEnd.ReadFault → (S.input source.new).faults ≡ (S.input source.old).faults }
     ensures later { (S.input source.old).faults ≤ (S.input source.new).faults }
 {

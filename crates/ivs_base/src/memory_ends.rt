@@ -1,8 +1,8 @@
 //! A source and a sink in memory, which fail at listed calls. Their contracts determine each call,
 //! so that a test can follow the effect of a fault on its caller.
-ghost use Rattle.std.specs.Prelude.{◌≡◌, ◌<◌, ◌≤◌, ◌+◌, ◌↔◌, ◌⊎◌, [], false, IfOk, IsOk, IsTrue, OnOk, OnErr, IsErr, Contains, length, take};
+ghost use Rattle.std.specs.Prelude.{◌≡◌, ◌<◌, ◌≤◌, ◌+◌, ◌↔◌, ◌⊎◌, [], IfOk, IsOk, IsTrue, OnOk, OnErr, IsErr, Contains, length, take};
 ghost use Rattle.ivs_base.specs.SourceAndSink.{counted, Gave, HasEnded, Took, SourceFailed, SinkFailed, LastReadFailed, LastWriteFailed};
-ghost use Rattle.ivs_base.specs.MemorySourceAndSink.{input_of, given_count, source_after, source_failed, output_of, taken_count, sink_after, sink_failed};
+ghost use Rattle.ivs_base.specs.MemorySourceAndSink.{source_at_start, sink_at_start, input_of, given_count, source_after, source_failed, output_of, taken_count, sink_after, sink_failed};
 
 use super::ends::{Failed, Sink, Source};
 use super::frames::NoMemory;
@@ -47,7 +47,7 @@ impl MemorySource {
         fails: &[u64],
     ) -> Result<MemorySource, NoMemory>
         requires { 0 < piece }
-        ensures { IfOk result (λ s. s ≡ record { left = bytes.now; piece = piece; fails = fails.now; calls = 0; faults = 0; failed = false }) }
+        ensures { IfOk result (λ s. s ≡ source_at_start bytes.now piece fails.now) }
     {
         let bytes = bytes.to_vec(alloc)?;
         let fails = fails.to_vec(alloc)?;
@@ -148,7 +148,7 @@ impl MemorySink {
         fails: &[u64],
     ) -> Result<MemorySink, NoMemory>
         requires { 0 < piece }
-        ensures { IfOk result (λ s. s ≡ record { written = []; room = room; piece = piece; fails = fails.now; calls = 0; faults = 0; failed = false }) }
+        ensures { IfOk result (λ s. s ≡ sink_at_start room piece fails.now) }
     {
         let bytes = Vec::with_capacity(alloc, room)?;
         let fails = fails.to_vec(alloc)?;

@@ -29,7 +29,8 @@ impl<R: Read> Model for InputSource<R> {
 impl<R: Read> InputSource<R> {
     /// Returns a source over a reader, with no faults. Its bytes left are the reader's.
     pub fn new(reader: R) -> Self
-        ensures { result ≡ record { left = R.remaining reader; ended = false; failed = false; faults = 0; never_fails = false } }
+        ensures { result ≡
+            record { left = R.remaining reader; ended = false; failed = false; faults = 0; never_fails = false } }
     {
         InputSource {
             reader,

@@ -1,21 +1,14 @@
 -- The content of a scenario's world, and a link peer and the other link peer in it.
-use Rattle.std.specs.Prelude.{ℕ, ◌==◌, nat_le, if◌then◌else◌}
+use Rattle.std.specs.Prelude.{ℕ, ◌==◌, if◌then◌else◌}
 use Rattle.section_map.specs.Geometry.{section_start}
-use Rattle.pci_space.specs.declared.wiring.Wiring.{Wiring}
-use Rattle.pci_space.specs.declared.wiring.Wiring.TheVariants.{Msix, Intx}
 use Rattle.scenario_text.specs.Scenario.{World}
 use Rattle.call_grammar.specs.Calls.{EndConfig}
+pub use Rattle.scenario_text.specs.Scenario.{traffic_vector}
 pub use Rattle.scenario_text.specs.Spelling.{world_of}
 
 -- Peers 0 and 1 are the two ends of the link (profile).
 abbrev pub partner : ℕ → ℕ
 partner peer = if peer == 0 then 1 else 0
-
--- The vector of the doorbells of offers and polls: 1 if MSI-X has at least two vectors, else 0
--- (profile).
-abbrev pub traffic_vector : Wiring → ℕ
-traffic_vector (Msix vectors) = if nat_le 2 vectors then 1 else 0
-traffic_vector Intx = 0
 
 -- The configuration of a peer of the scenario.
 abbrev pub config_of : World → ℕ → EndConfig

@@ -1,18 +1,10 @@
 -- The bytes of a frame whose words are in a slot.
 use Rattle.std.proofs.Common.{◌≡◌, ℕ, suc, ◌+◌, ◌*◌, ◌/◌, ◌%◌, ◌^◌, ◌<◌, List, [], ◌∷◌, length, take, drop, refl, ap, ◌∙◌, arith, All}
-use Rattle.std.proofs.lemmas.List.Elements.{All-head, All-tail}
 use Rattle.ivs_base.specs.Numbers.{word_of}
 use Rattle.split_ring.specs.Spelling.{byte_at, bytes_from}
 use Rattle.call_grammar.specs.Words.{words_for, frame_word}
-
-abbrev IsByte : ℕ → Type 0
-IsByte byte = byte < 256
-
-byte_head : (x : ℕ) (xs : List ℕ) → All IsByte (x ∷ xs) → IsByte x
-byte_head x xs all = All-head IsByte x xs all
-
-byte_tail : (x : ℕ) (xs : List ℕ) → All IsByte (x ∷ xs) → All IsByte xs
-byte_tail x xs all = All-tail IsByte x xs all
+use Rattle.call_grammar.proofs.BytesOfWords.{IsByte}
+use Rattle.link_invariant.proofs.Frames.{byte_head, byte_tail}
 
 -- A byte of a word, at an offset by words and bytes.
 byte_of : (words : ℕ → ℕ) (place at rest : ℕ) → place ≡ 4 * at + rest → rest < 4 → byte_at words place ≡ words at / 256 ^ rest % 256

@@ -4,6 +4,7 @@ use Rattle.std.specs.Prelude.{flat_map}
 use Rattle.std.proofs.lemmas.List.Elements.{All-head, All-tail}
 use Rattle.ivs_base.specs.Numbers.{word_of}
 use Rattle.call_grammar.specs.Words.{word_bytes, words_for, frame_word}
+use Rattle.call_grammar.proofs.BytesOfWords.{IsByte, byte_0, byte_1, byte_2, byte_3}
 use Rattle.link_invariant.specs.LinkConfig.{first_words}
 use Rattle.link_invariant.specs.Frames.{FramesComeWhole}
 
@@ -14,27 +15,11 @@ first_split a b c d rest (suc count) = let g = a ∷ (b ∷ (c ∷ (d ∷ rest))
     let next : frame_word g (suc count) ≡ frame_word rest count = ap (λ k. word_of (take 4 (drop k g))) (let e : 4 * suc count ≡ suc (suc (suc (suc (4 * count)))) = omega arith in e) in
     ap (λ (l : List ℕ). l ++ frame_word g (suc count) ∷ []) (first_split a b c d rest count) ∙ ap (λ w. word_of (a ∷ (b ∷ (c ∷ (d ∷ [])))) ∷ (first_words rest count ++ w ∷ [])) next
 
-abbrev IsByte : ℕ → Type 0
-IsByte byte = byte < 256
-
-byte_head : (x : ℕ) (xs : List ℕ) → All IsByte (x ∷ xs) → IsByte x
+pub byte_head : (x : ℕ) (xs : List ℕ) → All IsByte (x ∷ xs) → IsByte x
 byte_head x xs all = All-head IsByte x xs all
 
-byte_tail : (x : ℕ) (xs : List ℕ) → All IsByte (x ∷ xs) → All IsByte xs
+pub byte_tail : (x : ℕ) (xs : List ℕ) → All IsByte (x ∷ xs) → All IsByte xs
 byte_tail x xs all = All-tail IsByte x xs all
-
--- The four bytes of a word of four bytes.
-byte_0 : (a b c d : ℕ) → IsByte a → (a + 256 * (b + 256 * (c + 256 * (d + 256 * 0)))) % 256 ≡ a
-byte_0 a b c d x = omega arith
-
-byte_1 : (a b c d : ℕ) → IsByte a → IsByte b → (a + 256 * (b + 256 * (c + 256 * (d + 256 * 0)))) / 256 % 256 ≡ b
-byte_1 a b c d x y = omega arith
-
-byte_2 : (a b c d : ℕ) → IsByte a → IsByte b → IsByte c → (a + 256 * (b + 256 * (c + 256 * (d + 256 * 0)))) / 65536 % 256 ≡ c
-byte_2 a b c d x y z = omega arith
-
-byte_3 : (a b c d : ℕ) → IsByte a → IsByte b → IsByte c → IsByte d → (a + 256 * (b + 256 * (c + 256 * (d + 256 * 0)))) / 16777216 % 256 ≡ d
-byte_3 a b c d x y z w = omega arith
 
 -- The bytes of a shorter word.
 short_1 : (a b : ℕ) → IsByte a → IsByte b → (a + 256 * (b + 256 * 0)) / 256 % 256 ≡ b

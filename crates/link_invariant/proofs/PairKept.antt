@@ -154,7 +154,8 @@ either : (link_config : LinkConfig) (memory : ℕ → ℕ) (p : ℕ) (end u : En
 either link_config memory p end u w true x h g = h
 either link_config memory p end u w false x h g = g
 
-first_leads : (link_config : LinkConfig) (memory : ℕ → ℕ) (p : ℕ) (end u : End) (w : Place) (call : Call) → Before link_config memory p end Closed u w → Leads link_config memory p u w end (first_place (config_of link_config p) end call)
+-- The first place of a call leads on from the place before it.
+pub first_leads : (link_config : LinkConfig) (memory : ℕ → ℕ) (p : ℕ) (end u : End) (w : Place) (call : Call) → Before link_config memory p end Closed u w → Leads link_config memory p u w end (first_place (config_of link_config p) end call)
 first_leads link_config memory p end u w Tick b = enters link_config memory p end u w (ReadingOtherState end.handshake) (λ e. cc) (λ e. cc) (λ e. cc) refl (λ f fs. tt) b
 first_leads link_config memory p end u w Stop b = enters link_config memory p end u w (WritingState 0) (λ e. cc) (set_apart refl (λ e. omega arith)) (set_apart refl (λ e. omega arith)) refl (λ f fs. tt) b
 first_leads link_config memory p end u w (Offer frame) b = either link_config memory p end u w (in_run end.handshake.phase) (ReadingUsedIndex (pending_of (config_of link_config p) end frame) end.freed) (enters link_config memory p end u w _ (λ e. cc) (λ e. cc) (λ e. cc) refl (λ f fs. tt) b) (enters link_config memory p end u w NotInRun (λ e. cc) (λ e. cc) (λ e. cc) refl (λ f fs. tt) b)

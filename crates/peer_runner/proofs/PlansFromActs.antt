@@ -1,9 +1,8 @@
 -- A peer by the acts of a scenario in running form.
-use Rattle.std.proofs.Common.{◌≡◌, ℕ, zero, suc, ◌+◌, ◌<◌, ◌≤◌, nat_le, nat_lt, Bool, true, false, ◌&&◌, ◌||◌, All, List, [], ◌∷◌, ◌++◌, length, take, drop, refl, sym, ap, ◌∙◌, subst, arith, append-nil, append_assoc, ⊎_elim, ◌⊎◌, inl, inr, get_or}
-use Rattle.std.specs.Prelude.{Option, Some, None, ◌==◌, ◌^◌, not, if◌then◌else◌, slice_get, slice_index, slice_index_or, sum}
-use Rattle.std.specs.List.{list_any, AllByRecursion}
+use Rattle.std.proofs.Common.{◌≡◌, ℕ, zero, suc, ◌+◌, ◌<◌, ◌≤◌, nat_lt, Bool, true, false, ◌&&◌, ◌||◌, All, List, [], ◌∷◌, ◌++◌, length, take, drop, refl, sym, ap, ◌∙◌, subst, arith, append-nil, append_assoc, ⊎_elim, ◌⊎◌, inl, inr, get_or}
+use Rattle.std.specs.Prelude.{Option, Some, None, ◌==◌, ◌^◌, not, if◌then◌else◌, slice_get, slice_index_or, sum}
+use Rattle.std.specs.List.{list_any}
 use Rattle.std.proofs.lemmas.Bool.{eqb-true}
-use Rattle.std.proofs.lemmas.Bool.Decides.{nat_tests}
 use Rattle.std.proofs.lemmas.List.{take_more}
 use Rattle.std.proofs.lemmas.Option.{slice_get_read}
 use Rattle.std.proofs.lemmas.List.Folds.{list_any-append}
@@ -15,6 +14,7 @@ use Rattle.scenario_text.specs.declared.acts.Act.TheVariants as act
 use Rattle.scenario_text.specs.Acts.{cost, turns_of, is_auto, is_storm, has_auto, has_storm}
 use Rattle.scenario_text.specs.Running.{is_turn_of, is_reset_of, has_turn, has_other, is_reset_last, is_turn_last, breaks, first_break, first_line, not_running}
 use Rattle.scenario_text.specs.Scenario.{World, IsAllowed, IsWorld, is_link, is_hostile}
+use Rattle.scenario_text.proofs.ActNumbers.{bytes_recursion, frame_least, frame_most, link_below}
 use Rattle.section_map.specs.Geometry.{Shape}
 use Rattle.split_ring.specs.Layout.{Sizes}
 use Rattle.call_grammar.specs.Ends.{fresh}
@@ -158,16 +158,6 @@ plan_given mtu p q frame before plan is auto fits g =
       fresh = ap (λ (x : Plan). record x { frames = next.frames }) g.fresh;
       frames = All-append (IsFrame mtu) plan.frames (frame ∷ []) g.frames (All-from_recursion (IsFrame mtu) (frame ∷ []) (fits, tt));
     })
-
-bytes_recursion : (bytes : List ℕ) → ((i : ℕ) → slice_index bytes i < 256) → AllByRecursion (λ byte. byte < 256) bytes
-bytes_recursion [] below = tt
-bytes_recursion (byte ∷ bytes) below = (below 0, bytes_recursion bytes (λ i. below (suc i)))
-
-frame_least : (size most : ℕ) → (nat_le 14 size && nat_le size most) ≡ true → 14 ≤ size
-frame_least size most is = grind (arith, nat_tests)
-
-frame_most : (size most : ℕ) → (nat_le 14 size && nat_le size most) ≡ true → size ≤ most
-frame_most size most is = grind (arith, nat_tests)
 
 offer_fits : (w : World) (before : List Act) (q : ℕ) (frame : List ℕ) → IsAllowed w before (act.Offer q frame) → IsFrame w.queue.mtu frame
 offer_fits w before q frame is = (frame_least (length frame) (w.queue.mtu + 18) is.frame, frame_most (length frame) (w.queue.mtu + 18) is.frame, All-from_recursion (λ (byte : ℕ). byte < 256) frame (bytes_recursion frame is.bytes))
@@ -417,9 +407,6 @@ or_left false false is none = absurd (cc)
 or_right : (a b : Bool) → (a || b) ≡ true → a ≡ false → b ≡ true
 or_right true b is none = absurd (cc)
 or_right false b is none = is
-
-link_below : (p : ℕ) (flag : Bool) → (nat_lt p 2 && flag) ≡ true → p < 2
-link_below p flag is = grind (arith, nat_tests)
 
 made_config : (w : World) (key : RunSetup) (p vector : ℕ) → IsMadeFor w key → vector ≡ traffic_vector w.wiring → endpoint.config_of w.geometry w.queue p vector ≡ config_in key p
 made_config w key p vector made is = let v : vector ≡ traffic_vector key.wiring = is ∙ ap traffic_vector (sym made.wiring) in λ i. endpoint.config_of (sym made.geometry i) (sym made.queue i) p (v i)

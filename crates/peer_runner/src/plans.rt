@@ -1,6 +1,5 @@
 //! The plans of the peers of a scenario in running form.
 ghost use Rattle.std.specs.Prelude.{◌≡◌, ◌<◌, ◌++◌, true, false, None, IfOk, OnOk};
-ghost use Rattle.lawful_history.specs.Sides.{traffic_vector};
 ghost use Rattle.scenario_text.specs.Running.{has_turn, not_running};
 ghost use Rattle.scenario_text.specs.Scenario.{is_link};
 ghost use Rattle.scenario_text.specs.Spelling.{world_of};
@@ -11,27 +10,9 @@ use crate::driving::{Driver, PeerPlan};
 use crate::spans::Spans;
 use ivs_base::{Frame, NoMemory};
 use link_endpoint::{Auto, Endpoint};
-use pci_space::Wiring;
 use scenario_text::{Act, Scenario};
 use shared_words::routes_of;
 use std::alloc::Global;
-
-/// The vector of the doorbells of offers and polls.
-fn traffic_vector(wiring: Wiring) -> u32
-    ensures { result ≡ traffic_vector wiring }
-{
-    match wiring {
-        Wiring::Msix(vectors) if vectors >= 2 => 1,
-        _ => 0,
-    }
-}
-
-/// Whether this is an honest peer of the link.
-fn is_link(scenario: &Scenario, me: u32) -> bool
-    ensures { result ≡ is_link (world_of scenario.now) me }
-{
-    me < 2 && scenario.honest.items()[me as usize]
-}
 
 /// Appends the span of an act, if the act is a turn line of the peer.
 fn add_span(spans: &mut Spans, act: &Act, me: u32) -> Result<(), NoMemory>
@@ -111,14 +92,14 @@ fn driver_for(alloc: Global, scenario: &Scenario, me: u32) -> Result<Driver, NoM
     requires turns { has_turn scenario.now.acts me ≡ true }
     ensures { IfOk result (IsDriver (world_of scenario.now) me) }
 {
-    if !is_link(scenario, me) {
+    if !scenario.is_link(me) {
         return Ok(Driver::Storm {
             seed: seed_for(scenario, me),
             geometry: scenario.geometry,
             queue: scenario.queue,
         });
     }
-    let vector = traffic_vector(scenario.wiring);
+    let vector = scenario.traffic_vector();
     let auto = auto_for(alloc, scenario, me)?;
     let end = Endpoint::new(alloc, me, &scenario.geometry, &scenario.queue, vector)?;
     Ok(Driver::Auto(auto, end))

@@ -3,7 +3,7 @@
 use crate::arrows::Arrow;
 use crate::labels::{Folded, folded_of, grouped, label_of, state_name};
 use crate::lines::{line_at, peer_of};
-use crate::pictures::{Picture, is_link};
+use crate::pictures::Picture;
 use crate::places::{COLUMN, GUTTER, LABEL, NUMBER, ROW, TOP, column_x, row_y};
 use crate::rows::Row;
 use crate::sheets::Sheet;
@@ -351,7 +351,7 @@ pub fn draw(
     put_heads(alloc, &mut sheet, &trace.scenario)?;
     for peer in 0..peers.min(8) {
         put_bands(&mut sheet, lines, first, rows, peer)?;
-        if is_link(&trace.scenario, peer) {
+        if trace.scenario.is_link(peer) {
             put_calls(&mut sheet, lines, rows, peer)?;
         }
     }

@@ -55,22 +55,9 @@ fn frame_text(alloc: Global, verb: &str, frame: &Frame) -> Result<String, AllocE
     format!(in alloc; "{verb} {size} bytes {first}{more}")
 }
 
-/// Returns the name of a refusal's field, as in a record.
-fn field_text(field: FieldName) -> &'static str {
-    match field {
-        FieldName::AvailIndex => "AvailIndex",
-        FieldName::AvailEntry => "AvailEntry",
-        FieldName::DescAddress => "DescAddress",
-        FieldName::DescLength => "DescLength",
-        FieldName::DescFlags => "DescFlags",
-        FieldName::UsedIndex => "UsedIndex",
-        FieldName::UsedId => "UsedId",
-    }
-}
-
 /// Returns a field and the value that was refused.
 fn refusal_text(alloc: Global, refused: &Refused) -> Result<String, AllocError> {
-    let field = field_text(refused.field);
+    let field = refused.field.name();
     let value = refused.value;
     format!(in alloc; "refuses {field} {value}")
 }

@@ -1,7 +1,6 @@
 //! The content of a picture.
-ghost use Rattle.std.specs.Prelude.{◌≡◌, ℕ, ◌+◌, ◌-◌, ◌<◌, ◌≤◌, ◌^◌, ◌++◌, IfOk, IfSome, OnOk, length};
+ghost use Rattle.std.specs.Prelude.{◌≡◌, ◌+◌, ◌<◌, ◌≤◌, ◌^◌, IfOk, IfSome, length};
 ghost use Rattle.scenario_text.specs.Spelling.{world_of};
-ghost use Rattle.scenario_text.specs.Scenario.{is_link};
 ghost use Rattle.record_chart.specs.Rows.{lines_between};
 ghost use Rattle.record_chart.specs.Pictures.{pair_arrows, IsPicture, IsPictureOfFront};
 
@@ -38,19 +37,6 @@ fn lines_between(lines: &[Line], first: u64, last: u64) -> &[Line]
     &front[start..]
 }
 
-/// Whether the peer is an honest link peer.
-pub fn is_link(scenario: &Scenario, peer: u32) -> bool
-    ensures { result ≡ is_link (world_of scenario.now) peer }
-{
-    peer < 2
-        && scenario
-            .honest
-            .items()
-            .get(peer as usize)
-            .copied()
-            .unwrap_or(false)
-}
-
 /// Returns the arrows to the deliveries of an honest pair, from line number `first` on. The lines
 /// are a prefix of a history.
 fn pair_arrows(
@@ -61,7 +47,7 @@ fn pair_arrows(
 ) -> Result<Vec<Arrow>, NoMemory>
     ensures { IfOk result (λ arrows. arrows.items ≡ pair_arrows (world_of scenario.now) first lines.now) }
 {
-    if !(is_link(scenario, 0) && is_link(scenario, 1)) {
+    if !(scenario.is_link(0) && scenario.is_link(1)) {
         return Ok(Vec::new(alloc));
     }
     let mut arrows = arrows_of(alloc, 0, first, lines)?;

@@ -5,7 +5,7 @@ use crate::arrows::Arrow;
 use crate::labels::{grouped, label_of, state_name};
 use crate::lines::{line_at, peer_of};
 use crate::pages::Page;
-use crate::pictures::{Picture, is_link};
+use crate::pictures::Picture;
 use crate::rows::Row;
 use crate::titles::{has_line, shown_by, title_of};
 use crate::tracks::{call_of, ends_call, state_after};
@@ -131,7 +131,7 @@ fn put_rows(
         };
         let peer = peer_of(line) as usize;
         let mut sign = " ";
-        if peer < PEERS && is_link(&trace.scenario, peer as u32) {
+        if peer < PEERS && trace.scenario.is_link(peer as u32) {
             let (its, is_open) = call_sign(open[peer], line);
             sign = its;
             open[peer] = is_open;

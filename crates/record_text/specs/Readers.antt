@@ -18,6 +18,11 @@ pub record IsReading (bytes : List ℕ) (version : ℕ) (world : World) (lines :
   pub comes : read_pieces machine (InHistory version world lines) reader.number (cuts 10 reader.rest.now) ≡ reading bytes
   pub count : reader.count ≡ length lines
 
+-- This holds for each text, version, scenario and lines that the reader may have read so far.
+abbrev pub InEachReading : Reader → (List ℕ → ℕ → World → List Line → Type 0) → Type 0
+InEachReading reader holds =
+    (bytes : List ℕ) (version : ℕ) (world : World) (lines : List Line) → IsReading bytes version world lines reader → holds bytes version world lines
+
 -- The next line was read, or the text is the record of the lines read. Otherwise the error is the
 -- text's first fault, unless memory ran out.
 abbrev pub ReadsOn : (bytes : List ℕ) (version : ℕ) (world : World) (lines : List Line) → Result (Option Line) RecordFault → Reader → Type 0

@@ -1,6 +1,6 @@
 //! Writing a record's text.
-ghost use Rattle.std.specs.Prelude.{◌≡◌, ℕ, [], ◌∷◌, ◌++◌, ◌<◌, ◌^◌, OnOk, IfOk, Ok, map, length, slice_index};
-ghost use Rattle.line_format.specs.Rows.{row, line_of_row, text_of};
+ghost use Rattle.std.specs.Prelude.{◌≡◌, ℕ, [], ◌++◌, ◌<◌, ◌^◌, OnOk, IfOk, Ok, length, slice_index};
+ghost use Rattle.line_format.specs.Rows.{row, line_of_row};
 ghost use Rattle.record_text.specs.Table.{pieces_of};
 ghost use Rattle.record_text.specs.LineRows.{row_of_line};
 ghost use Rattle.record_text.specs.Spelling.{Fits, AllFit, record_of, spelling};
@@ -14,7 +14,7 @@ use ivs_base::{Frame, NoMemory};
 use lawful_history::Line;
 use line_format::{put_four, put_line, put_named, put_one, put_three, put_two, put_with_bytes};
 use scenario_text::put_scenario;
-use split_ring::{FieldName, Refused};
+use split_ring::Refused;
 use std::alloc::{AllocError, Global};
 
 /// Appends the line of a form without a frame.
@@ -26,19 +26,12 @@ fn put(out: &mut Vec<u8>, form: LineForm, numbers: &[u64]) -> Result<(), AllocEr
 }
 
 /// Appends the line of a refusal.
-#[tactic(auto, unfolding(line_format::specs::Rows::line_of_row))]
 fn put_refusal(out: &mut Vec<u8>, peer: u32, refused: &Refused) -> Result<(), AllocError>
-    ensures { OnOk result (out.new.items ≡ out.old.items ++ line_of_row pieces_of (row_of_line (Line.Refuse peer refused.now))) }
+    ensures { OnOk result (out.new.items ≡
+        out.old.items ++ line_of_row pieces_of (row_of_line (Line.Refuse peer refused.now))) }
 {
-    match refused.field {
-        FieldName::AvailIndex => put_named(out, b"refuse", peer, b"AvailIndex", refused.value),
-        FieldName::AvailEntry => put_named(out, b"refuse", peer, b"AvailEntry", refused.value),
-        FieldName::DescAddress => put_named(out, b"refuse", peer, b"DescAddress", refused.value),
-        FieldName::DescLength => put_named(out, b"refuse", peer, b"DescLength", refused.value),
-        FieldName::DescFlags => put_named(out, b"refuse", peer, b"DescFlags", refused.value),
-        FieldName::UsedIndex => put_named(out, b"refuse", peer, b"UsedIndex", refused.value),
-        FieldName::UsedId => put_named(out, b"refuse", peer, b"UsedId", refused.value),
-    }
+    let name = refused.field.name().as_bytes();
+    put_named(out, b"refuse", peer, name, refused.value)
 }
 
 /// The bytes of the frame.

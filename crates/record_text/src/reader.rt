@@ -43,14 +43,12 @@ fn after_part<'a>(part: &[u8], bytes: &'a [u8]) -> Option<&'a [u8]>
 
 impl<'a> Reader<'a> {
     ghost use Rattle.std.specs.Prelude.{◌≡◌, ◌↔◌, ◌++◌, [], ℕ, List, IfOk, IfErr, true};
-    ghost use Rattle.scenario_text.specs.Scenario.{World};
     ghost use Rattle.scenario_text.specs.Spelling.{world_of};
-    ghost use Rattle.lawful_history.specs.declared.line.Line.{Line as HistoryLine};
     ghost use Rattle.lawful_history.specs.Frames.{HaveFrames};
     ghost use Rattle.lawful_history.specs.Versions.{is_version};
     ghost use Rattle.record_text.specs.Judge.{answer};
     ghost use Rattle.record_text.specs.Answers.{Refuses};
-    ghost use Rattle.record_text.specs.Readers.{IsReading, BeginWith, ReadsOn, GoesPast};
+    ghost use Rattle.record_text.specs.Readers.{IsReading, BeginWith, InEachReading, ReadsOn, GoesPast};
 
     /// Reads the record's version and its scenario, up to the history. Returns the text's first
     /// fault if it is before the history, and `NoMemory` if memory ran out.
@@ -91,8 +89,10 @@ impl<'a> Reader<'a> {
     //    reader returns the lines of a record one at a time, and keeps none. After them the text is
     //    the record of these lines, or has the fault that `parse` names.
     pub fn next(&mut self, alloc: Global) -> Result<Option<Line>, RecordFault>
-        ensures shorter { IfOk result (λ found. IfSome found (λ _. length self.new.rest.now < length self.old.rest.now)) }
-        ensures reads { (bytes : List ℕ) (version : ℕ) (world : World) (lines : List HistoryLine) → IsReading bytes version world lines self.old → ReadsOn bytes version world lines result self.new }
+        ensures shorter { IfOk result
+            (λ found. IfSome found (λ _. length self.new.rest.now < length self.old.rest.now)) }
+        ensures reads { InEachReading self.old
+            (λ bytes version world lines. ReadsOn bytes version world lines result self.new) }
     {
         let Some((line, more)) = cut(b'\n', self.rest) else {
             return Err(RecordFault::NoEnd);
@@ -127,8 +127,10 @@ impl<'a> Reader<'a> {
     pub fn pass(&mut self, lines: &[Line]) -> Result<bool, NoMemory>
         requires { HaveFrames lines.now }
         ensures exact { IfOk result (λ is. (is ≡ true) ↔ BeginWith self.old.rest.now lines.now) }
-        ensures shorter { IfOk result (λ is. is ≡ true → length self.new.rest.now + length lines.now ≤ length self.old.rest.now) }
-        ensures past { (bytes : List ℕ) (version : ℕ) (world : World) (before : List HistoryLine) → IsReading bytes version world before self.old → IfOk result (λ is. GoesPast bytes version world before lines.now is self.new) }
+        ensures shorter { IfOk result (λ is. is ≡ true →
+            length self.new.rest.now + length lines.now ≤ length self.old.rest.now) }
+        ensures past { InEachReading self.old (λ bytes version world before.
+            IfOk result (λ is. GoesPast bytes version world before lines.now is self.new)) }
     {
         self.part.clear();
         put_lines(&mut self.part, lines)?;

@@ -34,7 +34,8 @@ impl RecordDraft {
     pub fn finish(self) -> Trace
         requires ended { self.position ≡ Ended }
         requires world { IsWorld (world_of_draft (draft_view self.head)) }
-        ensures { record_of result ≡ record { version = self.version; world = world_of_draft (draft_view self.head); lines = self.lines } }
+        ensures { record_of result ≡
+            record { version = self.version; world = world_of_draft (draft_view self.head); lines = self.lines } }
     {
         let RecordDraft {
             version,

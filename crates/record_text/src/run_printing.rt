@@ -46,7 +46,8 @@ fn turns_of(trace: &OwnTrace) -> u64
 
 /// Appends the actions of a peer.
 fn put_part(out: &mut Vec<u8>, trace: &OwnTrace) -> Result<(), AllocError>
-    ensures put { OnOk result (out.new.items ≡ out.old.items ++ text_of run_pieces_of (rows_of_part (part_of trace.now))) }
+    ensures put { OnOk result (out.new.items ≡
+        out.old.items ++ text_of run_pieces_of (rows_of_part (part_of trace.now))) }
     ensures is { OnOk result (IsPart (part_of trace.now)) }
 {
     put(out, RunForm::Peer, &[u64::from(trace.peer)])?;
@@ -63,7 +64,8 @@ fn put_part(out: &mut Vec<u8>, trace: &OwnTrace) -> Result<(), AllocError>
 
 /// Appends the part of each peer, and returns the number of lines.
 fn put_parts(out: &mut Vec<u8>, traces: &[OwnTrace]) -> Result<u64, AllocError>
-    ensures put { OnOk result (out.new.items ≡ out.old.items ++ text_of run_pieces_of (rows_of_parts (map part_of traces.now))) }
+    ensures put { OnOk result (out.new.items ≡
+        out.old.items ++ text_of run_pieces_of (rows_of_parts (map part_of traces.now))) }
     ensures are { OnOk result (All IsPart (map part_of traces.now)) }
     ensures count { IfOk result (λ count. count ≡ length (rows_of_parts (map part_of traces.now))) }
 {
@@ -92,7 +94,8 @@ fn put_run(out: &mut Vec<u8>, trace: &RunTrace) -> Result<(), AllocError>
 pub fn print_run(alloc: Global, trace: &RunTrace) -> Result<Vec<u8>, NoMemory>
     ensures text { IfOk result (λ text. IsRunSpelling (run_of trace.now) text.items) }
     // No other running record has this text.
-    ensures alone { IfOk result (λ text. (other : RunRecord) → IsRunSpelling other text.items → other ≡ run_of trace.now) }
+    ensures alone { IfOk result (λ text. (other : RunRecord) → IsRunSpelling other text.items →
+        other ≡ run_of trace.now) }
 {
     let mut out = Vec::new(alloc);
     put_run(&mut out, trace)?;

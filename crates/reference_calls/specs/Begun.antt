@@ -7,7 +7,8 @@ use Rattle.reference_calls.specs.declared.ends.EndConfig.{EndConfig}
 use Rattle.reference_calls.specs.declared.ends.End.{End}
 use Rattle.reference_calls.specs.declared.ends.Call.{Call}
 use Rattle.reference_calls.specs.declared.ends.Call.TheVariants.{Offer}
-use Rattle.reference_calls.specs.Views.{config_view, stored}
+use Rattle.reference_calls.specs.declared.steps.Mark.{Mark}
+use Rattle.reference_calls.specs.Views.{config_view, marks_view, stored}
 use Rattle.split_ring.specs.Layout.{word_offset, AvailEntry}
 use Rattle.call_grammar.specs.Offers.{avail_entry_of}
 use Rattle.call_grammar.specs.Polls.{is_last}
@@ -53,6 +54,14 @@ place_view begun (WritingUsedId number more entry) = laws.WritingUsedId number m
 place_view begun (WritingUsedLength number more) = laws.WritingUsedLength number more
 place_view begun (WritingUsedIndex number more) = laws.WritingUsedIndex number more
 place_view begun RingingPoll = laws.RingingPoll
+
+-- These are the marks of the step at the place that meets the value.
+abbrev pub AreMarksAt : EndConfig → Begun → Place → ℕ → List Mark → Type 0
+AreMarksAt config begun place value marks = marks_view marks ≡ laws.marks_at (config_view config) (place_view begun place) value
+
+-- This is the place after the step at `place` that meets the value.
+abbrev pub IsNextPlace : EndConfig → Begun → Place → ℕ → Place → Type 0
+IsNextPlace config begun place value next = place_view begun next ≡ laws.next_place (config_view config) (place_view begun place) value
 
 -- The view of an open call of this crate: its data from its start, and its place. Its place in the
 -- call grammar follows.

@@ -70,3 +70,7 @@ step_view step = record { access = access_view step.access; value = step.value; 
 
 abbrev pub steps_view : List Step → List laws.Step
 steps_view steps = map step_view steps
+
+-- Whichever end of the grammar the end represented, it now represents what `to` makes of that.
+abbrev pub Becomes : (ends.End → ends.End) → (old new : End) → Type 0
+Becomes to old new = (end : ends.End) → HasView old end → HasView new (to end)

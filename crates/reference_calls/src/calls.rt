@@ -65,7 +65,8 @@ fn place_after(
     steps: &[Step],
 ) -> Result<Option<Place>, NoMemory>
     requires { IsSmall first }
-    ensures { IfOk result (IsAfter (config_view config.now) begun.now (place_view begun.now first) (steps_view steps.now)) }
+    ensures { IfOk result
+        (IsAfter (config_view config.now) begun.now (place_view begun.now first) (steps_view steps.now)) }
 {
     let mut place = first;
     for step in steps {

@@ -1,9 +1,8 @@
 //! An end after a step, and after a device reset.
 ghost use Rattle.std.specs.Prelude.{◌≡◌, ◌∷◌, [], OnOk};
 ghost use Rattle.split_ring.specs.declared.steps.Access.TheVariants.{Write};
-ghost use Rattle.call_grammar.specs.Ends as ends;
 ghost use Rattle.call_grammar.specs.Ends.{fresh, after_reset, with_state, with_access, with_mark, with_marks, end_after};
-ghost use Rattle.reference_calls.specs.Views.{access_view, mark_view, marks_view, step_view, HasView};
+ghost use Rattle.reference_calls.specs.Views.{access_view, mark_view, marks_view, step_view, HasView, Becomes};
 ghost use Rattle.reference_calls.specs.Following.{IsStorable, HasRoom, HasCounted};
 
 use crate::{Access, End, Mark, Step, Store};
@@ -32,7 +31,7 @@ impl End {
 
     /// Resets the end after a reset of its device.
     pub fn reset(&mut self)
-        ensures seen { (seen : ends.End) → HasView self.old seen → HasView self.new (after_reset seen) }
+        ensures seen { Becomes after_reset self.old self.new }
         ensures counts { HasCounted self.old [] self.new }
     {
         self.handshake.reset();
@@ -40,7 +39,7 @@ impl End {
 
     /// Writes State.
     fn set_state(&mut self, state: u32)
-        ensures seen { (seen : ends.End) → HasView self.old seen → HasView self.new (with_state seen state) }
+        ensures seen { Becomes (λ end. with_state end state) self.old self.new }
         ensures counts { HasCounted self.old [] self.new }
     {
         self.handshake.enter(phase_of(state));
@@ -55,7 +54,7 @@ impl End {
 
     /// Writes a word.
     fn store(&mut self, word: u32, value: u32) -> Result<(), NoMemory>
-        ensures seen { OnOk result ((seen : ends.End) → HasView self.old seen → HasView self.new (with_access seen (Write word value))) }
+        ensures seen { OnOk result (Becomes (λ end. with_access end (Write word value)) self.old self.new) }
         ensures counts { OnOk result (HasCounted self.old [] self.new) }
     {
         self.stores.insert(0, Store { word, value })?;
@@ -65,7 +64,7 @@ impl End {
     /// Makes the changes of an access.
     fn change(&mut self, access: Access) -> Result<(), NoMemory>
         requires { IsStorable (access_view access) }
-        ensures seen { OnOk result ((seen : ends.End) → HasView self.old seen → HasView self.new (with_access seen (access_view access))) }
+        ensures seen { OnOk result (Becomes (λ end. with_access end (access_view access)) self.old self.new) }
         ensures counts { OnOk result (HasCounted self.old [] self.new) }
     {
         match access {
@@ -81,7 +80,7 @@ impl End {
     /// Counts a mark.
     fn note(&mut self, mark: &Mark) -> Result<(), NoMemory>
         requires { HasRoom self.old (mark_view mark.now ∷ []) }
-        ensures seen { OnOk result ((seen : ends.End) → HasView self.old seen → HasView self.new (with_mark seen (mark_view mark.now))) }
+        ensures seen { OnOk result (Becomes (λ end. with_mark end (mark_view mark.now)) self.old self.new) }
         ensures counts { OnOk result (HasCounted self.old (mark_view mark.now ∷ []) self.new) }
     {
         match mark {
@@ -105,7 +104,7 @@ impl End {
     /// Counts these marks.
     fn note_all(&mut self, marks: &[Mark]) -> Result<(), NoMemory>
         requires { HasRoom self.old (marks_view marks.now) }
-        ensures seen { OnOk result ((seen : ends.End) → HasView self.old seen → HasView self.new (with_marks seen (marks_view marks.now))) }
+        ensures seen { OnOk result (Becomes (λ end. with_marks end (marks_view marks.now)) self.old self.new) }
         ensures counts { OnOk result (HasCounted self.old (marks_view marks.now) self.new) }
     {
         for mark in marks {
@@ -121,7 +120,7 @@ impl End {
     pub fn follow(&mut self, step: &Step) -> Result<(), NoMemory>
         requires storable { IsStorable (step_view step.now).access }
         requires room { HasRoom self.old (step_view step.now).marks }
-        ensures seen { OnOk result ((seen : ends.End) → HasView self.old seen → HasView self.new (end_after seen (step_view step.now))) }
+        ensures seen { OnOk result (Becomes (λ end. end_after end (step_view step.now)) self.old self.new) }
         ensures counts { OnOk result (HasCounted self.old (step_view step.now).marks self.new) }
     {
         self.change(step.access)?;

@@ -1,13 +1,11 @@
 //! The marks of the step at a place.
-ghost use Rattle.std.specs.Prelude.{◌≡◌, ◌==◌, if◌then◌else◌, ◌+◌, ◌<◌, ◌^◌, IfOk, List, [], ◌∷◌, ◌++◌};
+ghost use Rattle.std.specs.Prelude.{◌≡◌, ◌==◌, if◌then◌else◌, IfOk, [], ◌∷◌, ◌++◌};
 ghost use Rattle.call_grammar.specs.Steps.{Deliver};
 ghost use Rattle.call_grammar.specs.Words.{frame_in};
 ghost use Rattle.call_grammar.specs.Ticks.{tick_marks};
-ghost use Rattle.call_grammar.specs.Offers.{full_marks, reclaim_marks, refusal};
-ghost use Rattle.call_grammar.specs.Polls.{look_marks};
-ghost use Rattle.call_grammar.specs.Places.{marks_at};
-ghost use Rattle.reference_calls.specs.Views.{config_view, marks_view};
-ghost use Rattle.reference_calls.specs.Begun.{pending_of, place_view, IsSmall};
+ghost use Rattle.call_grammar.specs.Offers.{refusal};
+ghost use Rattle.reference_calls.specs.Views.{marks_view};
+ghost use Rattle.reference_calls.specs.Begun.{AreMarksAt, IsSmall};
 
 use crate::frames::frame_fits;
 use crate::places::{Begun, Place};
@@ -63,7 +61,7 @@ fn used_index_marks(
     begun: &Begun,
     value: u32,
 ) -> Result<Vec<Mark>, NoMemory>
-    ensures { IfOk result (λ marks. marks_view marks.items ≡ marks_at (config_view config.now) (place_view begun.now Place.ReadingUsedIndex) value) }
+    ensures { IfOk result (λ marks. AreMarksAt config.now begun.now Place.ReadingUsedIndex value marks.items) }
 {
     let freed = u64::from(begun.freed);
     let found = published_by(freed, value);
@@ -86,7 +84,7 @@ fn avail_index_marks(
     last: bool,
     value: u32,
 ) -> Result<Vec<Mark>, NoMemory>
-    ensures { IfOk result (λ marks. marks_view marks.items ≡ marks_at (config_view config.now) (place_view begun.now (Place.ReadingAvailIndex last)) value) }
+    ensures { IfOk result (λ marks. AreMarksAt config.now begun.now (Place.ReadingAvailIndex last) value marks.items) }
 {
     let taken = u64::from(begun.taken);
     let found = published_by(taken, value);
@@ -109,7 +107,9 @@ fn word_marks(
     value: u32,
     words: u64,
 ) -> Result<Vec<Mark>, NoMemory>
-    ensures { IfOk result (λ marks. marks_view marks.items ≡ (if words == 0 then Deliver (frame_in bytes (read.now ++ value ∷ [])) ∷ [] else [])) }
+    ensures { IfOk result
+        (λ marks. marks_view marks.items ≡
+        (if words == 0 then Deliver (frame_in bytes (read.now ++ value ∷ [])) ∷ [] else [])) }
 {
     if words > 0 {
         return Ok(Vec::new(alloc));
@@ -131,7 +131,7 @@ pub fn marks_at(
     value: u32,
 ) -> Result<Vec<Mark>, NoMemory>
     requires { IsSmall place.now }
-    ensures { IfOk result (λ marks. marks_view marks.items ≡ marks_at (config_view config.now) (place_view begun.now place.now) value) }
+    ensures { IfOk result (λ marks. AreMarksAt config.now begun.now place.now value marks.items) }
 {
     match place {
         Place::ReadingOtherState => tick_marks(alloc, value, begun.handshake.saw(value)),

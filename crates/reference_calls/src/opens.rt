@@ -63,7 +63,8 @@ impl OpenCall {
         end: &End,
         asked: &Call,
     ) -> Result<OpenCall, NoMemory>
-        ensures { IfOk result (λ call. (seen : ends.End) → HasView end.now seen → place_of call ≡ first_place (config_view config.now) seen (call_view asked.now)) }
+        ensures { IfOk result (λ call. (seen : ends.End) → HasView end.now seen →
+            place_of call ≡ first_place (config_view config.now) seen (call_view asked.now)) }
     {
         let begun = begin(alloc, config, end, asked)?;
         let place = first_place(&begun, asked);

@@ -1,14 +1,9 @@
 //! The places of a call between two steps, the step at each, and the place after it.
-ghost use Rattle.std.specs.Prelude.{◌≡◌, true, ◌+◌, ◌<◌, ◌^◌, IfOk, List, [], ◌∷◌};
-ghost use Rattle.link_handshake.specs.HandshakeState.{move_of};
-ghost use Rattle.call_grammar.specs.Steps.{value_given};
-ghost use Rattle.call_grammar.specs.Ticks.{tick_marks};
-ghost use Rattle.call_grammar.specs.Offers.{full_marks, reclaim_marks, refusal};
-ghost use Rattle.call_grammar.specs.Polls.{look_marks};
-ghost use Rattle.call_grammar.specs.Places.{access_at, marks_at, next_place, first_place, is_open, tick_place, clear_place, fill_place, ids_place, notify_place, items_place, words_place};
+ghost use Rattle.std.specs.Prelude.{◌≡◌, ◌+◌, ◌<◌, ◌^◌, IfOk};
+ghost use Rattle.call_grammar.specs.Places.{access_at, first_place, tick_place, clear_place, fill_place, ids_place, notify_place, items_place, words_place};
 ghost use Rattle.call_grammar.specs.Ends as ends;
-ghost use Rattle.reference_calls.specs.Views.{config_view, call_view, access_view, marks_view, HasView};
-ghost use Rattle.reference_calls.specs.Begun.{pending_of, place_view, IsSmall, IsBegun};
+ghost use Rattle.reference_calls.specs.Views.{config_view, call_view, access_view, HasView};
+ghost use Rattle.reference_calls.specs.Begun.{pending_of, place_view, IsNextPlace, IsSmall, IsBegun};
 
 use crate::frames::{frame_fits, start_at};
 use crate::ranges::*;
@@ -277,7 +272,8 @@ fn fill_place(at: u64, count: u64) -> Place
 /// Returns the place before the next id, or after the last one.
 fn ids_place(config: &EndConfig, begun: &Begun, freed: u64, count: u64) -> Place
     requires { freed + count < 2 ^ 33 }
-    ensures place { place_view begun.now result ≡ ids_place (config_view config.now) (pending_of begun.now) freed count }
+    ensures place { place_view begun.now result ≡
+        ids_place (config_view config.now) (pending_of begun.now) freed count }
     ensures small { IsSmall result }
 {
     if count > 0 {
@@ -331,7 +327,8 @@ fn words_place(
     words: u64,
 ) -> Place
     requires { number + more + 1 < 2 ^ 33 }
-    ensures place { (begun : Begun) → place_view begun result ≡ words_place number more entry address bytes read.items words }
+    ensures place { (begun : Begun) →
+        place_view begun result ≡ words_place number more entry address bytes read.items words }
     ensures small { IsSmall result }
 {
     if words == 0 {
@@ -362,7 +359,7 @@ pub fn next_place(
     value: u32,
 ) -> Result<Place, NoMemory>
     requires { IsSmall place }
-    ensures place { IfOk result (λ next. place_view begun.now next ≡ next_place (config_view config.now) (place_view begun.now place) value) }
+    ensures place { IfOk result (IsNextPlace config.now begun.now place value) }
     ensures small { IfOk result (λ next. IsSmall next) }
 {
     let next = match place {
@@ -500,7 +497,7 @@ pub fn next_place(
 
 /// Returns the place after an offer's read of the used index.
 fn after_used_index(config: &EndConfig, begun: &Begun, value: u32) -> Place
-    ensures place { place_view begun.now result ≡ next_place (config_view config.now) (place_view begun.now Place.ReadingUsedIndex) value }
+    ensures place { IsNextPlace config.now begun.now Place.ReadingUsedIndex value result }
     ensures small { IsSmall result }
 {
     let freed = u64::from(begun.freed);
@@ -514,7 +511,7 @@ fn after_used_index(config: &EndConfig, begun: &Begun, value: u32) -> Place
 
 /// Returns the place after a poll's read of the available index.
 fn after_avail_index(config: &EndConfig, begun: &Begun, last: bool, value: u32) -> Place
-    ensures place { place_view begun.now result ≡ next_place (config_view config.now) (place_view begun.now (Place.ReadingAvailIndex last)) value }
+    ensures place { IsNextPlace config.now begun.now (Place.ReadingAvailIndex last) value result }
     ensures small { IsSmall result }
 {
     let taken = u64::from(begun.taken);
@@ -555,7 +552,8 @@ pub fn begin(alloc: Global, config: &EndConfig, end: &End, call: &Call) -> Resul
 
 /// Returns the place at which a call begins.
 pub fn first_place(begun: &Begun, call: &Call) -> Place
-    ensures place { (config : EndConfig) (end : End) (seen : ends.End) → IsBegun config end call.now begun.now → HasView end seen →
+    ensures place { (config : EndConfig) (end : End) (seen : ends.End) → IsBegun config end call.now begun.now →
+        HasView end seen →
         place_view begun.now result ≡ first_place (config_view config) seen (call_view call.now) }
     ensures small { IsSmall result }
 {

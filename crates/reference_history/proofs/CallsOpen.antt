@@ -1,5 +1,5 @@
 -- A queued or chosen call opens, and its next step is made.
-use Rattle.std.proofs.Common.{◌≡◌, ℕ, ◌+◌, ◌<◌, ◌≤◌, false, List, [], ◌∷◌, length, get_or, remove, refl, sym, ap, ◌∙◌, arith, subst}
+use Rattle.std.proofs.Common.{◌≡◌, ℕ, ◌+◌, ◌<◌, ◌≤◌, false, List, [], ◌∷◌, length, get_or, remove, sym, ap, ◌∙◌, arith, subst}
 use Rattle.std.specs.Prelude.{map}
 use Rattle.link_handshake.specs.declared.Phase.{Phase}
 use Rattle.call_grammar.specs.Automatic as laws
@@ -10,6 +10,7 @@ use Rattle.call_grammar.specs.Ends as ends
 use Rattle.call_grammar.specs.Ends.{end_after}
 use Rattle.call_grammar.specs.Calls.{EndConfig, tree_of}
 use Rattle.call_grammar.specs.Calls as calls
+use Rattle.call_grammar.proofs.ReplaysAreCalls.{shut_place}
 use Rattle.call_grammar.specs.Places.{Place, Closed, ReadingOtherState, Clearing, WritingState, Refusing, NotInRun, ReadingUsedIndex, ReadingUsedId, WritingFrameWord, WritingDescAddressLow, WritingDescAddressHigh, WritingDescLength, WritingDescFlags, WritingAvailEntry, WritingAvailIndex, ReadingAvailEvent, RingingOffer, ReadingAvailIndex, WritingAvailEvent, ReadingAvailEntry, ReadingDescAddressLow, ReadingDescAddressHigh, ReadingDescLength, ReadingDescFlags, ReadingFrameWord, WritingUsedId, WritingUsedLength, WritingUsedIndex, RingingPoll, remaining, first_place, step_at, next_place, is_open, PlacesFollowTrees}
 use Rattle.reference_calls.specs.declared.ends.Call.{Call}
 use Rattle.reference_calls.specs.declared.ends.End.{End}
@@ -94,10 +95,6 @@ pub chosen_as : (config : EndConfig) (peer : history.Peer) (auto : history.Auto)
     choice ≡ choice_of phase auto.round auto.frames auto.delivered auto.expected → chosen config peer peer.driver ≡ with_choice config peer auto choice
 chosen_as config peer auto phase choice driver at is =
     ap (λ (d : history.Driver). chosen config peer d) driver ∙ ap (λ (x : laws.Choice). with_choice config peer auto x) (ap (λ (p : Phase). choice_of p auto.round auto.frames auto.delivered auto.expected) (sym at) ∙ sym is)
-
-shut_place : (place : Place) → is_open place ≡ false → place ≡ Closed
-shut_place Closed shut = refl
-shut_place _ shut = absurd (cc)
 
 -- Without an open call, no rest of a call is left.
 pub shut_left : (config : EndConfig) (most : ℕ) (s : Peer) (peer : history.Peer) → IsPeer config most s peer → is_open (place_of s.call) ≡ false → peer.left ≡ Ended

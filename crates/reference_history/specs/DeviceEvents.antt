@@ -9,6 +9,7 @@ use Rattle.split_ring.specs.declared.steps.Access.{Access}
 use Rattle.split_ring.specs.declared.steps.Access.TheVariants as access
 use Rattle.lawful_history.specs.declared.line.Line.{Line}
 use Rattle.lawful_history.specs.declared.line.Line.TheVariants as line
+use Rattle.reference_history.specs.Reading.{Reads}
 
 -- The line is of one of the `peers` peers with devices, and its numbers fit.
 abbrev pub FitsDevices : ℕ → Line → Type 0
@@ -22,6 +23,10 @@ FitsDevices peers _ = Unit {0}
 
 abbrev pub AllFitDevices : ℕ → List Line → Type 0
 AllFitDevices peers lines = AllByRecursion (FitsDevices peers) lines
+
+-- The first `read` lines are a past whose lines fit the devices of `peers` peers.
+abbrev pub HasPast : ℕ → List Line → ℕ → Type 0
+HasPast peers lines read = (past : List Line) × Reads lines past (Some read) × AllFitDevices peers past
 
 -- The target and the vector of a doorbell have 16 bits each.
 abbrev pub FitsDoorbell : Access → Type 0

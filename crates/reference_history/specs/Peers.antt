@@ -1,5 +1,5 @@
 -- The peers of a history that the peers of this crate represent.
-use Rattle.std.specs.Prelude.{ℕ, ◌≡◌, ◌≤◌, map}
+use Rattle.std.specs.Prelude.{ℕ, ◌≡◌, ◌+◌, ◌<◌, ◌≤◌, ◌^◌, map}
 use Rattle.call_grammar.specs.Automatic as laws
 use Rattle.call_grammar.specs.Calls.{EndConfig}
 use Rattle.call_grammar.specs.Places.{Place, ReadingUsedIndex, remaining}
@@ -62,3 +62,11 @@ pub record IsPeer (config : EndConfig) (most : ℕ) (seen : Peer) (peer : histor
   pub few : AreFew most seen.end
   pub fresh : IsFresh most seen.end (place_of seen.call)
   pub delivered : HasFew most seen.driver
+
+-- A step adds at most 2 to each count of a peer, and then it still fits.
+abbrev pub CanStep : EndConfig → Peer → Type 0
+CanStep config seen = (most : ℕ) × (peer : history.Peer) × IsPeer config most seen peer × (most + 2 < 2 ^ 32)
+
+-- Whichever peer of the history the peer represented, it now represents what `to` makes of that.
+abbrev pub Becomes : EndConfig → (history.Peer → history.Peer) → (old new : Peer) → Type 0
+Becomes config to old new = (most : ℕ) (peer : history.Peer) → IsPeer config most old peer → IsPeer config most new (to peer)

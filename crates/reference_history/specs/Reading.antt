@@ -11,9 +11,18 @@ abbrev pub Reads : List Line → List Line → Option ℕ → Type 0
 Reads lines past None = (rest : List Line) → ¬ (lines ≡ reverse past ++ rest)
 Reads lines past (Some read) = (read ≤ length lines) × (take read lines ≡ reverse past)
 
+-- After the first `read` lines come these, listed newest first, up to `to`; or they don't.
+abbrev pub ReadsMore : List Line → ℕ → List Line → Option ℕ → Type 0
+ReadsMore lines read added to = (past : List Line) → Reads lines past (Some read) → Reads lines (added ++ past) to
+
 -- The table has the number of interrupts of each peer that are to be dropped.
 abbrev pub HasLosses : List ℕ → (ℕ → ℕ) → Type 0
 HasLosses table losses = (peer : ℕ) → slice_index_or table peer 0 ≡ losses peer
+
+-- The same for lines that depend on the past and on the interrupts that are to be dropped.
+abbrev pub ReadsAfter : List Line → List ℕ → ℕ → (List Line → (ℕ → ℕ) → List Line) → Option ℕ → Type 0
+ReadsAfter lines table read added to = (past : List Line) (losses : ℕ → ℕ) → Reads lines past (Some read) → HasLosses table losses →
+    Reads lines (reverse (added past losses) ++ past) to
 
 -- A read meets the last value written to its word; any other access meets 0.
 abbrev pub Meets : List Line → Access → ℕ → Type 0

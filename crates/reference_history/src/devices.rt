@@ -84,7 +84,9 @@ pub fn interrupted_by(
     requires peer { me < scenario.now.geometry.peers }
     requires fits { FitsDoorbell (access_view access) }
     requires recorded { AllFitDevices scenario.now.geometry.peers (reverse lines.now) }
-    ensures { result.items ≡ brought (devices_of (world_of scenario.now)) (device_events (reverse lines.now)) (device_event_of_access me (access_view access)) }
+    ensures { result.items ≡
+        brought (devices_of (world_of scenario.now)) (device_events (reverse lines.now))
+        (device_event_of_access me (access_view access)) }
 {
     match access {
         Access::State(state) => {
@@ -106,7 +108,8 @@ pub fn interrupted_by(
 pub fn interrupted_by_reset(scenario: &Scenario, me: u32, lines: &[Line]) -> ArrayVec<Delivery, 8>
     requires peer { me < scenario.now.geometry.peers }
     requires recorded { AllFitDevices scenario.now.geometry.peers (reverse lines.now) }
-    ensures { result.items ≡ brought (devices_of (world_of scenario.now)) (device_events (reverse lines.now)) (Some (WasReset me)) }
+    ensures { result.items ≡
+        brought (devices_of (world_of scenario.now)) (device_events (reverse lines.now)) (Some (WasReset me)) }
 {
     let mut devices = devices_after(scenario, lines);
     let effect = devices.reset(me);

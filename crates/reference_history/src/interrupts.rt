@@ -1,7 +1,7 @@
 //! The lines of interrupts.
-ghost use Rattle.std.specs.Prelude.{◌≡◌, ℕ, ◌≤◌, ◌∷◌, ◌++◌, Some, IfSome, List, length, reverse};
+ghost use Rattle.std.specs.Prelude.{◌≡◌, ℕ, ◌≤◌, ◌∷◌, Some, IfSome, List, length, reverse};
 ghost use Rattle.lawful_history.specs.Device.{lost_by, lost_count, delivery_line, delivery_lines};
-ghost use Rattle.reference_history.specs.Reading.{Reads, HasLosses};
+ghost use Rattle.reference_history.specs.Reading.{Reads, ReadsAfter, HasLosses};
 
 use crate::lines::read_line;
 use doorbell_irq::Delivery;
@@ -60,8 +60,7 @@ pub fn read_interrupts(
     deliveries: &[Delivery],
 ) -> Option<usize>
     requires { read ≤ length lines.now }
-    ensures { (past : List Line) (lost : ℕ → ℕ) → Reads lines.now past (Some read) → HasLosses losses.now lost →
-        Reads lines.now (reverse (delivery_lines past lost deliveries.now) ++ past) result }
+    ensures { ReadsAfter lines.now losses.now read (λ past lost. delivery_lines past lost deliveries.now) result }
 {
     let mut at = read;
     for delivery in deliveries {

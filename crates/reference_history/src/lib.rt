@@ -63,7 +63,8 @@ fn read_act(
     act: &Act,
 ) -> Result<bool, NoMemory>
     requires act { IsAct (world_of scenario.now) act.now }
-    requires here { (count : ℕ) × (at : history.HistoryState) × RefinesState (world_of scenario.now) lines.now count at moment.old × (count + cost act.now ≤ MOST_ACTS) }
+    requires here { (count : ℕ) × (at : history.HistoryState) ×
+        RefinesState (world_of scenario.now) lines.now count at moment.old × (count + cost act.now ≤ MOST_ACTS) }
     ensures { let world = world_of scenario.now in
         IfOk result (λ yes. (count : ℕ) (at : history.HistoryState) → RefinesState world lines.now count at moment.old →
         GoesOn world lines.now (count + cost act.now) (run world (events_of act.now) at) moment.new yes) }
@@ -107,7 +108,8 @@ pub fn is_lawful(
 ) -> Result<bool, NoMemory>
     ensures lawful { IfOk result (λ yes. IsTrue yes ↔ IsLawfulIn (world_of scenario) version lines) }
     // There is one such history, the computed one.
-    ensures recorded { let world = world_of scenario in IfOk result (λ yes. IsTrue yes ↔ lines ≡ recorded_in world version (history.history world)) }
+    ensures recorded { let world = world_of scenario in IfOk result
+        (λ yes. IsTrue yes ↔ lines ≡ recorded_in world version (history.history world)) }
 {
     records_hold_one_history();
     let Some(history) = without_marks(&scenario, version, lines.into_items()) else {

@@ -16,13 +16,6 @@ fn is_session(line: &Line) -> bool
     matches!(line, Line::Session { .. })
 }
 
-/// Whether this is an honest link peer.
-fn is_link(scenario: &Scenario, peer: u32) -> bool
-    ensures { result ≡ is_link (world_of scenario.now) peer }
-{
-    peer < 2 && scenario.honest.items()[peer as usize]
-}
-
 /// Whether the line is the peer's write of this State.
 fn writes_state(line: &Line, peer: u32, state: u32) -> bool
     ensures { result ≡ writes_state peer state line.now }
@@ -92,7 +85,7 @@ fn due_between(scenario: &Scenario, lines: &[Line], next: &Line) -> Option<u32>
         mark_of world (reverse lines.now) result ≡ marks_before world (without_sessions (reverse lines.now)) next.now }
 {
     match next {
-        Line::Over { peer } if is_link(scenario, *peer) && enters_run(lines, *peer) => Some(*peer),
+        Line::Over { peer } if scenario.is_link(*peer) && enters_run(lines, *peer) => Some(*peer),
         _ => None,
     }
 }
@@ -100,10 +93,12 @@ fn due_between(scenario: &Scenario, lines: &[Line], next: &Line) -> Option<u32>
 /// Returns the number of sessions that the other link peer opened in these lines, or 0 if it isn't
 /// honest.
 fn opened_beside(scenario: &Scenario, lines: &[Line], peer: u32) -> u64
-    ensures { result ≡ (if is_link (world_of scenario.now) (partner peer) then opened_in (without_sessions (reverse lines.now)) (partner peer) else 0) }
+    ensures { result ≡
+        (if is_link (world_of scenario.now) (partner peer)
+        then opened_in (without_sessions (reverse lines.now)) (partner peer) else 0) }
 {
     let other = if peer == 0 { 1 } else { 0 };
-    if is_link(scenario, other) {
+    if scenario.is_link(other) {
         opened_in(lines, other)
     } else {
         0
@@ -112,7 +107,8 @@ fn opened_beside(scenario: &Scenario, lines: &[Line], peer: u32) -> u64
 
 /// Whether this is the mark of the session that the peer enters after these lines.
 fn is_mark(scenario: &Scenario, lines: &[Line], peer: u32, mark: &Line) -> bool
-    ensures { IsTrue result ↔ session_mark (world_of scenario.now) (without_sessions (reverse lines.now)) peer ≡ mark.now }
+    ensures { IsTrue result ↔
+        session_mark (world_of scenario.now) (without_sessions (reverse lines.now)) peer ≡ mark.now }
 {
     match mark {
         Line::Session {

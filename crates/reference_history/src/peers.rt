@@ -1,15 +1,15 @@
 //! A peer between two events.
-ghost use Rattle.std.specs.Prelude.{◌≡◌, ℕ, ◌+◌, ◌*◌, ◌<◌, ◌≤◌, ◌-◌, ◌^◌, true, List, length, IfOk, OnOk};
+ghost use Rattle.std.specs.Prelude.{◌≡◌, ℕ, ◌+◌, ◌<◌, ◌≤◌, ◌-◌, ◌^◌, length, IfOk, OnOk};
 ghost use Rattle.call_grammar.specs.Automatic.{choice_of};
 ghost use Rattle.call_grammar.specs.Calls as laws;
 ghost use Rattle.call_grammar.specs.Calls.{tree_of};
-ghost use Rattle.call_grammar.specs.Places.{Closed, is_open, step_at, next_place, remaining};
+ghost use Rattle.call_grammar.specs.Places.{step_at, next_place, remaining};
 ghost use Rattle.reference_calls.specs.Views.{config_view, call_view, mark_view, marks_view, step_view};
 ghost use Rattle.reference_calls.specs.Begun.{place_of};
 ghost use Rattle.reference_calls.specs.Following.{IsStorable};
 ghost use Rattle.lawful_history.specs.Peers as history;
 ghost use Rattle.lawful_history.specs.Peers.{with_call, automated, stormed, was_reset, at_start, opened, chosen, counted, counted_all, driver_after, stepped};
-ghost use Rattle.reference_history.specs.Peers.{IsPeer, HasFew, round_view, auto_view, choice_view, driver_view};
+ghost use Rattle.reference_history.specs.Peers.{IsPeer, CanStep, Becomes, HasFew, round_view, auto_view, choice_view, driver_view};
 
 use call_grammar::places_follow_trees;
 use ivs_base::{Frame, NoMemory};
@@ -154,8 +154,8 @@ impl Peer {
     /// Appends a call to the waiting calls. The frame of an Offer to an automatic end is appended
     /// to its frames.
     pub fn ask(&mut self, call: Call) -> Result<(), NoMemory>
-        ensures { OnOk result ((config : laws.EndConfig) (most : ℕ) (peer : history.Peer) → IsPeer config most self.old peer →
-            IsPeer config most self.new (with_call peer (call_view call))) }
+        ensures { OnOk result ((config : laws.EndConfig) →
+            Becomes config (λ peer. with_call peer (call_view call)) self.old self.new) }
     {
         match (&mut self.driver, call) {
             (Driver::Chooses(auto), Call::Offer(frame)) => auto.frames.push(frame)?,
@@ -166,7 +166,7 @@ impl Peer {
 
     /// Makes the peer an automatic end.
     pub fn automate(&mut self, alloc: Global, expected: u64)
-        ensures { (config : laws.EndConfig) (most : ℕ) (peer : history.Peer) → IsPeer config most self.old peer → IsPeer config most self.new (automated peer expected) }
+        ensures { (config : laws.EndConfig) → Becomes config (λ peer. automated peer expected) self.old self.new }
     {
         self.driver = Driver::Chooses(Auto {
             frames: Vec::new(alloc),
@@ -178,14 +178,14 @@ impl Peer {
 
     /// Makes the turns of the peer a storm.
     pub fn storm(&mut self, seed: u64)
-        ensures { (config : laws.EndConfig) (most : ℕ) (peer : history.Peer) → IsPeer config most self.old peer → IsPeer config most self.new (stormed peer seed) }
+        ensures { (config : laws.EndConfig) → Becomes config (λ peer. stormed peer seed) self.old self.new }
     {
         self.driver = Driver::Storms(seed);
     }
 
     /// Resets the peer after a reset of its device: cuts its open call, and drops the waiting ones.
     pub fn reset(&mut self, alloc: Global)
-        ensures { (config : laws.EndConfig) (most : ℕ) (peer : history.Peer) → IsPeer config most self.old peer → IsPeer config most self.new (was_reset peer) }
+        ensures { (config : laws.EndConfig) → Becomes config was_reset self.old self.new }
     {
         self.end.reset();
         self.call = OpenCall::closed(alloc);
@@ -197,8 +197,9 @@ impl Peer {
 
     /// Opens a call.
     fn begin(&mut self, alloc: Global, config: &EndConfig, call: &Call) -> Result<(), NoMemory>
-        ensures { OnOk result ((most : ℕ) (peer : history.Peer) → IsPeer (config_view config.now) most self.old peer →
-            IsPeer (config_view config.now) most self.new (record peer { left = tree_of (config_view config.now) peer.end (call_view call.now) })) }
+        ensures { let config = config_view config.now in
+            OnOk result (Becomes config
+            (λ peer. record peer { left = tree_of config peer.end (call_view call.now) }) self.old self.new) }
     {
         places_follow_trees();
         self.call = OpenCall::open(alloc, config, &self.end, call)?;
@@ -207,8 +208,11 @@ impl Peer {
 
     /// Sets the position in the round of an automatic end.
     fn set_round(&mut self, round: Round)
-        ensures { (config : laws.EndConfig) (most : ℕ) (peer : history.Peer) (auto : history.Auto) → peer.driver ≡ history.Chooses auto →
-            IsPeer config most self.old peer → IsPeer config most self.new (record peer { driver = history.Chooses (record auto { round = round_view round }) }) }
+        ensures { (config : laws.EndConfig) (most : ℕ) (peer : history.Peer) (auto : history.Auto) →
+            peer.driver ≡ history.Chooses auto →
+            IsPeer config most self.old peer →
+            IsPeer config most self.new
+            (record peer { driver = history.Chooses (record auto { round = round_view round }) }) }
     {
         if let Driver::Chooses(auto) = &mut self.driver {
             auto.round = round;
@@ -238,8 +242,7 @@ impl Peer {
     /// Opens the call that an automatic end chooses, if it chooses one.
     fn choose(&mut self, alloc: Global, config: &EndConfig) -> Result<(), NoMemory>
         ensures { let config = config_view config.now in
-            OnOk result ((most : ℕ) (peer : history.Peer) → IsPeer config most self.old peer →
-            IsPeer config most self.new (chosen config peer peer.driver)) }
+            OnOk result (Becomes config (λ peer. chosen config peer peer.driver) self.old self.new) }
     {
         let phase = self.end.handshake.phase();
         let choice = match &self.driver {
@@ -261,7 +264,7 @@ impl Peer {
     /// automatic end chooses.
     pub fn open_next(&mut self, alloc: Global, config: &EndConfig) -> Result<(), NoMemory>
         ensures { let config = config_view config.now in
-            OnOk result ((most : ℕ) (peer : history.Peer) → IsPeer config most self.old peer → IsPeer config most self.new (opened config peer)) }
+            OnOk result (Becomes config (opened config) self.old self.new) }
     {
         if self.call.is_open() {
             return Ok(());
@@ -278,9 +281,11 @@ impl Peer {
     /// Counts the marks of a step for an automatic end.
     fn count(&mut self, marks: &[Mark])
         requires { (most : ℕ) × HasFew most self.old.driver × (most + length marks.now < 2 ^ 64 - 1) }
-        ensures counted { driver_view self.new.driver ≡ driver_after (driver_view self.old.driver) (marks_view marks.now) }
+        ensures counted { driver_view self.new.driver ≡
+            driver_after (driver_view self.old.driver) (marks_view marks.now) }
         ensures few { (most : ℕ) → HasFew most self.old.driver → HasFew (most + length marks.now) self.new.driver }
-        ensures kept { (self.new.end ≡ self.old.end) × (self.new.call ≡ self.old.call) × (self.new.waiting ≡ self.old.waiting) }
+        ensures kept { (self.new.end ≡ self.old.end) × (self.new.call ≡ self.old.call) ×
+            (self.new.waiting ≡ self.old.waiting) }
     {
         if let Driver::Chooses(auto) = &mut self.driver {
             auto.count_all(marks);
@@ -297,10 +302,11 @@ impl Peer {
     ) -> Result<(), NoMemory>
         requires next { step_view step.now ≡ step_at (config_view config.now) (place_of self.old.call) met }
         requires storable { IsStorable (step_view step.now).access }
-        requires few { (most : ℕ) × (peer : history.Peer) × IsPeer (config_view config.now) most self.old peer × (most + 2 < 2 ^ 32) }
+        requires few { CanStep (config_view config.now) self.old }
         ensures { let config = config_view config.now in
             OnOk result ((most : ℕ) (peer : history.Peer) → IsPeer config most self.old peer →
-            IsPeer config (most + 2) self.new (stepped peer (step_view step.now) (remaining config (next_place config (place_of self.old.call) met)))) }
+            IsPeer config (most + 2) self.new
+            (stepped peer (step_view step.now) (remaining config (next_place config (place_of self.old.call) met)))) }
     {
         self.end.follow(step)?;
         self.count(step.marks.as_slice());

@@ -34,7 +34,8 @@ pub struct ReferenceState {
 fn count_loss(losses: &mut [u64; 8], event: &Event)
     requires there { event_peer (event_view event.now) < 8 }
     requires few { (peer : ℕ) → slice_index_or losses.old peer 0 < 2 ^ 64 - 1 }
-    ensures losses { (lost : ℕ → ℕ) → HasLosses losses.old lost → HasLosses losses.new (losses_with (event_view event.now) lost) }
+    ensures losses { (lost : ℕ → ℕ) → HasLosses losses.old lost →
+        HasLosses losses.new (losses_with (event_view event.now) lost) }
     ensures loss_counts { length losses.new ≡ 8 }
 {
     if let Event::Loses { peer } = event {
@@ -45,7 +46,8 @@ fn count_loss(losses: &mut [u64; 8], event: &Event)
 impl ReferenceState {
     /// Returns the beginning of the history.
     pub fn beginning(alloc: Global, scenario: &Scenario) -> Result<ReferenceState, NoMemory>
-        ensures { IfOk result (λ moment. (lines : List lines.Line) → RefinesState (world_of scenario.now) lines 0 (initial_state (world_of scenario.now)) moment) }
+        ensures { IfOk result (λ moment. (lines : List lines.Line) →
+            RefinesState (world_of scenario.now) lines 0 (initial_state (world_of scenario.now)) moment) }
     {
         let mut peers = Vec::new(alloc);
         for _p in 0..scenario.geometry.peers() {
@@ -67,8 +69,10 @@ impl ReferenceState {
         event: Event,
     ) -> Result<bool, NoMemory>
         requires can { CanHappen (world_of scenario.now) (event_view event) }
-        requires here { (count : ℕ) × (moment : history.HistoryState) × RefinesState (world_of scenario.now) lines.now count moment self.old × (count < MOST_ACTS) }
-        ensures { IfOk result (λ yes. (count : ℕ) (moment : history.HistoryState) → RefinesState (world_of scenario.now) lines.now count moment self.old →
+        requires here { (count : ℕ) × (moment : history.HistoryState) ×
+            RefinesState (world_of scenario.now) lines.now count moment self.old × (count < MOST_ACTS) }
+        ensures { IfOk result (λ yes. (count : ℕ) (moment : history.HistoryState) →
+            RefinesState (world_of scenario.now) lines.now count moment self.old →
             GoesOn (world_of scenario.now) lines.now (count + 1) (after_event (world_of scenario.now) moment (event_view event)) self.new yes) }
     {
         let losses = self.losses;

@@ -1,22 +1,10 @@
 //! A peer and the other link peer.
 ghost use Rattle.std.specs.Prelude.{◌≡◌, ◌<◌, ◌^◌};
 ghost use Rattle.reference_calls.specs.Views.{config_view};
-ghost use Rattle.lawful_history.specs.Sides.{traffic_vector, world_of, config_of, partner};
+ghost use Rattle.lawful_history.specs.Sides.{world_of, config_of};
 
-use pci_space::Wiring;
 use reference_calls::EndConfig;
 use scenario_text::Scenario;
-
-/// Returns the vector of the doorbells of offers and polls.
-fn traffic_vector(wiring: Wiring) -> u32
-    ensures vector { result ≡ traffic_vector wiring }
-    ensures small { result < 2 ^ 16 }
-{
-    match wiring {
-        Wiring::Msix(vectors) if vectors >= 2 => 1,
-        _ => 0,
-    }
-}
 
 /// Returns the configuration of the peer.
 pub fn config_of(scenario: &Scenario, me: u32) -> EndConfig
@@ -33,6 +21,6 @@ pub fn config_of(scenario: &Scenario, me: u32) -> EndConfig
         theirs: geometry.section_start(other),
         words: geometry.out_words(),
         queue: scenario.queue,
-        vector: traffic_vector(scenario.wiring),
+        vector: scenario.traffic_vector(),
     }
 }

@@ -1,12 +1,12 @@
 //! The lines of a step: its access, the interrupts that it causes, and its marks.
-ghost use Rattle.std.specs.Prelude.{◌≡◌, ◌↔◌, ℕ, ◌<◌, ◌∷◌, [], ◌++◌, ◌≤◌, IsTrue, Some, IfSome, OnSome, List, length, map, reverse};
+ghost use Rattle.std.specs.Prelude.{◌≡◌, ◌↔◌, ◌<◌, ◌∷◌, [], ◌≤◌, IsTrue, Some, IfSome, OnSome, length, map, reverse};
 ghost use Rattle.reference_calls.specs.Views.{access_view, mark_view, marks_view, step_view};
 ghost use Rattle.reference_calls.specs.Following.{IsStorable};
 ghost use Rattle.lawful_history.specs.EventRecords.{access_lines, mark_line, step_lines};
 ghost use Rattle.lawful_history.specs.Device.{step_interrupts};
 ghost use Rattle.lawful_history.specs.Sides.{world_of};
-ghost use Rattle.reference_history.specs.Reading.{Reads, HasLosses, Meets};
-ghost use Rattle.reference_history.specs.DeviceEvents.{AllFitDevices, FitsDoorbell};
+ghost use Rattle.reference_history.specs.Reading.{ReadsMore, ReadsAfter, Meets};
+ghost use Rattle.reference_history.specs.DeviceEvents.{HasPast, FitsDoorbell};
 
 use crate::devices::interrupted_by;
 use crate::interrupts::read_interrupts;
@@ -51,8 +51,7 @@ fn is_line_of_step(me: u32, access: Access, met: u32, line: &Line) -> bool
 
 /// Reads the line of an access that met this value.
 fn read_access(me: u32, access: Access, met: u32, lines: &[Line], read: usize) -> Option<usize>
-    ensures reads { (past : List Line) → Reads lines.now past (Some read) →
-        Reads lines.now (reverse (access_lines me (access_view access) met) ++ past) result }
+    ensures reads { ReadsMore lines.now read (reverse (access_lines me (access_view access) met)) result }
     ensures within { IfSome result (λ at. read ≤ length lines.now → at ≤ length lines.now) }
     ensures storable { OnSome result (IsStorable (access_view access)) }
 {
@@ -94,7 +93,7 @@ fn is_marked(me: u32, mark: &Mark, line: &Line) -> bool
 
 /// Reads the line of a mark.
 fn read_mark(me: u32, mark: &Mark, lines: &[Line], read: usize) -> Option<usize>
-    ensures { (past : List Line) → Reads lines.now past (Some read) → Reads lines.now (mark_line me (mark_view mark.now) ∷ past) result }
+    ensures { ReadsMore lines.now read (mark_line me (mark_view mark.now) ∷ []) result }
 {
     if read < lines.len() && is_marked(me, mark, &lines[read]) {
         Some(read + 1)
@@ -105,7 +104,7 @@ fn read_mark(me: u32, mark: &Mark, lines: &[Line], read: usize) -> Option<usize>
 
 /// Reads the lines of marks.
 fn read_marks(me: u32, marks: &[Mark], lines: &[Line], read: usize) -> Option<usize>
-    ensures { (past : List Line) → Reads lines.now past (Some read) → Reads lines.now (reverse (map (mark_line me) (marks_view marks.now)) ++ past) result }
+    ensures { ReadsMore lines.now read (reverse (map (mark_line me) (marks_view marks.now))) result }
 {
     let mut at = read;
     for mark in marks {
@@ -139,10 +138,10 @@ pub fn read_step(
 ) -> Option<usize>
     requires peer { me < scenario.now.geometry.peers }
     requires fits { FitsDoorbell (access_view step.now.access) }
-    requires recorded { (past : List Line) × Reads lines.now past (Some read) × AllFitDevices scenario.now.geometry.peers past }
-    ensures reads { (past : List Line) (lost : ℕ → ℕ) → Reads lines.now past (Some read) → HasLosses losses.now lost →
-        Reads lines.now (reverse (step_lines me (step_view step.now)
-        (step_interrupts (world_of scenario.now) past lost me (Some (step_view step.now)))) ++ past) result }
+    requires recorded { HasPast scenario.now.geometry.peers lines.now read }
+    ensures reads { let taken = step_view step.now in
+        ReadsAfter lines.now losses.now read (λ past lost. step_lines me taken
+        (step_interrupts (world_of scenario.now) past lost me (Some taken))) result }
     ensures storable { OnSome result (IsStorable (access_view step.now.access)) }
 {
     let Some(at) = read_access(me, step.access, step.value, lines, read) else {

@@ -1,5 +1,5 @@
 //! The lines of an event of a peer, and the peer after it.
-ghost use Rattle.std.specs.Prelude.{◌≡◌, ℕ, ◌+◌, ◌<◌, ◌≤◌, ◌^◌, ◌∷◌, ◌++◌, true, Some, IfOk, List, length, reverse};
+ghost use Rattle.std.specs.Prelude.{◌≡◌, ℕ, ◌+◌, ◌<◌, ◌^◌, ◌∷◌, ◌++◌, true, Some, IfOk, List, reverse};
 ghost use Rattle.lawful_history.specs.declared.line.Line.TheVariants.{Reset};
 ghost use Rattle.call_grammar.specs.Calls as laws;
 ghost use Rattle.call_grammar.specs.Places.{is_open};
@@ -11,9 +11,9 @@ ghost use Rattle.lawful_history.specs.EventRecords.{turn_lines, region_access_li
 ghost use Rattle.lawful_history.specs.Peers as history;
 ghost use Rattle.lawful_history.specs.Device.{interrupts_of_line, step_interrupts, device_access_line};
 ghost use Rattle.lawful_history.specs.History.{driven_step, driven, step_by, moved, turn_step, turned, acted_step};
-ghost use Rattle.reference_history.specs.Reading.{Reads, HasLosses};
-ghost use Rattle.reference_history.specs.DeviceEvents.{AllFitDevices, FitsDoorbell};
-ghost use Rattle.reference_history.specs.Peers.{IsPeer};
+ghost use Rattle.reference_history.specs.Reading.{Reads, ReadsAfter, HasLosses};
+ghost use Rattle.reference_history.specs.DeviceEvents.{AllFitDevices, HasPast, FitsDoorbell};
+ghost use Rattle.reference_history.specs.Peers.{IsPeer, CanStep};
 ghost use Rattle.reference_history.specs.Events.{event_view, device_access_view, HasWord, IsPlaced, IsDenied, CanHappen};
 ghost use Rattle.reference_history.specs.ReferenceStates.{GoesTo, GoesBy};
 
@@ -46,10 +46,11 @@ fn read_call(
     requires there { me < scenario.now.geometry.peers }
     requires fits { (config.now.other < 2 ^ 16) × (config.now.vector < 2 ^ 16) }
     requires open { is_open (place_of peer.old.call) ≡ true }
-    requires few { (most : ℕ) × (it : history.Peer) × IsPeer (config_view config.now) most peer.old it × (most + 2 < 2 ^ 32) }
-    requires recorded { (past : List Line) × Reads lines.now past (Some read) × AllFitDevices scenario.now.geometry.peers past }
+    requires few { CanStep (config_view config.now) peer.old }
+    requires recorded { HasPast scenario.now.geometry.peers lines.now read }
     ensures { let world = world_of scenario.now in
-        IfOk result (λ at. (past : List Line) (lost : ℕ → ℕ) (most : ℕ) (it : history.Peer) → Reads lines.now past (Some read) →
+        IfOk result (λ at. (past : List Line) (lost : ℕ → ℕ) (most : ℕ) (it : history.Peer) →
+        Reads lines.now past (Some read) →
         AllFitDevices world.geometry.peers past → HasLosses losses.now lost →
         IsPeer (config_view config.now) most peer.old it → let step = step_by world me it.driver it.left past in
         GoesTo world lines.now (reverse (turn_lines me step (step_interrupts world past lost me step)) ++ past)
@@ -76,10 +77,12 @@ fn read_driver(
     read: usize,
 ) -> Option<usize>
     requires there { me < scenario.now.geometry.peers }
-    requires recorded { (past : List Line) × Reads lines.now past (Some read) × AllFitDevices scenario.now.geometry.peers past }
+    requires recorded { HasPast scenario.now.geometry.peers lines.now read }
     ensures { let world = world_of scenario.now in
-        (past : List Line) (lost : ℕ → ℕ) (config : laws.EndConfig) (most : ℕ) (it : history.Peer) → Reads lines.now past (Some read) →
-        AllFitDevices world.geometry.peers past → HasLosses losses.now lost → IsPeer config most peer.old it → let step = driven_step world me it.driver in
+        (past : List Line) (lost : ℕ → ℕ) (config : laws.EndConfig) (most : ℕ) (it : history.Peer) →
+        Reads lines.now past (Some read) →
+        AllFitDevices world.geometry.peers past → HasLosses losses.now lost → IsPeer config most peer.old it →
+        let step = driven_step world me it.driver in
         GoesTo world lines.now (reverse (turn_lines me step (step_interrupts world past lost me step)) ++ past)
         config most (driven it it.driver) peer.new result }
 {
@@ -104,11 +107,13 @@ fn read_turn(
     read: usize,
 ) -> Result<Option<usize>, NoMemory>
     requires there { me < scenario.now.geometry.peers }
-    requires few { (most : ℕ) × (it : history.Peer) × IsPeer (config_of (world_of scenario.now) me) most peer.old it × (most + 2 < 2 ^ 32) }
-    requires recorded { (past : List Line) × Reads lines.now past (Some read) × AllFitDevices scenario.now.geometry.peers past }
+    requires few { CanStep (config_of (world_of scenario.now) me) peer.old }
+    requires recorded { HasPast scenario.now.geometry.peers lines.now read }
     ensures { let world = world_of scenario.now in
-        IfOk result (λ at. (past : List Line) (lost : ℕ → ℕ) (most : ℕ) (it : history.Peer) → Reads lines.now past (Some read) →
-        AllFitDevices world.geometry.peers past → HasLosses losses.now lost → IsPeer (config_of world me) most peer.old it → let step = turn_step world me it past in
+        IfOk result (λ at. (past : List Line) (lost : ℕ → ℕ) (most : ℕ) (it : history.Peer) →
+        Reads lines.now past (Some read) →
+        AllFitDevices world.geometry.peers past → HasLosses losses.now lost →
+        IsPeer (config_of world me) most peer.old it → let step = turn_step world me it past in
         GoesTo world lines.now (reverse (turn_lines me step (step_interrupts world past lost me step)) ++ past)
         (config_of world me) (most + 2) (turned world me it past) peer.new at) }
 {
@@ -153,11 +158,10 @@ fn read_access_of(
 ) -> Option<usize>
     requires there { me < scenario.now.geometry.peers }
     requires fits { FitsDoorbell (access_view access) × HasWord (access_view access) }
-    requires recorded { (past : List Line) × Reads lines.now past (Some read) × AllFitDevices scenario.now.geometry.peers past }
+    requires recorded { HasPast scenario.now.geometry.peers lines.now read }
     ensures { let world = world_of scenario.now in let a = access_view access in
-        (past : List Line) (lost : ℕ → ℕ) → Reads lines.now past (Some read) → HasLosses losses.now lost →
-        let step = acted_step world me a past in
-        Reads lines.now (reverse (region_access_lines me a step (step_interrupts world past lost me step)) ++ past) result }
+        ReadsAfter lines.now losses.now read (λ past lost. let step = acted_step world me a past in
+        region_access_lines me a step (step_interrupts world past lost me step)) result }
 {
     if let Some(word) = denied_word(scenario, me, access) {
         return read_line(lines, read, &Line::Denied { peer: me, word });
@@ -179,10 +183,10 @@ fn read_reset(
     read: usize,
 ) -> Option<usize>
     requires there { me < scenario.now.geometry.peers }
-    requires recorded { (past : List Line) × Reads lines.now past (Some read) × AllFitDevices scenario.now.geometry.peers past }
+    requires recorded { HasPast scenario.now.geometry.peers lines.now read }
     ensures { let world = world_of scenario.now in
-        (past : List Line) (lost : ℕ → ℕ) → Reads lines.now past (Some read) → HasLosses losses.now lost →
-        Reads lines.now (reverse (Reset me ∷ interrupts_of_line world past lost (Reset me)) ++ past) result }
+        ReadsAfter lines.now losses.now read
+        (λ past lost. Reset me ∷ interrupts_of_line world past lost (Reset me)) result }
 {
     let Some(at) = read_line(lines, read, &Line::Reset { peer: me }) else {
         return None;
@@ -253,10 +257,10 @@ pub fn read_event(
     read: usize,
 ) -> Result<Option<usize>, NoMemory>
     requires can { CanHappen (world_of scenario.now) (event_view event) }
-    requires few { (most : ℕ) × (it : history.Peer) ×
-        IsPeer (config_of (world_of scenario.now) (event_peer (event_view event))) most peer.old it × (most + 2 < 2 ^ 32) }
-    requires recorded { (past : List Line) × Reads lines.now past (Some read) × AllFitDevices scenario.now.geometry.peers past }
-    ensures { IfOk result (λ at. GoesBy (world_of scenario.now) lines.now losses.now (event_view event) read peer.old peer.new at) }
+    requires few { CanStep (config_of (world_of scenario.now) (event_peer (event_view event))) peer.old }
+    requires recorded { HasPast scenario.now.geometry.peers lines.now read }
+    ensures { IfOk result
+        (λ at. GoesBy (world_of scenario.now) lines.now losses.now (event_view event) read peer.old peer.new at) }
 {
     match event {
         Event::Asked { call, .. } => {

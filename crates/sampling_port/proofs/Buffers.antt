@@ -16,7 +16,7 @@ use Rattle.sampling_port.specs.Marks.{PortMark}
 use Rattle.sampling_port.specs.Views.{PortView, IsPlace, writing_place}
 use Rattle.sampling_port.specs.EventRecords.{Line, Wrote, Marked}
 use Rattle.sampling_port.specs.Memory.{last_write}
-use Rattle.sampling_port.proofs.Bytes.{IsByte}
+use Rattle.call_grammar.proofs.BytesOfWords.{IsByte}
 use Rattle.sampling_port.proofs.CallsArePermitted.{length_place_least, length_place_most}
 
 -- Words of the writer's section

@@ -1,25 +1,11 @@
 -- The bytes of a message, word by word.
-use Rattle.std.proofs.Common.{◌≡◌, ℕ, zero, suc, ◌+◌, ◌-◌, ◌*◌, ◌/◌, ◌%◌, ◌<◌, ◌≤◌, List, [], ◌∷◌, ◌++◌, length, take, drop, refl, sym, ap, ◌∙◌, arith}
+use Rattle.std.proofs.Common.{◌≡◌, ℕ, zero, suc, ◌+◌, ◌-◌, ◌*◌, ◌/◌, ◌%◌, ◌≤◌, List, [], ◌∷◌, ◌++◌, length, take, drop, refl, sym, ap, ◌∙◌, arith}
 use Rattle.std.specs.List.{AllByRecursion}
 use Rattle.std.proofs.lemmas.List.{length-take, length-drop, take-append-drop}
 use Rattle.std.proofs.Math.Seq.{take-append-add}
 use Rattle.ivs_base.specs.Numbers.{word_of}
 use Rattle.call_grammar.specs.Words.{frame_word, word_bytes}
-
-abbrev pub IsByte : ℕ → Type 0
-IsByte byte = byte < 256
-
-byte_0 : (a b c d : ℕ) → IsByte a → (a + 256 * (b + 256 * (c + 256 * (d + 256 * 0)))) % 256 ≡ a
-byte_0 a b c d x = omega arith
-
-byte_1 : (a b c d : ℕ) → IsByte a → IsByte b → (a + 256 * (b + 256 * (c + 256 * (d + 256 * 0)))) / 256 % 256 ≡ b
-byte_1 a b c d x y = omega arith
-
-byte_2 : (a b c d : ℕ) → IsByte a → IsByte b → IsByte c → (a + 256 * (b + 256 * (c + 256 * (d + 256 * 0)))) / 65536 % 256 ≡ c
-byte_2 a b c d x y z = omega arith
-
-byte_3 : (a b c d : ℕ) → IsByte a → IsByte b → IsByte c → IsByte d → (a + 256 * (b + 256 * (c + 256 * (d + 256 * 0)))) / 16777216 % 256 ≡ d
-byte_3 a b c d x y z w = omega arith
+use Rattle.call_grammar.proofs.BytesOfWords.{IsByte, byte_0, byte_1, byte_2, byte_3}
 
 one_0 : (a : ℕ) → IsByte a → (a + 256 * 0) % 256 ≡ a
 one_0 a x = omega arith

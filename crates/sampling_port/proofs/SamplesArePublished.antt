@@ -32,7 +32,7 @@ use Rattle.sampling_port.specs.History.{PeerState, HistoryState, met, met_by, op
 use Rattle.sampling_port.specs.HistoryLaws.{message_in, messages_of, is_of, is_read_of, publishes, published_by, GotIsPublished, LooksCountPublishes, ZeroIsNothing, NothingIsUnpublished, AgainIsLater, HonestIsNotRefused}
 use Rattle.sampling_port.specs.Simulator.{IsPermittedEvent}
 use Rattle.sampling_port.proofs.RecordedLines.{may_of}
-use Rattle.sampling_port.proofs.Bytes.{IsByte}
+use Rattle.call_grammar.proofs.BytesOfWords.{IsByte}
 use Rattle.sampling_port.proofs.Buffers.{head_of, length_at, data_at, IsMessage, Opened, Writer, Same, length_in, data_in, same_beside, opened_same, writer_same, wrote_length, wrote_word}
 use Rattle.sampling_port.proofs.ReaderInSample.{Reader, At, Fact, Facts, facts_before, Before, reader_past}
 use Rattle.sampling_port.proofs.TurnFacts.{hand_at, hand_messages, not_wrote, Stands, Stepped, sample_stepped, write_stepped, sequence_stepped}

@@ -86,7 +86,8 @@ impl Form {
 /// Appends the line of a form.
 #[tactic(auto, unfolding(line_format::specs::Rows::line_of_row))]
 pub fn put(out: &mut Vec<u8>, form: Form, numbers: &[u64], bytes: &[u8]) -> Result<(), AllocError>
-    ensures { OnOk result (out.new.items ≡ out.old.items ++ line_of_row pieces_of_line (row form numbers.now bytes.now)) }
+    ensures { OnOk result (out.new.items ≡
+        out.old.items ++ line_of_row pieces_of_line (row form numbers.now bytes.now)) }
 {
     put_line(out, form.slots(), numbers, bytes)
 }

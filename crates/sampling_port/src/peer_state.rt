@@ -34,7 +34,8 @@ pub struct PeerState {
 /// Opens a call.
 fn open(port: &mut Port, call: Call)
     requires idle { is_busy port.old ≡ false }
-    requires given { (world : World) × (me : ℕ) × IsReady world me (record { port = port.old; waiting = call_of call ∷ [] }) }
+    requires given { (world : World) × (me : ℕ) ×
+        IsReady world me (record { port = port.old; waiting = call_of call ∷ [] }) }
     ensures { port.new ≡ opening port.old (call_of call) }
 {
     match call {
@@ -82,7 +83,8 @@ pub fn turn(
     peer_state: &mut PeerState,
     world_state: &mut WorldState,
 ) -> Result<(), NoMemory>
-    requires ready { (world : World) × IsReady world me (peer_state_of peer_state.old) × (world_state.old.region.shape ≡ world.geometry) }
+    requires ready { (world : World) × IsReady world me (peer_state_of peer_state.old) ×
+        (world_state.old.region.shape ≡ world.geometry) }
     requires room { world_state.old.recorded.count < 2 ^ 62 }
     ensures after { (front : List ℕ) (past : List Line) → WorldStateAfter front past world_state.old →
         OnOk result (WorldStateAfter front (reverse (lines_by (TurnTaken me) (step_in world_state.old.region.shape (peer_state_of peer_state.old) past (TurnTaken me))) ++ past) world_state.new

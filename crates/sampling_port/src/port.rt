@@ -1,6 +1,7 @@
 //! A port: it publishes messages in its own section and samples those of others.
 ghost use Rattle.std.specs.Prelude.{ℕ, ◌≡◌, ◌+◌, ◌-◌, ◌*◌, ◌/◌, ◌^◌, ◌<◌, ◌≤◌, ◌++◌, IfOk, IfErr, true, false, length, min, take, slice_index};
 ghost use Rattle.call_grammar.specs.Words.{words_for, frame_word, word_bytes};
+ghost use Rattle.section_map.specs.declared.limits.TheConstants.{REGION_WORDS};
 ghost use Rattle.section_map.specs.Geometry.{section_start};
 ghost use Rattle.sampling_port.specs.Layout.{IsMessageSize, length_place, data_place};
 ghost use Rattle.sampling_port.specs.Views.{PortView, IsPort, fresh_port, is_busy, publishing, sampling, access_at, from_at, note_at, port_after, closed, got, KeepsNumbers};
@@ -9,13 +10,11 @@ ghost use Rattle.sampling_port.specs.Laws.{IsPortFault, IsPortAccess};
 use crate::notes::{PortFault, PortField, PortNote};
 use crate::place::{Place, reading_place, writing_place};
 use ivs_base::word_of;
+use port_text::LONGEST_MESSAGE;
 use section_map::Geometry;
 use split_ring::steps::Access;
 use std::alloc::Global;
 use std::marker::Model;
-
-/// The length of the longest message that a port may have, in bytes.
-const LONGEST: u32 = 65_536;
 
 /// The port of one peer. It holds the number of messages that it published, the number of the last
 /// message from each peer, and its place in the open call. It has two buffers: the message in hand,
@@ -61,7 +60,8 @@ fn put_first(buffer: &mut [u8], message: &[u8])
 fn put_word(buffer: &mut [u8], bytes: usize, at: usize, word: u32)
     requires within { 4 * at < bytes }
     requires room { bytes ≤ length buffer.old }
-    ensures { take (min bytes (4 * at + 4)) buffer.new ≡ take (4 * at) buffer.old ++ take (bytes - 4 * at) (word_bytes word) }
+    ensures { take (min bytes (4 * at + 4)) buffer.new ≡
+        take (4 * at) buffer.old ++ take (bytes - 4 * at) (word_bytes word) }
 {
     let start = 4 * at;
     let count = (bytes - start).min(4);
@@ -82,7 +82,7 @@ impl Port {
         ensures made { IfOk result IsPort }
         ensures fault { IfErr result (IsPortFault geometry.now message) }
     {
-        if !message.is_multiple_of(4) || message < 4 || LONGEST < message {
+        if !message.is_multiple_of(4) || message < 4 || LONGEST_MESSAGE < message {
             return Err(PortFault::BadMessage(message));
         }
         let need = 4 * (3 + u64::from(message) / 2);
@@ -254,7 +254,7 @@ impl Port {
     /// Returns the first word of the port's own section.
     fn own_start(&self) -> u32
         ensures value { result ≡ section_start self.now.shape self.now.me }
-        ensures within { result + self.now.shape.out ≤ 4194304 }
+        ensures within { result + self.now.shape.out ≤ REGION_WORDS }
     {
         self.geometry.section_start(self.me)
     }
@@ -263,7 +263,7 @@ impl Port {
     fn start_of(&self, peer: u32) -> u32
         requires { peer < self.now.shape.peers }
         ensures value { result ≡ section_start self.now.shape peer }
-        ensures within { result + self.now.shape.out ≤ 4194304 }
+        ensures within { result + self.now.shape.out ≤ REGION_WORDS }
     {
         self.geometry.section_start(peer)
     }

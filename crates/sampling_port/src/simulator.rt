@@ -26,7 +26,8 @@ pub struct Simulator {
 
 /// Returns the initial states of all peers. A hostile peer has a port too, which gets no call.
 fn peer_states_of(alloc: Global, scenario: &Scenario) -> Result<Vec<PeerState>, NoMemory>
-    ensures { IfOk result (λ peer_states. AreAtStart (world_of scenario.now) scenario.now.geometry.peers peer_states.items) }
+    ensures { IfOk result
+        (λ peer_states. AreAtStart (world_of scenario.now) scenario.now.geometry.peers peer_states.items) }
 {
     let mut peer_states = Vec::new(alloc);
     for peer in 0..scenario.geometry.peers() {

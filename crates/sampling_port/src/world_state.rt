@@ -29,7 +29,8 @@ impl Record {
     /// Records the line of a form.
     pub fn record_line(&mut self, form: Form, numbers: &[u64], bytes: &[u8]) -> Result<(), NoMemory>
         requires room { self.old.count < 2 ^ 63 }
-        ensures recorded { (front : List ℕ) (past : List Line) (line : Line) → row_of_line line ≡ row form numbers.now bytes.now → RecordAfter front past self.old →
+        ensures recorded { (front : List ℕ) (past : List Line) (line : Line) →
+            row_of_line line ≡ row form numbers.now bytes.now → RecordAfter front past self.old →
             OnOk result (RecordAfter front (line ∷ past) self.new) }
         ensures count { OnOk result (self.new.count ≡ self.old.count + 1) }
     {
@@ -106,7 +107,8 @@ impl WorldState {
     /// Records a turn of a peer without a step.
     pub fn idle(&mut self, peer: u32) -> Result<(), NoMemory>
         requires room { self.old.recorded.count < 2 ^ 63 }
-        ensures after { (front : List ℕ) (past : List Line) → WorldStateAfter front past self.old → OnOk result (WorldStateAfter front (Idle peer ∷ past) self.new) }
+        ensures after { (front : List ℕ) (past : List Line) → WorldStateAfter front past self.old →
+            OnOk result (WorldStateAfter front (Idle peer ∷ past) self.new) }
         ensures shape { self.new.region.shape ≡ self.old.region.shape }
     {
         self.recorded

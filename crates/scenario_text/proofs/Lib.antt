@@ -12,3 +12,4 @@ pub mod PrintedParts
 pub mod LoadIsScenario
 pub mod LastActs
 pub mod RunningForm
+pub mod ActNumbers

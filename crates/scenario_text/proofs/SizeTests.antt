@@ -1,16 +1,17 @@
 -- The tests of the sizes are the conditions of a region and a queue.
-use Rattle.std.proofs.Common.{mul-le-mul_right, ◌≡◌, ℕ, ◌*◌, ◌/◌, ◌^◌, ◌≤◌, Bool, true, false, Option, Some, None, Result, Ok, Err, refl, sym, ap, subst, ◌∙◌, arith, eq-eqb}
+use Rattle.std.proofs.Common.{mul-le-mul_right, ◌≡◌, ℕ, ◌*◌, ◌/◌, ◌≤◌, Bool, true, false, Option, Some, None, Result, Ok, Err, refl, sym, ap, subst, ◌∙◌, arith, eq-eqb}
 use Rattle.std.specs.Prelude.{IfOk, IfErr, IsSome, is_some, unwrap_or}
 use Rattle.std.specs.Result.{is_ok}
 use Rattle.std.proofs.lemmas.Bool.{leb-true, le-leb, ltb-true, lt-ltb, eqb-true}
 use Rattle.line_format.proofs.SpellingsAreRead.{both_true}
 use Rattle.line_format.proofs.LinesAreCut.{are_true}
-use Rattle.section_map.specs.declared.limits.TheConstants.{LARGEST_REGION}
+use Rattle.section_map.specs.declared.limits.TheConstants.{LARGEST_REGION, LEAST_PEERS, MOST_PEERS}
 use Rattle.section_map.specs.Geometry.{Shape, IsShape}
 use Rattle.section_map.specs.Faults.{IsPeerCount, IsPages, IsSomePages, byte_count, shape_of, IsFirstFault}
 use Rattle.section_map.specs.declared.sizes.Part.TheVariants.{Table, Common, Out}
 use Rattle.section_map.specs.declared.sizes.GeometryFault.{GeometryFault}
 use Rattle.section_map.specs.declared.sizes.GeometryFault.TheVariants.{BadPeers, BadPage, TableTooSmall, TooLarge}
+use Rattle.split_ring.specs.declared.sizes.TheConstants.{LEAST_MTU, MOST_MTU}
 use Rattle.split_ring.specs.Layout.{IsVersion, Sizes, queue_size, size_of, IsQueue}
 use Rattle.split_ring.specs.Faults.{IsQueueFault}
 use Rattle.split_ring.specs.declared.faults.QueueFault.{QueueFault}
@@ -48,7 +49,7 @@ has_region peers table common out e =
     let f = both_true _ _ d.0 in
     let g = both_true _ _ f.0 in
     record {
-      count = (leb-true 2 peers g.0, leb-true peers 65536 g.1);
+      count = (leb-true LEAST_PEERS peers g.0, leb-true peers MOST_PEERS g.1);
       table_pages = some_pages table f.1;
       common_pages = eqb-true _ _ d.1;
       out_pages = some_pages out c.1;
@@ -59,7 +60,7 @@ has_region peers table common out e =
 pub is_geometry-true : (peers table common out : ℕ) → HasRegion peers table common out → is_geometry peers table common out ≡ true
 unfolding is_geometry
 is_geometry-true peers table common out is =
-    are_true _ _ (are_true _ _ (are_true _ _ (are_true _ _ (are_true _ _ (are_true _ _ (le-leb 2 peers is.count.0) (le-leb peers 65536 is.count.1))
+    are_true _ _ (are_true _ _ (are_true _ _ (are_true _ _ (are_true _ _ (are_true _ _ (le-leb LEAST_PEERS peers is.count.0) (le-leb peers MOST_PEERS is.count.1))
     (some_pages_true table is.table_pages)) (eq-eqb _ _ is.common_pages)) (some_pages_true out is.out_pages)) (le-leb _ _ is.states)) (le-leb _ _ is.room)
 
 refused : (peers table common out : ℕ) (fault : GeometryFault) → IsFirstFault peers table common out fault → HasRegion peers table common out → ⊥
@@ -115,11 +116,11 @@ has_queue q known section e =
     let a = both_true _ _ e in
     let b = both_true _ _ a.0 in
     let c = both_true _ _ b.0 in
-    record { known = known; mtu_least = leb-true 256 q.mtu c.0; mtu_most = leb-true q.mtu 65535 c.1; section = section; fits = some_size (queue_size q.out) b.1; one_slot = leb-true _ _ a.1 }
+    record { known = known; mtu_least = leb-true LEAST_MTU q.mtu c.0; mtu_most = leb-true q.mtu MOST_MTU c.1; section = section; fits = some_size (queue_size q.out) b.1; one_slot = leb-true _ _ a.1 }
 
 pub is_queue-true : (q : Sizes) → IsQueue q → is_queue q ≡ true
 unfolding is_queue
-is_queue-true q is = are_true _ _ (are_true _ _ (are_true _ _ (le-leb 256 q.mtu is.mtu_least) (le-leb q.mtu 65535 is.mtu_most)) (ap is_some is.fits)) (le-leb _ _ is.one_slot)
+is_queue-true q is = are_true _ _ (are_true _ _ (are_true _ _ (le-leb LEAST_MTU q.mtu is.mtu_least) (le-leb q.mtu MOST_MTU is.mtu_most)) (ap is_some is.fits)) (le-leb _ _ is.one_slot)
 
 queue_refused : (q : Sizes) (fault : QueueFault) → IsQueueFault q fault → IsQueue q → ⊥
 queue_refused q (queue_faults.BadMtu mtu) is has = is.0 (has.mtu_least, has.mtu_most)

@@ -3,8 +3,10 @@
 use Rattle.std.specs.Prelude.{◌≡◌, ℕ, ◌+◌, ◌*◌, ◌%◌, ◌≤◌, ◌==◌, ◌&&◌, ◌||◌, not, nat_lt, nat_le, if◌then◌else◌, Bool, true, false, List, length, take, slice_index, slice_index_or, slice_get, Some}
 use Rattle.line_format.specs.Forms.{Fit, FitBytes}
 use Rattle.section_map.specs.Geometry.{Shape, IsShape, word_count}
+use Rattle.split_ring.specs.declared.sizes.TheConstants.{FRAME_OVERHEAD, SHORTEST_FRAME}
 use Rattle.split_ring.specs.Layout.{Sizes, IsQueue}
 use Rattle.pci_space.specs.declared.wiring.Wiring.{Wiring}
+use Rattle.pci_space.specs.declared.wiring.Wiring.TheVariants.{Msix, Intx}
 use Rattle.pci_space.specs.Wiring.{IsWiring}
 use Rattle.scenario_text.specs.declared.acts.Act.{Act}
 use Rattle.scenario_text.specs.declared.forms.Form.{Form}
@@ -62,6 +64,12 @@ is_peer w p = nat_lt p w.geometry.peers
 abbrev pub is_link : World → ℕ → Bool
 is_link w p = nat_lt p 2 && slice_index_or w.honest p false
 
+-- The vector of the doorbells of offers and polls: 1 if MSI-X has at least two vectors, else 0
+-- (profile).
+abbrev pub traffic_vector : Wiring → ℕ
+traffic_vector (Msix vectors) = if nat_le 2 vectors then 1 else 0
+traffic_vector Intx = 0
+
 abbrev pub is_hostile : World → ℕ → Bool
 is_hostile w p = is_peer w p && not (slice_index_or w.honest p false)
 
@@ -94,7 +102,7 @@ is_its_peer w _ ns = true
 
 -- An offered frame has 14 to MTU + 18 bytes.
 abbrev pub is_frame_size : World → Form → ℕ → Bool
-is_frame_size w Offer size = nat_le 14 size && nat_le size (w.queue.mtu + 18)
+is_frame_size w Offer size = nat_le SHORTEST_FRAME size && nat_le size (w.queue.mtu + FRAME_OVERHEAD)
 is_frame_size w _ size = true
 
 -- ---- a scenario

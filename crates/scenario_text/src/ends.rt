@@ -83,7 +83,8 @@ impl Ends {
     /// Adds an act, the last of `end` acts.
     fn add(&mut self, act: &Act, end: usize)
         requires { peer_of act.now < 8 }
-        ensures { (said : List acts.Act) → AreEnds self.old said → end ≡ length said + 1 → AreEnds self.new (said ++ act.now ∷ []) }
+        ensures { (said : List acts.Act) → AreEnds self.old said → end ≡ length said + 1 →
+            AreEnds self.new (said ++ act.now ∷ []) }
     {
         let peer = act.peer() as usize;
         extend(&mut self.turns, peer, act.is_turn(), end);

@@ -27,6 +27,7 @@ mod forms;
 mod judging;
 mod laws;
 mod limits;
+mod link_peers;
 mod loads;
 mod positions;
 mod printing;

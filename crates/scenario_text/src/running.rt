@@ -41,7 +41,8 @@ fn flag(flags: &[bool; 8], peer: u32) -> bool
 /// Sets the flag of the peer to `value` if `on` is set.
 fn put(flags: &mut [bool; 8], peer: usize, on: bool, value: bool)
     requires { peer < 8 }
-    ensures { (p : ℕ) → slice_index_or flags.new p false ≡ (if on && (peer == p) then value else slice_index_or flags.old p false) }
+    ensures { (p : ℕ) →
+        slice_index_or flags.new p false ≡ (if on && (peer == p) then value else slice_index_or flags.old p false) }
 {
     if on {
         flags[peer] = value;
@@ -82,7 +83,8 @@ impl Before {
     /// Whether the act breaks the form. It is act number `count`, and `ends` are the ends in all
     /// acts.
     fn is_broken_by(&self, act: &Act, ends: &Ends, count: usize) -> bool
-        ensures { (before all : List acts.Act) → FlagsAre self.now before → AreEnds ends.now all → result ≡ breaks before act.now (drop count all) }
+        ensures { (before all : List acts.Act) → FlagsAre self.now before → AreEnds ends.now all →
+            result ≡ breaks before act.now (drop count all) }
     {
         match act {
             Act::Auto { .. } | Act::Storm { .. } => false,

@@ -3,7 +3,7 @@ use Rattle.std.specs.Prelude.{◌≡◌, ℕ, List, [], ◌∷◌, ◌++◌, cod
 use Rattle.std.specs.List.{flat_map, join_with_byte}
 use Rattle.hex.specs.Hex.{encode_lower}
 use Rattle.split_ring.specs.declared.ranges.FieldName.{FieldName}
-use Rattle.split_ring.specs.declared.ranges.FieldName.TheVariants.{AvailIndex, AvailEntry, DescAddress, DescLength, DescFlags, UsedIndex, UsedId}
+use Rattle.split_ring.specs.Names.{name_of}
 
 -- A line of a listing: one of the header's four sizes, the queue, the state of a peer, or the two
 -- indices of a section. A section's item is a frame with its position, entry, address and length,
@@ -20,16 +20,6 @@ pub data Line : Type 0 where
   Frame : (position entry address length : ℕ) (bytes : List ℕ) → Line
   Bad : (position : ℕ) (field : FieldName) (value : ℕ) → Line
   End : Line
-
--- A field by its name.
-abbrev pub name_of : FieldName → List ℕ
-name_of AvailIndex = codes "AvailIndex"
-name_of AvailEntry = codes "AvailEntry"
-name_of DescAddress = codes "DescAddress"
-name_of DescLength = codes "DescLength"
-name_of DescFlags = codes "DescFlags"
-name_of UsedIndex = codes "UsedIndex"
-name_of UsedId = codes "UsedId"
 
 -- The fields of a line.
 abbrev pub fields_of : Line → List (List ℕ)

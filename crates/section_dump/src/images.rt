@@ -50,7 +50,8 @@ impl Header {
     /// Returns the geometry of these sizes.
     pub fn geometry(&self) -> Result<Geometry, GeometryFault>
         ensures made { IfOk result (λ g. g ≡ shape_of self.now.peers self.now.table self.now.common self.now.out) }
-        ensures sizes { IfOk result (λ g. IsSomePages self.now.table × IsPages self.now.common × IsSomePages self.now.out × IsShape g) }
+        ensures sizes { IfOk result (λ g. IsSomePages self.now.table × IsPages self.now.common ×
+            IsSomePages self.now.out × IsShape g) }
         ensures fault { IfErr result (IsFirstFault self.now.peers self.now.table self.now.common self.now.out) }
     {
         Geometry::new(self.peers, self.table, self.common, self.out)

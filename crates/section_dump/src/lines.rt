@@ -1,7 +1,6 @@
 //! The lines of a listing. Each function appends one line.
 ghost use Rattle.std.specs.Prelude.{◌≡◌, ◌++◌, OnOk, length, string_bytes};
-ghost use Rattle.hex.specs.Hex.{encode_lower};
-ghost use Rattle.section_dump.specs.Lines.{line_of, name_of, Peers, Table, Common, Out, QueueSizes, NoQueue, State, Section, Frame, Bad, End};
+ghost use Rattle.section_dump.specs.Lines.{line_of, Peers, Table, Common, Out, QueueSizes, NoQueue, State, Section, Frame, Bad, End};
 
 use split_ring::FieldName;
 use std::alloc::{AllocError, Global};
@@ -85,7 +84,8 @@ pub fn put_frame(
     address: u32,
     frame: &[u8],
 ) -> Result<(), AllocError>
-    ensures { OnOk result (string_bytes text.new ≡ string_bytes text.old ++ line_of (Frame position entry address (length frame.now) frame.now)) }
+    ensures { OnOk result (string_bytes text.new ≡
+        string_bytes text.old ++ line_of (Frame position entry address (length frame.now) frame.now)) }
 {
     let length = frame.len();
     let digits = hex::encode(alloc, frame)?;
@@ -102,7 +102,7 @@ pub fn put_bad(
 ) -> Result<(), AllocError>
     ensures { OnOk result (string_bytes text.new ≡ string_bytes text.old ++ line_of (Bad position field value)) }
 {
-    let name = name_of(field);
+    let name = field.name();
     writeln!(text, "bad {position} {name} {value}")
 }
 
@@ -112,19 +112,4 @@ pub fn put_end(text: &mut String) -> Result<(), AllocError>
     ensures { OnOk result (string_bytes text.new ≡ string_bytes text.old ++ line_of End) }
 {
     writeln!(text, "end")
-}
-
-/// Returns the name of a field.
-fn name_of(field: FieldName) -> &'static str
-    ensures { result.now ≡ name_of field }
-{
-    match field {
-        FieldName::AvailIndex => "AvailIndex",
-        FieldName::AvailEntry => "AvailEntry",
-        FieldName::DescAddress => "DescAddress",
-        FieldName::DescLength => "DescLength",
-        FieldName::DescFlags => "DescFlags",
-        FieldName::UsedIndex => "UsedIndex",
-        FieldName::UsedId => "UsedId",
-    }
 }

@@ -106,7 +106,8 @@ fn put_queue(text: &mut String, queue: &Queue) -> Result<(), AllocError>
 /// Appends the states of the peers below `peers`.
 fn put_states(text: &mut String, image: &[u8], peers: u32) -> Result<(), AllocError>
     requires { HEADER_LEN + 4 * peers ≤ length image.now }
-    ensures { OnOk result (string_bytes text.new ≡ string_bytes text.old ++ text_of (state_lines (region_words image.now) peers)) }
+    ensures { OnOk result (string_bytes text.new ≡
+        string_bytes text.old ++ text_of (state_lines (region_words image.now) peers)) }
 {
     for peer in 0..peers {
         lines::put_state(text, peer, region_word(image, peer))?;

@@ -118,7 +118,8 @@ impl<'a> Ring<'a> {
     pub fn item(&self, position: u16) -> Result<Item, Refused>
         ensures accepted { IfOk result (λ item. IsAccepted self.now.queue (words_from self.now.image.now self.now.first)
             position item.entry item.address item.length) }
-        ensures refused { IfErr result (λ r. IsFirstRefused self.now.queue (words_from self.now.image.now self.now.first)
+        ensures refused { IfErr result
+            (λ r. IsFirstRefused self.now.queue (words_from self.now.image.now self.now.first)
             position r.field r.value) }
     {
         let entry = self.queue.check_entry(self.entry(position))?;

@@ -1,5 +1,6 @@
 -- Sizes that pass every test are the sizes of a region.
 use Rattle.std.proofs.Common.{◌≡◌, ℕ, ◌*◌, ◌/◌, ◌≤◌, ap, arith}
+use Rattle.section_map.specs.declared.limits.TheConstants.{LARGEST_REGION}
 use Rattle.section_map.specs.Geometry.{IsShape}
 use Rattle.section_map.specs.Faults.{IsPeerCount, IsPages, IsSomePages, byte_count, shape_of}
 
@@ -12,7 +13,7 @@ four_words peers out pages =
 
 pub IsShape-shape_of : (peers table common out : ℕ) →
     IsPeerCount peers → IsSomePages table → IsPages common → IsSomePages out → 4 * peers ≤ table →
-    byte_count peers table common out ≤ 16777216 → IsShape (shape_of peers table common out)
+    byte_count peers table common out ≤ LARGEST_REGION → IsShape (shape_of peers table common out)
 IsShape-shape_of peers table common out count pages common_pages out_pages states room = record {
   two_peers = count.0;
   most_peers = count.1;

@@ -49,7 +49,8 @@ impl Region {
     /// allocation fails.
     // claim each region: Every region has as many words as its geometry.
     pub fn new(alloc: Global, geometry: &Geometry) -> Result<Region, NoMemory>
-        ensures zero { IfOk result (λ r. r ≡ record { words = replicate (word_count geometry.now) 0; shape = geometry.now }) }
+        ensures zero { IfOk result
+            (λ r. r ≡ record { words = replicate (word_count geometry.now) 0; shape = geometry.now }) }
         ensures region { IfOk result IsRegion }
     {
         let words = vec![in alloc; 0; geometry.words() as usize]?;
@@ -84,7 +85,8 @@ impl Region {
         requires { peer < self.old.shape.peers }
         ensures allowed { OnOk result (MayWrite self.old.shape peer word) }
         ensures written { OnOk result (self.new ≡ record self.old { words = slice_set self.old.words word value }) }
-        ensures denied { IfErr result (λ e. (¬ MayWrite self.old.shape peer word) × (e ≡ record { peer = peer; word = word })) }
+        ensures denied { IfErr result (λ e. (¬ MayWrite self.old.shape peer word) ×
+            (e ≡ record { peer = peer; word = word })) }
         ensures unchanged { IfErr result (λ _. self.new ≡ self.old) }
         ensures region { IsRegion self.new }
     {

@@ -1,16 +1,15 @@
 -- The routes of a scenario's peers, and the key that is made of them.
-use Rattle.std.proofs.Common.{◌≡◌, ℕ, zero, suc, ◌+◌, ◌<◌, ◌≤◌, ◌==◌, nat_lt, Bool, true, false, ◌&&◌, List, [], ◌∷◌, ◌++◌, length, take, get_or, set, refl, sym, ap, ◌∙◌, subst, arith}
+use Rattle.std.proofs.Common.{◌≡◌, ℕ, ◌+◌, ◌<◌, ◌==◌, Bool, true, false, ◌&&◌, List, [], ◌∷◌, ◌++◌, length, take, get_or, set, refl, sym, ap, ◌∙◌, subst, arith}
 use Rattle.std.specs.Prelude.{if◌then◌else◌, not, slice_index_or}
-use Rattle.std.proofs.lemmas.Bool.Decides.{nat_tests}
 use Rattle.std.proofs.lemmas.Option.{slice_get_read}
 use Rattle.std.proofs.lemmas.List.{length-set, get_or-set_same, get_or-set_other, take_more, get_or_append_left, get_or-append-add}
 use Rattle.std.proofs.lemmas.Grind.{fold-append}
 use mathlib.Core.Logic.{dite}
 use native.Mathlib.Decide.{ℕ_discrete, dec_lt}
-use Rattle.pci_space.specs.Fields.{is_access}
 use Rattle.scenario_text.specs.declared.acts.Act.{Act}
 use Rattle.scenario_text.specs.declared.acts.Act.TheVariants as act
-use Rattle.scenario_text.specs.Scenario.{World, IsWorld, IsAllowed, is_aligned, is_hostile, is_peer}
+use Rattle.scenario_text.specs.Scenario.{World, IsWorld, IsAllowed, is_hostile, is_peer}
+use Rattle.scenario_text.proofs.ActNumbers.{peer_below, within}
 use Rattle.doorbell_irq.specs.declared.route.Route.{Route}
 use Rattle.doorbell_irq.specs.Events.{Event}
 use Rattle.doorbell_irq.specs.Routes.{IsRoute}
@@ -30,17 +29,6 @@ pub events_snoc : (acts : List Act) (a : Act) → events_of (acts ++ a ∷ []) �
 unfolding events_of
 events_snoc acts a = fold-append (λ (events : List Event) (x : Act). events_in x ++ events) [] acts (a ∷ [])
 
-below : (p peers : ℕ) → nat_lt p peers ≡ true → p < peers
-below p peers is = grind (arith, nat_tests)
-
-within : (offset width : ℕ) → is_aligned offset width ≡ true → offset ≤ 255 → 1 ≤ width → width ≤ 4 → is_access 256 offset width ≡ true
-within offset zero is small least most = absurd (omega arith)
-within offset (suc zero) is small least most = grind (arith, nat_tests)
-within offset (suc (suc zero)) is small least most = grind (arith, nat_tests)
-within offset (suc (suc (suc zero))) is small least most = absurd (let e : false ≡ true = is in cc)
-within offset (suc (suc (suc (suc zero)))) is small least most = grind (arith, nat_tests)
-within offset (suc (suc (suc (suc (suc more))))) is small least most = absurd (omega arith)
-
 first_true : (a b : Bool) → (a && b) ≡ true → a ≡ true
 first_true true b is = refl
 first_true false b is = absurd (cc)
@@ -50,9 +38,9 @@ its_peer w p true is = first_true (is_peer w p) (not (slice_index_or w.honest p 
 its_peer w p false is = is
 
 may_set : (w : World) (before : List Act) (a : Act) → IsAllowed w before a → MaySet w.geometry.peers a
-may_set w before (act.CfgWrite p offset width value) is = (below p w.geometry.peers is.peer, within offset width is.range is.values.2.1 is.values.2.2.0 is.values.2.2.1)
-may_set w before (act.MmioWrite p offset value) is = below p w.geometry.peers (its_peer w p (offset == 16) is.peer)
-may_set w before (act.MsixWrite p offset value) is = below p w.geometry.peers is.peer
+may_set w before (act.CfgWrite p offset width value) is = (peer_below p w.geometry.peers is.peer, within offset width is.range is.values.2.1 is.values.2.2.0 is.values.2.2.1)
+may_set w before (act.MmioWrite p offset value) is = peer_below p w.geometry.peers (its_peer w p (offset == 16) is.peer)
+may_set w before (act.MsixWrite p offset value) is = peer_below p w.geometry.peers is.peer
 may_set w before a is = tt
 
 pub sets_at : (w : World) (i : ℕ) (a : Act) → IsWorld w → i < length w.acts → a ≡ get_or w.acts i a → MaySet w.geometry.peers a

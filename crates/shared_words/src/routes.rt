@@ -13,7 +13,8 @@ use scenario_text::{Act, Scenario};
 /// Does what an act says to the devices.
 fn set(device: &mut Device, act: &Act)
     requires { MaySet (peer_count device.old) act.now }
-    ensures refines { (w : Devices) (events : List Event) → Refines w events device.old → Refines w (events_in act.now ++ events) device.new }
+    ensures refines { (w : Devices) (events : List Event) → Refines w events device.old →
+        Refines w (events_in act.now ++ events) device.new }
     ensures peers { peer_count device.new ≡ peer_count device.old }
 {
     match act {

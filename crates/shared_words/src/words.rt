@@ -111,7 +111,8 @@ pub fn split_pass(words: &Words, pass: &mut Pass, from: u32) -> Pass
 /// Adds the peers and lists of the other pass.
 pub fn join_pass(words: &Words, pass: &mut Pass, other: Pass)
     requires own { IsPassOf words.now.shared.table_id words.now.shared.key pass.old }
-    requires of { IsPassOf words.now.shared.table_id words.now.shared.key other × (other.from ≡ pass.old.from + length pass.old.lists) }
+    requires of { IsPassOf words.now.shared.table_id words.now.shared.key other ×
+        (other.from ≡ pass.old.from + length pass.old.lists) }
     ensures { pass.new ≡ join_passes pass.old other }
 {
     let Pass { seat } = other;

@@ -5,6 +5,7 @@ use Rattle.std.proofs.lemmas.Bool.Decides.{nat_tests}
 use Rattle.std.proofs.lemmas.Option.{MatchOption-at_some}
 use mathlib.Core.Logic.{dite}
 use native.Mathlib.Decide.{ℕ_discrete}
+use Rattle.split_ring.specs.declared.sizes.TheConstants.{LEAST_QUEUE, MOST_QUEUE}
 use Rattle.split_ring.specs.Layout.{rings_len, queue_sizes, queue_size, Fits, IsQueueSize, QueueSizeIsGreatest}
 
 -- m is in the list.
@@ -102,7 +103,7 @@ pub queue_size_lem : QueueSizeIsGreatest
 unfolding queue_size
 queue_size_lem out = is_queue_size out (find (λ n. nat_lt (8 * rings_len n) out) queue_sizes) (find_greatest (λ n. nat_lt (8 * rings_len n) out) queue_sizes sizes_descend)
 
-size_range : (m : ℕ) → Among m queue_sizes → (64 ≤ m) × (m ≤ 4096)
+size_range : (m : ℕ) → Among m queue_sizes → (LEAST_QUEUE ≤ m) × (m ≤ MOST_QUEUE)
 size_range m a = (grind arith, grind arith)
 
 size_whole : (m : ℕ) → Among m queue_sizes → m % 64 ≡ 0
@@ -132,8 +133,8 @@ size_turns m a = elim a [
 -- A queue size that was found fits, and is one of the powers of two.
 pub record IsFound (out n : ℕ) : Type 0 where
   pub fits : Fits out n
-  pub least : 64 ≤ n
-  pub most : n ≤ 4096
+  pub least : LEAST_QUEUE ≤ n
+  pub most : n ≤ MOST_QUEUE
   pub whole : n % 64 ≡ 0
   pub turns : 65536 % n ≡ 0
 

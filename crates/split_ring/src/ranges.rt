@@ -1,6 +1,7 @@
 //! The ranges of the fields that the other peer writes.
-ghost use Rattle.std.specs.Prelude.{◌≡◌, ◌↔◌, IsTrue, IfOk, IfErr, OnOk};
+ghost use Rattle.std.specs.Prelude.{◌≡◌, ◌≤◌, IfOk, IfErr, OnOk, length};
 ghost use Rattle.ivs_base.specs.Numbers.{distance};
+ghost use Rattle.split_ring.specs.Names.{name_of};
 ghost use Rattle.split_ring.specs.Ranges.{IsAvailIndex, IsAvailEntry, IsDescAddress, IsDescLength, IsDescFlags, IsUsedIndex, IsUsedId, TestsDecideRanges, needs_event};
 
 use crate::Queue;
@@ -25,6 +26,25 @@ pub enum FieldName {
     UsedIndex,
     /// The id of a used element.
     UsedId,
+}
+
+impl FieldName {
+    /// Returns the field's name in texts.
+    // claim name, short: Each field has one name in texts, of at most 11 bytes.
+    pub fn name(self) -> &'static str
+        ensures name { result.now ≡ name_of self }
+        ensures short { length result.now ≤ 11 }
+    {
+        match self {
+            FieldName::AvailIndex => "AvailIndex",
+            FieldName::AvailEntry => "AvailEntry",
+            FieldName::DescAddress => "DescAddress",
+            FieldName::DescLength => "DescLength",
+            FieldName::DescFlags => "DescFlags",
+            FieldName::UsedIndex => "UsedIndex",
+            FieldName::UsedId => "UsedId",
+        }
+    }
 }
 
 /// A refused value: its field, and the value as it was read.

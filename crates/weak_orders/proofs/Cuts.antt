@@ -1,5 +1,5 @@
 -- The invariant at a consistent cut: one moment of each end.
-use Rattle.std.proofs.Common.{◌≡◌, ◌≢◌, ℕ, zero, suc, ◌+◌, ◌-◌, ◌<◌, ◌≤◌, ◌⊎◌, inl, inr, ⊎_elim, Bool, true, false, List, length, refl, sym, ap, ◌∙◌, subst, arith, eq-eqb, ne_eqb}
+use Rattle.std.proofs.Common.{◌≡◌, ◌≢◌, ℕ, zero, suc, ◌+◌, ◌-◌, ◌<◌, ◌≤◌, ◌⊎◌, inl, inr, ⊎_elim, Bool, true, false, refl, sym, ap, ◌∙◌, arith, eq-eqb, ne_eqb}
 use mathlib.Core.Logic.{dite}
 use native.Mathlib.Decide.{ℕ_discrete}
 use Rattle.std.specs.Prelude.{◌==◌, nat_le, nat_lt, ◌&&◌, ◌||◌, if◌then◌else◌}
@@ -7,21 +7,19 @@ use Rattle.std.proofs.lemmas.Bool.Decides.{nat_tests}
 use Rattle.split_ring.specs.declared.steps.Access.{Access}
 use Rattle.split_ring.specs.declared.steps.Access.TheVariants as access
 use Rattle.call_grammar.specs.Ends.{End, end_after, after_reset}
-use Rattle.call_grammar.specs.Calls.{Call, Tick, Stop, Offer, Poll, in_run, pending_of}
-use Rattle.call_grammar.specs.Polls.{is_last}
-use Rattle.call_grammar.specs.Places.{Place, Closed, WritingState, Refusing, NotInRun, ReadingOtherState, ReadingUsedIndex, ReadingAvailIndex, first_place, access_at, next_place, step_at, is_open}
+use Rattle.call_grammar.specs.Calls.{Call}
+use Rattle.call_grammar.specs.Places.{Place, Closed, Refusing, first_place, access_at, next_place, step_at, is_open}
 use Rattle.call_grammar.proofs.OfferLists.{yes, no}
-use Rattle.link_invariant.specs.Fields.{Field}
-use Rattle.link_invariant.specs.LinkConfig.{LinkConfig, IsLinkConfig, section_of, config_of, fields, IsGivenTo}
+use Rattle.link_invariant.specs.LinkConfig.{LinkConfig, IsLinkConfig, section_of, config_of, IsGivenTo}
 use Rattle.link_invariant.specs.Steps.{Stored, IsUntouched, ReadsMemory, MemoryAfter}
 use Rattle.link_invariant.specs.EndInvariant.{EndInvariant}
-use Rattle.link_invariant.specs.Pair.{freed_at, Polls, InFlight, IsAttached}
+use Rattle.link_invariant.specs.Pair.{Polls}
 use Rattle.link_invariant.proofs.Fields.{fields_same}
 use Rattle.link_invariant.proofs.EndObligations.{sent_same}
 use Rattle.link_invariant.proofs.EndInvariantKept.{alone_kept}
-use Rattle.link_invariant.proofs.PairObligations.{Before, Leads, link_same, takes_on}
-use Rattle.link_invariant.proofs.PairKept.{leads, untouched, by_state}
-use Rattle.link_invariant.proofs.HandshakeOfPair.{leads_reset, set_apart}
+use Rattle.link_invariant.proofs.PairObligations.{Before, Leads, link_same}
+use Rattle.link_invariant.proofs.PairKept.{leads, untouched, by_state, first_leads}
+use Rattle.link_invariant.proofs.HandshakeOfPair.{leads_reset}
 use Rattle.weak_orders.specs.Memory.{is_own, seen}
 
 -- The words that an end finds
@@ -207,28 +205,6 @@ module _ (link_config : LinkConfig) (is : IsLinkConfig link_config) (p : ℕ) (p
       (leads_reset link_config m after p end u w place is p2 l c.before) c
 
 -- A call begins
-
-enters : (link_config : LinkConfig) (memory : ℕ → ℕ) (p : ℕ) (end u : End) (w : Place) (next : Place) → next ≢ Refusing → next ≢ WritingState 3 → next ≢ WritingState 1 → freed_at end.freed next ≡ end.freed → ((field : Field → ℕ) (frames : List (List ℕ)) → Polls link_config field frames next) → Before link_config memory p end Closed u w → Leads link_config memory p u w end next
-enters link_config memory p end u w next calm three one read polls b = record {
-  sound = (b.mark, calm);
-  from = λ a. b.from (earlier a);
-  back = λ a. ((b.back a).0, one);
-  faces = λ a. let f = b.faces (⊎_elim (λ x. inl (earlier x)) inr a) in record { mine = f.mine; theirs = f.theirs; sends = subst (λ k. InFlight link_config (fields link_config memory (1 - p)) end.accepted end.freed k u.delivered u.returned w) (sym read) f.sends; takes = takes_on next (λ k. refl) (polls (fields link_config memory p) u.accepted) f.takes };
-}
-  where
-    earlier : IsAttached end next → IsAttached end Closed
-    earlier (inl e) = inl e
-    earlier (inr h) = absurd (three h.1)
-
-either : (link_config : LinkConfig) (memory : ℕ → ℕ) (p : ℕ) (end u : End) (w : Place) (b : Bool) (x : Place) → Leads link_config memory p u w end x → Leads link_config memory p u w end NotInRun → Leads link_config memory p u w end (if b then x else NotInRun)
-either link_config memory p end u w true x h g = h
-either link_config memory p end u w false x h g = g
-
-first_leads : (link_config : LinkConfig) (memory : ℕ → ℕ) (p : ℕ) (end u : End) (w : Place) (call : Call) → Before link_config memory p end Closed u w → Leads link_config memory p u w end (first_place (config_of link_config p) end call)
-first_leads link_config memory p end u w Tick b = enters link_config memory p end u w (ReadingOtherState end.handshake) (λ e. cc) (λ e. cc) (λ e. cc) refl (λ f fs. tt) b
-first_leads link_config memory p end u w Stop b = enters link_config memory p end u w (WritingState 0) (λ e. cc) (set_apart refl (λ e. omega arith)) (set_apart refl (λ e. omega arith)) refl (λ f fs. tt) b
-first_leads link_config memory p end u w (Offer frame) b = either link_config memory p end u w (in_run end.handshake.phase) (ReadingUsedIndex (pending_of (config_of link_config p) end frame) end.freed) (enters link_config memory p end u w _ (λ e. cc) (λ e. cc) (λ e. cc) refl (λ f fs. tt) b) (enters link_config memory p end u w NotInRun (λ e. cc) (λ e. cc) (λ e. cc) refl (λ f fs. tt) b)
-first_leads link_config memory p end u w Poll b = either link_config memory p end u w (in_run end.handshake.phase) (ReadingAvailIndex (length end.delivered) (is_last (config_of link_config p) end.found_none)) (enters link_config memory p end u w _ (λ e. cc) (λ e. cc) (λ e. cc) refl (λ f fs. tt) b) (enters link_config memory p end u w NotInRun (λ e. cc) (λ e. cc) (λ e. cc) refl (λ f fs. tt) b)
 
 pub begin_cut : (link_config : LinkConfig) (is : IsLinkConfig link_config) (p : ℕ) (p2 : p < 2) {x y : ℕ → ℕ} {end : End} {u : End} {w : Place} (call : Call) → IsGivenTo link_config call → Cut link_config p x end Closed y u w → Cut link_config p x end (first_place (config_of link_config p) end call) y u w
 begin_cut link_config is p p2 {x} {y} {end} {u} {w} call given c = let m = seen link_config p x y in let l = first_leads link_config m p end u w call c.before in record {

@@ -256,6 +256,7 @@ impl Endpoint {
     /// an offer or a poll outside RUN.
     // claim access, reach, nothing: The next access is that of the place, and permitted whatever
     //    was read. It is none exactly if the call is down.
+    #[inline(always)]
     pub fn next(&self) -> Access
         requires { is_busy self.now ≡ true }
         ensures access { AtEachEnd self.now (λ config _ place. result ≡ places.access_at config place) }
@@ -306,6 +307,7 @@ impl Endpoint {
     }
 
     /// Equivalent to `took`, but puts the notes into the caller's list `notes`.
+    #[inline(always)]
     pub fn took_into(&mut self, value: u32, notes: &mut Notes)
         requires open { is_busy self.old ≡ true }
         requires empty { notes.old.items ≡ [] }

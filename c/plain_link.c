@@ -46,20 +46,20 @@ static uint32_t up64(uint32_t value) { return (value + 63) / 64 * 64; }
 
 static uint32_t used_start(uint32_t n) { return up64(18 * n + 6); }
 
-static uint32_t ring_part(uint32_t n) { return up64(used_start(n) + 6 + 8 * n); }
+static uint32_t rings_len(uint32_t n) { return up64(used_start(n) + 6 + 8 * n); }
 
 static bool lay_out(struct layout *l, const struct driver_config *c)
 {
     uint32_t n = MOST_QUEUE, out = (uint32_t)c->out;
 
-    while (n >= LEAST_QUEUE && 8 * ring_part(n) >= out)
+    while (n >= LEAST_QUEUE && 8 * rings_len(n) >= out)
         n /= 2;
     if (n < LEAST_QUEUE)
         return false;
     l->words = out / 4;
     l->size = n;
     l->slot = up64(c->mtu + 18);
-    l->data = ring_part(n);
+    l->data = rings_len(n);
     l->limit = (out - l->data) / l->slot;
     if (l->limit > n)
         l->limit = n;

@@ -14,7 +14,7 @@ def up64(value):
     return (value + 63) // 64 * 64
 
 
-def ring_part(size):
+def rings_len(size):
     return up64(up64(18 * size + 6) + 6 + 8 * size)
 
 
@@ -25,14 +25,14 @@ class Layout:
 
     def __init__(self, out):
         size = 4096
-        while size >= 64 and 8 * ring_part(size) >= out:
+        while size >= 64 and 8 * rings_len(size) >= out:
             size //= 2
         if size < 64:
             raise NoWord("no queue fits `out`, so no word has a name")
         self.size = size
         self.available = 4 * size
         self.used = up64(18 * size + 6) // 4
-        self.data = ring_part(size)
+        self.data = rings_len(size)
         self.words = out // 4
 
     def fixed(self):

@@ -68,7 +68,7 @@ static void write_counts(struct bridge *b, FILE *to) {
     fprintf(to, "\n");
 }
 
-static void tell(struct bridge *b) {
+static void save_counts(struct bridge *b) {
     asked = 0;
     FILE *file = fopen("/tmp/counts.new", "w");
     if (!file) return;
@@ -196,7 +196,7 @@ static void rest(struct bridge *b) {
 static void run(struct bridge *b) {
     while (!over) {
         double time = now();
-        if (asked) tell(b);
+        if (asked) save_counts(b);
         if (time - b->ticked > tick_time) tick(b, time);
         bool moved = receive(b);
         if (b->state != IVSHM_RUN) b->waiting = 0;

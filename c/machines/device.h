@@ -95,7 +95,7 @@ static inline struct devices find_devices(void) {
  * combine writes, and so break their order. */
 static inline struct bar open_bar(const char *device) {
     char path[512];
-    struct stat told;
+    struct stat status;
     /* lets the device decode its addresses, which no driver did */
     snprintf(path, sizeof path, "%s/enable", device);
     int enable = open(path, O_WRONLY);
@@ -105,8 +105,8 @@ static inline struct bar open_bar(const char *device) {
     }
     snprintf(path, sizeof path, "%s/resource2", device);
     struct bar bar = {.file = open(path, O_RDWR)};
-    if (bar.file < 0 || fstat(bar.file, &told)) fail(path);
-    bar.size = (size_t)told.st_size;
+    if (bar.file < 0 || fstat(bar.file, &status)) fail(path);
+    bar.size = (size_t)status.st_size;
     return bar;
 }
 

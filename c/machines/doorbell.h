@@ -33,9 +33,9 @@ static inline int open_vfio(const char *path) {
 }
 
 static inline struct bar vfio_bar(int device, uint32_t index) {
-    struct vfio_region_info told = {.argsz = sizeof told, .index = index};
-    if (ioctl(device, VFIO_DEVICE_GET_REGION_INFO, &told)) fail("VFIO_DEVICE_GET_REGION_INFO");
-    return (struct bar){.file = device, .start = (off_t)told.offset, .size = told.size};
+    struct vfio_region_info info = {.argsz = sizeof info, .index = index};
+    if (ioctl(device, VFIO_DEVICE_GET_REGION_INFO, &info)) fail("VFIO_DEVICE_GET_REGION_INFO");
+    return (struct bar){.file = device, .start = (off_t)info.offset, .size = info.size};
 }
 
 /* vfio-pci switches bus mastering off when it opens the device. Without it no MSI-X message is

@@ -27,6 +27,6 @@ finishing : (finished : Bool) (a b : Choice) → a ≡ b → (if finished then I
 finishing true a b same = refl
 finishing false a b same = same
 
-pub rounds_lem : RoundsKeepTheRule
-rounds_lem phase before [] delivered expected = finishing (nat_le expected delivered) _ _ (in_phase_by phase (is_anew before) (was_offer before) [])
-rounds_lem phase before (frame ∷ frames) delivered expected = in_phase_by phase (is_anew before) (was_offer before) (frame ∷ frames)
+pub rounds_keep_the_rule : RoundsKeepTheRule
+rounds_keep_the_rule phase before [] delivered expected = finishing (nat_le expected delivered) _ _ (in_phase_by phase (is_anew before) (was_offer before) [])
+rounds_keep_the_rule phase before (frame ∷ frames) delivered expected = in_phase_by phase (is_anew before) (was_offer before) (frame ∷ frames)

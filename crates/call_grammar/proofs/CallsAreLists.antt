@@ -32,22 +32,22 @@ from_phase Init tree Runs steps made is = subst (λ (list : List Step). Makes do
 from_phase Ready tree Runs steps made is = subst (λ (list : List Step). Makes down list) (sym is) (refl, refl)
 from_phase Run tree Runs steps made is = made is
 
-listed_lem : (config : EndConfig) (end : End) (call : Call) (steps : List Step) → Makes (tree_of config end call) steps → IsCall config end call steps
-listed_lem config end Tick [] makes = absurd makes
-listed_lem config end Tick (step ∷ steps) makes = (makes.0, tick_listed config makes.0 (move_of end.handshake makes.0) step steps makes.1 makes.2)
-listed_lem config end Stop steps makes = set_listed 0 steps makes
-listed_lem config end (Offer frame) steps makes = by_phase end.handshake.phase (offer config (pending_of config end frame) end.freed) (IsOffer config (pending_of config end frame) end.freed steps) steps (offer_listed config (pending_of config end frame) end.freed steps) makes
-listed_lem config end Poll steps makes = by_phase end.handshake.phase (poll config (length end.delivered) (is_last config end.found_none)) (IsPoll config (length end.delivered) (is_last config end.found_none) steps) steps (poll_listed config (length end.delivered) (is_last config end.found_none) steps) makes
+made_is_call : (config : EndConfig) (end : End) (call : Call) (steps : List Step) → Makes (tree_of config end call) steps → IsCall config end call steps
+made_is_call config end Tick [] makes = absurd makes
+made_is_call config end Tick (step ∷ steps) makes = (makes.0, tick_listed config makes.0 (move_of end.handshake makes.0) step steps makes.1 makes.2)
+made_is_call config end Stop steps makes = set_listed 0 steps makes
+made_is_call config end (Offer frame) steps makes = by_phase end.handshake.phase (offer config (pending_of config end frame) end.freed) (IsOffer config (pending_of config end frame) end.freed steps) steps (offer_listed config (pending_of config end frame) end.freed steps) makes
+made_is_call config end Poll steps makes = by_phase end.handshake.phase (poll config (length end.delivered) (is_last config end.found_none)) (IsPoll config (length end.delivered) (is_last config end.found_none) steps) steps (poll_listed config (length end.delivered) (is_last config end.found_none) steps) makes
 
-made_lem : (config : EndConfig) (end : End) (call : Call) (steps : List Step) → IsCall config end call steps → Makes (tree_of config end call) steps
-made_lem config end Tick steps is =
+call_is_made : (config : EndConfig) (end : End) (call : Call) (steps : List Step) → IsCall config end call steps → Makes (tree_of config end call) steps
+call_is_made config end Tick steps is =
     subst (λ (list : List Step). Makes (tree_of config end Tick) list) (sym is.1) (tick_made config end is.0 (tick_steps config is.0 (move_of end.handshake is.0)) (ticks_by config is.0 (move_of end.handshake is.0)))
-made_lem config end Stop steps is = subst (λ (list : List Step). Makes (set_state 0) list) (sym is) (refl, refl)
-made_lem config end (Offer frame) steps is = from_phase end.handshake.phase (offer config (pending_of config end frame) end.freed) (IsOffer config (pending_of config end frame) end.freed steps) steps (offer_made config (pending_of config end frame) end.freed steps) is
-made_lem config end Poll steps is = from_phase end.handshake.phase (poll config (length end.delivered) (is_last config end.found_none)) (IsPoll config (length end.delivered) (is_last config end.found_none) steps) steps (poll_made config (length end.delivered) (is_last config end.found_none) steps) is
+call_is_made config end Stop steps is = subst (λ (list : List Step). Makes (set_state 0) list) (sym is) (refl, refl)
+call_is_made config end (Offer frame) steps is = from_phase end.handshake.phase (offer config (pending_of config end frame) end.freed) (IsOffer config (pending_of config end frame) end.freed steps) steps (offer_made config (pending_of config end frame) end.freed steps) is
+call_is_made config end Poll steps is = from_phase end.handshake.phase (poll config (length end.delivered) (is_last config end.found_none)) (IsPoll config (length end.delivered) (is_last config end.found_none) steps) steps (poll_made config (length end.delivered) (is_last config end.found_none) steps) is
 
 pub lists : CallsAreLists
-lists = record { listed = listed_lem; made = made_lem }
+lists = record { listed = made_is_call; made = call_is_made }
 
 -- Either of two calls has a step.
 either_steps : (b : Bool) (tree other : CallTree) → tree ≢ Ended → other ≢ Ended → (if b then tree else other) ≢ Ended

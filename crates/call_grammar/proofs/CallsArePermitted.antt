@@ -4,8 +4,8 @@ use Rattle.std.specs.Prelude.{◌==◌, if◌then◌else◌}
 use Rattle.std.proofs.lemmas.Nat.{mod_below}
 use Rattle.split_ring.specs.Layout.{Field, DescAddress, DescLength, DescFlags, AvailIndex, AvailEntry, UsedIndex, UsedId, UsedLength, AvailEvent, IsField, has_events, size_of, limit_of, width_of, word_offset}
 use Rattle.split_ring.specs.Spelling.{low_half, entry_half, high_half, desc_flags}
-use Rattle.split_ring.proofs.Bounds.{bounds}
-use Rattle.split_ring.proofs.Places.{places_lem}
+use Rattle.split_ring.proofs.QueueHasBounds.{bounds}
+use Rattle.split_ring.proofs.QueuesAreLaidOut.{queues_are_laid_out}
 use Rattle.std.proofs.lemmas.List.Elements.{All-nil, All-cons}
 use Rattle.link_handshake.specs.HandshakeState.{move_of}
 use Rattle.link_handshake.specs.declared.Move.{Move}
@@ -13,7 +13,7 @@ use Rattle.link_handshake.specs.declared.Move.TheVariants.{Stay, Set, ClearThenS
 use Rattle.split_ring.specs.declared.steps.Access.{Access}
 use Rattle.split_ring.specs.declared.steps.Access.TheVariants as access
 use Rattle.split_ring.specs.Ranges.{is_avail_entry, is_desc_address, is_desc_length, is_desc_flags, is_used_index, is_used_id, is_avail_index}
-use Rattle.split_ring.proofs.Tests.{entry_of_test, address_of_test, length_of_test}
+use Rattle.split_ring.proofs.TestsDecideRanges.{entry_of_test, address_of_test, length_of_test}
 use Rattle.call_grammar.specs.Steps.{Step}
 use Rattle.call_grammar.specs.Trees.{CallTree, Ended, Does, Reads, Goes, GoesAlong}
 use Rattle.call_grammar.specs.Ends.{End}
@@ -37,7 +37,7 @@ after_tick_stays config (ClearThenSet state) = clear_stays config config.own con
 -- The words of a field are in the section
 
 within : (config : EndConfig) → HasSections config → (f : Field) (more : ℕ) → IsField config.sizes f → 4 * more < width_of config.sizes f → word_offset config.sizes f + more < config.words
-within config has f more is room = let inside = (places_lem config.sizes has.queue).inside f is in let words = has.words in omega arith
+within config has f more is room = let inside = (queues_are_laid_out config.sizes has.queue).inside f is in let words = has.words in omega arith
 
 own_word : (config : EndConfig) → HasSections config → (f : Field) (more : ℕ) → IsField config.sizes f → 4 * more < width_of config.sizes f → MayStore config (config.own + word_offset config.sizes f + more)
 own_word config has f more is room = let low = within config has f more is room in (omega arith, omega arith)
@@ -45,10 +45,10 @@ own_word config has f more is room = let low = within config has f more is room 
 first_own : (config : EndConfig) → HasSections config → (f : Field) → IsField config.sizes f → 0 < width_of config.sizes f → MayStore config (config.own + word_offset config.sizes f)
 first_own config has f is room = let low = within config has f 0 is (omega arith) in (omega arith, omega arith)
 
-their_word : (config : EndConfig) → HasSections config → (f : Field) (more : ℕ) → IsField config.sizes f → 4 * more < width_of config.sizes f → MayRead config (config.theirs + word_offset config.sizes f + more)
+their_word : (config : EndConfig) → HasSections config → (f : Field) (more : ℕ) → IsField config.sizes f → 4 * more < width_of config.sizes f → MayRead config (config.other_start + word_offset config.sizes f + more)
 their_word config has f more is room = let low = within config has f more is room in inr (omega arith, omega arith)
 
-first_their : (config : EndConfig) → HasSections config → (f : Field) → IsField config.sizes f → 0 < width_of config.sizes f → MayRead config (config.theirs + word_offset config.sizes f)
+first_their : (config : EndConfig) → HasSections config → (f : Field) → IsField config.sizes f → 0 < width_of config.sizes f → MayRead config (config.other_start + word_offset config.sizes f)
 first_their config has f is room = let low = within config has f 0 is (omega arith) in inr (omega arith, omega arith)
 
 in_ring : (config : EndConfig) → HasSections config → (number : ℕ) → avail_entry_of config number < size_of config.sizes
@@ -65,8 +65,8 @@ choice : (config : EndConfig) (b : Bool) (t u : CallTree) → (b ≡ true → Is
 choice config true t u first second = first refl
 choice config false t u first second = second
 
-tell_stays : (config : EndConfig) → HasSections config → (number : ℕ) → IsPermittedTree config (notify config number)
-tell_stays config has number = choice config (has_events config.sizes) (read_avail_event config number) (ring_doorbell config) (λ _. (
+notify_is_permitted : (config : EndConfig) → HasSections config → (number : ℕ) → IsPermittedTree config (notify config number)
+notify_is_permitted config has number = choice config (has_events config.sizes) (read_avail_event config number) (ring_doorbell config) (λ _. (
   first_their config has AvailEvent tt (omega arith),
   λ value. choice config (wants_doorbell (low_half value) number) (ring_doorbell config) Ended (λ _. (refl, tt)) tt,
 )) (refl, tt)
@@ -82,7 +82,7 @@ fill_stays config has pending at zero room = let i = in_table config has pending
         first_own config has (DescFlags (descriptor_of config pending.number)) i (omega arith),
         (
           first_own config has (AvailEntry (avail_entry_of config pending.number)) (in_ring config has pending.number) (omega arith),
-          (first_own config has AvailIndex tt (omega arith), tell_stays config has pending.number),
+          (first_own config has AvailIndex tt (omega arith), notify_is_permitted config has pending.number),
         ),
       ),
     ),

@@ -8,7 +8,7 @@ use Rattle.link_handshake.specs.declared.Phase.{Phase}
 use Rattle.link_handshake.specs.HandshakeState.{move_of}
 use Rattle.link_handshake.specs.declared.Move.{Move}
 use Rattle.link_handshake.specs.declared.Move.TheVariants.{Stay, Set, ClearThenSet}
-use Rattle.link_handshake.specs.PhaseTable.{move_on}
+use Rattle.link_handshake.specs.PhaseTable.{phase_move}
 use Rattle.split_ring.specs.declared.steps.Access.{Access}
 use Rattle.split_ring.specs.declared.steps.Access.TheVariants as access
 use Rattle.split_ring.specs.Ranges.{is_avail_entry, is_desc_address, is_desc_length, is_desc_flags, is_used_id, is_avail_index, is_used_index}
@@ -28,14 +28,14 @@ IsMove phase value Stay = Unit {0}
 IsMove phase value (Set state) = MovesTo phase value state
 IsMove phase value (ClearThenSet state) = MovesTo phase value state
 
-table_moves : (phase : Phase) (value : ℕ) (move : Move) → move_on phase value ≡ move → IsMove phase value move
+table_moves : (phase : Phase) (value : ℕ) (move : Move) → phase_move phase value ≡ move → IsMove phase value move
 table_moves phase value Stay is = tt
 table_moves phase value (Set state) is = inl is
 table_moves phase value (ClearThenSet state) is = inr is
 
-move_moves : (phase : Phase) (value : ℕ) (refused : Bool) → IsMove phase value (if refused then Stay else move_on phase value)
+move_moves : (phase : Phase) (value : ℕ) (refused : Bool) → IsMove phase value (if refused then Stay else phase_move phase value)
 move_moves phase value true = tt
-move_moves phase value false = table_moves phase value (move_on phase value) refl
+move_moves phase value false = table_moves phase value (phase_move phase value) refl
 
 clear_keeps : (config : EndConfig) (phase : Phase) (seen at more state : ℕ) → MovesTo phase seen state → KeepsRows config phase seen (clear at more (set_state state))
 clear_keeps config phase seen at zero state moves = ((inr moves, tt), tt)
@@ -63,26 +63,26 @@ back_off config phase seen = ((inl refl, tt), tt)
 full_sees : (config : EndConfig) (word value : ℕ) (pending : PendingOffer) (freed : ℕ) → SeesTheOther config word value (full_marks config pending freed)
 full_sees config word value pending freed = blind config word value (frame_fits config pending freed) [] (Full ∷ []) tt tt
 
-tell_keeps : (config : EndConfig) (phase : Phase) (seen number : ℕ) → KeepsRows config phase seen (notify config number)
-tell_keeps config phase seen number = either config phase seen (has_events config.sizes) (read_avail_event config number) (ring_doorbell config) (λ value. (
+notify_keeps_rows : (config : EndConfig) (phase : Phase) (seen number : ℕ) → KeepsRows config phase seen (notify config number)
+notify_keeps_rows config phase seen number = either config phase seen (has_events config.sizes) (read_avail_event config number) (ring_doorbell config) (λ value. (
   blind config _ value (wants_doorbell (low_half value) number) [] (Over ∷ []) tt tt,
   either config phase _ (wants_doorbell (low_half value) number) (ring_doorbell config) Ended (tt, tt) tt,
 )) (tt, tt)
 
 fill_keeps : (config : EndConfig) (phase : Phase) (seen : ℕ) (pending : PendingOffer) (at more : ℕ) → KeepsRows config phase seen (write_frame_words config pending at more)
-fill_keeps config phase seen pending at zero = (tt, (tt, (tt, (tt, (tt, (tt, tell_keeps config phase seen pending.number))))))
+fill_keeps config phase seen pending at zero = (tt, (tt, (tt, (tt, (tt, (tt, notify_keeps_rows config phase seen pending.number))))))
 fill_keeps config phase seen pending at (suc more) = (tt, fill_keeps config phase seen pending (at + 1) more)
 
 ids_keep : (config : EndConfig) (phase : Phase) (pending : PendingOffer) (freed more seen : ℕ) → KeepsRows config phase seen (read_used_ids config pending freed more)
 ids_keep config phase pending freed zero seen = either config phase seen (frame_fits config pending freed) (write_frame_words config pending 0 (words_for (length pending.frame))) Ended (fill_keeps config phase seen pending 0 (words_for (length pending.frame))) tt
-ids_keep config phase pending freed (suc more) seen = λ value. let word = config.theirs + word_offset config.sizes (UsedId (avail_entry_of config freed)) in (
+ids_keep config phase pending freed (suc more) seen = λ value. let word = config.other_start + word_offset config.sizes (UsedId (avail_entry_of config freed)) in (
   blind config word value (is_used_id (descriptor_of config freed) value) (if more == 0 then full_marks config pending (freed + 1) else []) (refusal field_name.UsedId value)
       (blind config word value (more == 0) (full_marks config pending (freed + 1)) [] (full_sees config word value pending (freed + 1)) tt) tt,
   either config phase _ (is_used_id (descriptor_of config freed) value) (read_used_ids config pending (freed + 1) more) (set_state 0) (ids_keep config phase pending (freed + 1) more _) (back_off config phase _),
 )
 
 offer_keeps : (config : EndConfig) (phase : Phase) (seen : ℕ) (pending : PendingOffer) (freed : ℕ) → KeepsRows config phase seen (offer config pending freed)
-offer_keeps config phase seen pending freed = λ value. let word = config.theirs + word_offset config.sizes UsedIndex in let d = returned_by freed value in (
+offer_keeps config phase seen pending freed = λ value. let word = config.other_start + word_offset config.sizes UsedIndex in let d = returned_by freed value in (
   blind config word value (is_used_index (freed % 65536) (high_half value) (pending.number - freed)) (reclaim_marks config pending freed d) (refusal field_name.UsedIndex (high_half value))
       (blind config word value (d == 0) (Reclaim 0 ∷ full_marks config pending freed) (Reclaim d ∷ []) (full_sees config word value pending freed) tt) tt,
   either config phase _ (is_used_index (freed % 65536) (high_half value) (pending.number - freed)) (read_used_ids config pending freed d) (set_state 0) (ids_keep config phase pending freed d _) (back_off config phase _),
@@ -124,7 +124,7 @@ items_keep config phase seen number zero = (tt, tt)
 items_keep config phase seen number (suc more) = item_keeps config phase seen number (items config (number + 1) more) (λ s. items_keep config phase s (number + 1) more)
 
 look_keeps : (config : EndConfig) (phase : Phase) (seen taken : ℕ) (last : Bool) (none : CallTree) → ((seen : ℕ) → KeepsRows config phase seen none) → KeepsRows config phase seen (read_avail_index config taken last none)
-look_keeps config phase seen taken last none keeps = λ value. let word = config.theirs + word_offset config.sizes AvailIndex in let d = published_by taken value in (
+look_keeps config phase seen taken last none keeps = λ value. let word = config.other_start + word_offset config.sizes AvailIndex in let d = published_by taken value in (
   blind config word value (is_avail_index config.sizes (taken % 65536) (high_half value)) (look_marks last d) (refusal field_name.AvailIndex (high_half value))
       (blind config word value (d == 0) (if last then Look 0 ∷ Done ∷ [] else Look 0 ∷ []) (Look d ∷ []) (blind config word value last (Look 0 ∷ Done ∷ []) (Look 0 ∷ []) tt tt) tt) tt,
   either config phase _ (is_avail_index config.sizes (taken % 65536) (high_half value)) (if d == 0 then none else items config taken d) (set_state 0) (either config phase _ (d == 0) none (items config taken d) (keeps _) (items_keep config phase _ taken d)) (back_off config phase _),

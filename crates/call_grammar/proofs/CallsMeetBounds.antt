@@ -37,19 +37,19 @@ fill_length config pending at zero = refl
 fill_length config pending at (suc more) = let e = fill_length config pending (at + 1) more in omega arith
 
 -- A notification has one step, or at most two in a link with events.
-abbrev tell_bound : Bool → ℕ
-tell_bound b = if b then 2 else 1
+abbrev notify_bound : Bool → ℕ
+notify_bound b = if b then 2 else 1
 
-told_length : (config : EndConfig) (number value : ℕ) (b asks : Bool) → length (if b then avail_event_read_step config number value ∷ (if asks then doorbell_step config (Over ∷ []) ∷ [] else []) else doorbell_step config (Over ∷ []) ∷ []) ≤ tell_bound b
-told_length config number value true true = omega arith
-told_length config number value true false = omega arith
-told_length config number value false asks = omega arith
+notify_length : (config : EndConfig) (number value : ℕ) (b asks : Bool) → length (if b then avail_event_read_step config number value ∷ (if asks then doorbell_step config (Over ∷ []) ∷ [] else []) else doorbell_step config (Over ∷ []) ∷ []) ≤ notify_bound b
+notify_length config number value true true = omega arith
+notify_length config number value true false = omega arith
+notify_length config number value false asks = omega arith
 
 -- The steps of an offer without its notification.
 abbrev offer_bound : Bool → ℕ
 offer_bound b = if b then 9 else 8
 
-offer_bounds : (b : Bool) → offer_bound b ≡ 7 + tell_bound b
+offer_bounds : (b : Bool) → offer_bound b ≡ 7 + notify_bound b
 offer_bounds true = refl
 offer_bounds false = refl
 
@@ -63,7 +63,7 @@ offer_length config pending freed steps room (inr (inr (inr r))) = let within = 
   ids_length config freed (returned_by freed r.value) (full_marks config pending (freed + returned_by freed r.value)),
   length-append (used_id_steps config freed (returned_by freed r.value) (full_marks config pending (freed + returned_by freed r.value))) (frame_write_steps config pending 0 (words_for (length pending.frame)) ++ (publish_steps config pending ++ notify_steps config pending.number r.event)),
   length-append (frame_write_steps config pending 0 (words_for (length pending.frame))) (publish_steps config pending ++ notify_steps config pending.number r.event),
-  told_length config pending.number r.event (has_events config.sizes) (wants_doorbell (low_half r.event) pending.number),
+  notify_length config pending.number r.event (has_events config.sizes) (wants_doorbell (low_half r.event) pending.number),
   fill_length config pending 0 (words_for (length pending.frame)),
 )
 

@@ -8,7 +8,7 @@ use Rattle.split_ring.specs.declared.ranges.FieldName.TheVariants as field_name
 use Rattle.split_ring.specs.Layout.{has_events, size_of, limit_of, data_area_start, word_offset, UsedId, UsedIndex, AvailEvent}
 use Rattle.split_ring.specs.Spelling.{low_half}
 use Rattle.std.specs.Prelude.{Bool, true, false, if◌then◌else◌}
-use Rattle.split_ring.proofs.Bounds.{bounds}
+use Rattle.split_ring.proofs.QueueHasBounds.{bounds}
 use Rattle.call_grammar.specs.Steps.{Mark, Deliver, Over, Step}
 use Rattle.call_grammar.specs.Words.{words_for, frame_in}
 use Rattle.call_grammar.specs.Ticks.{EndConfig}
@@ -17,7 +17,7 @@ use Rattle.call_grammar.specs.Polls.{Item, item_entry, item_address, word_steps,
 use Rattle.call_grammar.proofs.OfferLists.{append_nil}
 use Rattle.call_grammar.specs.Permitted.{HasSections}
 use Rattle.call_grammar.specs.ReadsOnce.{reads_of, IsNone, AreDistinct, FieldsAreReadOnce}
-use Rattle.call_grammar.proofs.IndexesAreReadOnce.{indexes_lem}
+use Rattle.call_grammar.proofs.IndexesAreReadOnce.{indexes_are_read_once}
 
 -- The words of an item
 
@@ -29,22 +29,22 @@ descriptor_low n k e lt = omega arith
 entry_low : (n k p a : ℕ) → k < n → p ≡ ((18 * n + 6 + 63) / 64 * 64 + 6 + 8 * n + 63) / 64 * 64 → p ≤ a → (16 * n + 4 + 2 * k) / 4 < a / 4
 entry_low n k p a lt is le = omega arith
 
-words_none : (config : EndConfig) (address at word number entry : ℕ) (words : List ℕ) (marks : List Mark) → word < config.theirs + (address / 4 + at) → IsNone word (reads_of (word_steps config address at words marks ++ return_steps config number entry))
+words_none : (config : EndConfig) (address at word number entry : ℕ) (words : List ℕ) (marks : List Mark) → word < config.other_start + (address / 4 + at) → IsNone word (reads_of (word_steps config address at words marks ++ return_steps config number entry))
 words_none config address at word number entry [] marks low = tt
 words_none config address at word number entry (w ∷ words) marks low = ((λ e. omega arith), words_none config address (at + 1) word number entry words marks (omega arith))
 
 words_distinct : (config : EndConfig) (address at number entry : ℕ) (words : List ℕ) (marks : List Mark) → AreDistinct (reads_of (word_steps config address at words marks ++ return_steps config number entry))
 words_distinct config address at number entry [] marks = tt
-words_distinct config address at number entry (w ∷ words) marks = (words_none config address (at + 1) (config.theirs + (address / 4 + at)) number entry words marks (omega arith), words_distinct config address (at + 1) number entry words marks)
+words_distinct config address at number entry (w ∷ words) marks = (words_none config address (at + 1) (config.other_start + (address / 4 + at)) number entry words marks (omega arith), words_distinct config address (at + 1) number entry words marks)
 
 entry_in : (config : EndConfig) → HasSections config → (number : ℕ) → avail_entry_of config number < size_of config.sizes
 entry_in config has number = let least = (bounds config.sizes has.queue).size_least in mod_below number (size_of config.sizes) (omega arith)
 
-taken_lem : (config : EndConfig) (number : ℕ) (read : Item) → HasSections config → IsValidItem config number read → AreDistinct (reads_of (item_steps config number read))
-taken_lem config number read has good =
+valid_item_reads_once : (config : EndConfig) (number : ℕ) (read : Item) → HasSections config → IsValidItem config number read → AreDistinct (reads_of (item_steps config number read))
+valid_item_reads_once config number read has good =
     let n = size_of config.sizes in let k = avail_entry_of config number in let e = item_entry config number read in let a = item_address read in let marks = Deliver (frame_in read.bytes read.words) ∷ [] in
     let low = descriptor_low n k e good.entry in let high = entry_low n k (data_area_start config.sizes) a (entry_in config has number) refl good.address.1 in
-    let above : (w : ℕ) → w < config.theirs + (a / 4 + 0) → IsNone w (reads_of (word_steps config a 0 read.words marks ++ return_steps config number e)) = λ w lt. words_none config a 0 w number e read.words marks lt in (
+    let above : (w : ℕ) → w < config.other_start + (a / 4 + 0) → IsNone w (reads_of (word_steps config a 0 read.words marks ++ return_steps config number e)) = λ w lt. words_none config a 0 w number e read.words marks lt in (
       ((λ x. omega arith), ((λ x. omega arith), ((λ x. omega arith), ((λ x. omega arith), above _ (omega arith))))),
       (
         ((λ x. omega arith), ((λ x. omega arith), ((λ x. omega arith), above _ (omega arith)))),
@@ -58,13 +58,13 @@ taken_lem config number read has good =
       ),
     )
 
-refused_lem : (config : EndConfig) (number : ℕ) (read : Item) (steps : List Step) → HasSections config → IsRefusedItem config number read steps → AreDistinct (reads_of steps)
-refused_lem config number read steps has (inl is) = subst (λ (l : List Step). AreDistinct (reads_of l)) (sym is.1) (tt, tt)
-refused_lem config number read steps has (inr (inl is)) = let low = descriptor_low (size_of config.sizes) (avail_entry_of config number) (item_entry config number read) is.0 in subst (λ (l : List Step). AreDistinct (reads_of l)) (sym is.2)
+refused_item_reads_once : (config : EndConfig) (number : ℕ) (read : Item) (steps : List Step) → HasSections config → IsRefusedItem config number read steps → AreDistinct (reads_of steps)
+refused_item_reads_once config number read steps has (inl is) = subst (λ (l : List Step). AreDistinct (reads_of l)) (sym is.1) (tt, tt)
+refused_item_reads_once config number read steps has (inr (inl is)) = let low = descriptor_low (size_of config.sizes) (avail_entry_of config number) (item_entry config number read) is.0 in subst (λ (l : List Step). AreDistinct (reads_of l)) (sym is.2)
     (((λ x. omega arith), ((λ x. omega arith), tt)), (((λ x. omega arith), tt), (tt, tt)))
-refused_lem config number read steps has (inr (inr (inl is))) = let low = descriptor_low (size_of config.sizes) (avail_entry_of config number) (item_entry config number read) is.0 in subst (λ (l : List Step). AreDistinct (reads_of l)) (sym is.3)
+refused_item_reads_once config number read steps has (inr (inr (inl is))) = let low = descriptor_low (size_of config.sizes) (avail_entry_of config number) (item_entry config number read) is.0 in subst (λ (l : List Step). AreDistinct (reads_of l)) (sym is.3)
     (((λ x. omega arith), ((λ x. omega arith), ((λ x. omega arith), tt))), (((λ x. omega arith), ((λ x. omega arith), tt)), (((λ x. omega arith), tt), (tt, tt))))
-refused_lem config number read steps has (inr (inr (inr is))) = let low = descriptor_low (size_of config.sizes) (avail_entry_of config number) (item_entry config number read) is.0 in subst (λ (l : List Step). AreDistinct (reads_of l)) (sym is.4)
+refused_item_reads_once config number read steps has (inr (inr (inr is))) = let low = descriptor_low (size_of config.sizes) (avail_entry_of config number) (item_entry config number read) is.0 in subst (λ (l : List Step). AreDistinct (reads_of l)) (sym is.4)
     (((λ x. omega arith), ((λ x. omega arith), ((λ x. omega arith), ((λ x. omega arith), tt)))), (((λ x. omega arith), ((λ x. omega arith), ((λ x. omega arith), tt))), (((λ x. omega arith), ((λ x. omega arith), tt)), (((λ x. omega arith), tt), (tt, tt)))))
 
 -- The ids of an offer
@@ -75,7 +75,7 @@ ring_apart c k a some lt far e = dite (dec_lt (k / c) (a / c))
     (λ down. let h : c * (a / c) ≤ c * (k / c) = mul-le-mul_left c (omega arith) in omega arith)
 
 abbrev id_word : EndConfig → ℕ → ℕ
-id_word config number = config.theirs + word_offset config.sizes (UsedId (avail_entry_of config number))
+id_word config number = config.other_start + word_offset config.sizes (UsedId (avail_entry_of config number))
 
 ids_none : (config : EndConfig) (word freed count : ℕ) (marks : List Mark) (tail : List Step) → ((k : ℕ) → freed ≤ k → k < freed + count → word ≢ id_word config k) → IsNone word (reads_of tail) → IsNone word (reads_of (used_id_steps config freed count marks ++ tail))
 ids_none config word freed zero marks tail apart none = none
@@ -95,26 +95,26 @@ ids_distinct config has freed (suc more) total marks tail is few none others = (
 
 -- Writes and the doorbell read nothing, and a notification reads at most the other's avail_event.
 abbrev event_word : EndConfig → ℕ
-event_word config = config.theirs + word_offset config.sizes AvailEvent
+event_word config = config.other_start + word_offset config.sizes AvailEvent
 
 fill_reads : (config : EndConfig) (pending : PendingOffer) (at count : ℕ) (tail : List Step) → reads_of (frame_write_steps config pending at count ++ (publish_steps config pending ++ tail)) ≡ reads_of tail
 fill_reads config pending at zero tail = refl
 fill_reads config pending at (suc more) tail = fill_reads config pending (at + 1) more tail
 
-abbrev told : EndConfig → (number value : ℕ) → (b asks : Bool) → List Step
-told config number value b asks = if b then avail_event_read_step config number value ∷ (if asks then doorbell_step config (Over ∷ []) ∷ [] else []) else doorbell_step config (Over ∷ []) ∷ []
+abbrev steps_of_notify : EndConfig → (number value : ℕ) → (b asks : Bool) → List Step
+steps_of_notify config number value b asks = if b then avail_event_read_step config number value ∷ (if asks then doorbell_step config (Over ∷ []) ∷ [] else []) else doorbell_step config (Over ∷ []) ∷ []
 
-told_none : (config : EndConfig) (number value word : ℕ) (b asks : Bool) → word ≢ event_word config → IsNone word (reads_of (told config number value b asks))
-told_none config number value word true true other = (other, tt)
-told_none config number value word true false other = (other, tt)
-told_none config number value word false asks other = tt
+notify_reads_none : (config : EndConfig) (number value word : ℕ) (b asks : Bool) → word ≢ event_word config → IsNone word (reads_of (steps_of_notify config number value b asks))
+notify_reads_none config number value word true true other = (other, tt)
+notify_reads_none config number value word true false other = (other, tt)
+notify_reads_none config number value word false asks other = tt
 
-told_distinct : (config : EndConfig) (number value : ℕ) (b asks : Bool) → AreDistinct (reads_of (told config number value b asks))
-told_distinct config number value true true = (tt, tt)
-told_distinct config number value true false = (tt, tt)
-told_distinct config number value false asks = tt
+notify_is_distinct : (config : EndConfig) (number value : ℕ) (b asks : Bool) → AreDistinct (reads_of (steps_of_notify config number value b asks))
+notify_is_distinct config number value true true = (tt, tt)
+notify_is_distinct config number value true false = (tt, tt)
+notify_is_distinct config number value false asks = tt
 
-used_low : (config : EndConfig) (k : ℕ) → config.theirs + word_offset config.sizes UsedIndex ≢ id_word config k
+used_low : (config : EndConfig) (k : ℕ) → config.other_start + word_offset config.sizes UsedIndex ≢ id_word config k
 used_low config k same = omega arith
 
 -- avail_event is after the index and the ids.
@@ -122,7 +122,7 @@ event_high : (config : EndConfig) → HasSections config → (k : ℕ) → id_wo
 event_high config has k same =
     let least = (bounds config.sizes has.queue).size_least in let low = mod_below k (size_of config.sizes) (omega arith) in omega arith
 
-event_apart : (config : EndConfig) → HasSections config → config.theirs + word_offset config.sizes UsedIndex ≢ event_word config
+event_apart : (config : EndConfig) → HasSections config → config.other_start + word_offset config.sizes UsedIndex ≢ event_word config
 event_apart config has same = let least = (bounds config.sizes has.queue).size_least in omega arith
 
 reads_distinct : (config : EndConfig) → HasSections config → (pending : PendingOffer) (freed value count : ℕ) (marks id_marks : List Mark) (tail : List Step) → count ≤ limit_of config.sizes →
@@ -133,22 +133,22 @@ reads_distinct config has pending freed value count marks id_marks tail few none
   ids_distinct config has freed count (freed + count) id_marks tail refl (omega arith) (λ k low high. none _ (event_high config has k)) others,
 )
 
-offered_lem : (config : EndConfig) (pending : PendingOffer) (freed : ℕ) (steps : List Step) → HasSections config → pending.number ≤ freed + limit_of config.sizes → IsOffer config pending freed steps → AreDistinct (reads_of steps)
-offered_lem config pending freed steps has room (inl r) = subst (λ (l : List Step). AreDistinct (reads_of l)) (sym r.steps_are) (tt, tt)
-offered_lem config pending freed steps has room (inr (inl r)) = let within = r.within in let before = r.before in let most = (bounds config.sizes has.queue).limit_most in
+offer_reads_once : (config : EndConfig) (pending : PendingOffer) (freed : ℕ) (steps : List Step) → HasSections config → pending.number ≤ freed + limit_of config.sizes → IsOffer config pending freed steps → AreDistinct (reads_of steps)
+offer_reads_once config pending freed steps has room (inl r) = subst (λ (l : List Step). AreDistinct (reads_of l)) (sym r.steps_are) (tt, tt)
+offer_reads_once config pending freed steps has room (inr (inl r)) = let within = r.within in let before = r.before in let most = (bounds config.sizes has.queue).limit_most in
     let tail = refused_steps (used_id_step config (freed + r.passed) r.id (refusal field_name.UsedId r.id)) in subst (λ (l : List Step). AreDistinct (reads_of l)) (sym r.steps_are) (
       ids_none config _ freed r.passed [] tail (λ k low high. used_low config k) (used_low config (freed + r.passed), tt),
       ids_distinct config has freed r.passed (freed + r.passed) [] tail refl (omega arith) (λ k low high. (ids_apart config has k (freed + r.passed) high (omega arith), tt)) (tt, tt),
     )
-offered_lem config pending freed steps has room (inr (inr (inl r))) = let within = r.within in
+offer_reads_once config pending freed steps has room (inr (inr (inl r))) = let within = r.within in
     subst (λ (l : List Step). AreDistinct (reads_of l)) (ap (λ (l : List Step). used_index_step config r.value (reclaim_marks config pending freed (returned_by freed r.value)) ∷ l) (append_nil (used_id_steps config freed (returned_by freed r.value) (full_marks config pending (freed + returned_by freed r.value)))) ∙ sym r.steps_are)
     (reads_distinct config has pending freed r.value (returned_by freed r.value) (reclaim_marks config pending freed (returned_by freed r.value)) (full_marks config pending (freed + returned_by freed r.value)) [] (omega arith) (λ w other. tt) tt)
-offered_lem config pending freed steps has room (inr (inr (inr r))) = let within = r.within in let b = has_events config.sizes in let asks = wants_doorbell (low_half r.event) pending.number in
+offer_reads_once config pending freed steps has room (inr (inr (inr r))) = let within = r.within in let b = has_events config.sizes in let asks = wants_doorbell (low_half r.event) pending.number in
     let tail = notify_steps config pending.number r.event in let quiet = fill_reads config pending 0 (words_for (length pending.frame)) tail in
     subst (λ (l : List Step). AreDistinct (reads_of l)) (sym r.steps_are)
     (reads_distinct config has pending freed r.value (returned_by freed r.value) (reclaim_marks config pending freed (returned_by freed r.value)) (full_marks config pending (freed + returned_by freed r.value))
     (frame_write_steps config pending 0 (words_for (length pending.frame)) ++ (publish_steps config pending ++ tail)) (omega arith)
-    (λ w other. subst (IsNone w) (sym quiet) (told_none config pending.number r.event w b asks other)) (subst AreDistinct (sym quiet) (told_distinct config pending.number r.event b asks)))
+    (λ w other. subst (IsNone w) (sym quiet) (notify_reads_none config pending.number r.event w b asks other)) (subst AreDistinct (sym quiet) (notify_is_distinct config pending.number r.event b asks)))
 
 pub distinct : FieldsAreReadOnce
-distinct = record { taken = taken_lem; refused = refused_lem; offered = offered_lem; indexes = indexes_lem }
+distinct = record { taken = valid_item_reads_once; refused = refused_item_reads_once; offered = offer_reads_once; indexes = indexes_are_read_once }

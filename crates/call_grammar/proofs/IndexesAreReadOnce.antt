@@ -10,8 +10,8 @@ use Rattle.split_ring.specs.Layout.{has_events, size_of, data_area_start, word_o
 use Rattle.split_ring.specs.Spelling.{low_half, high_half, entry_half, desc_flags}
 use Rattle.split_ring.specs.declared.ranges.FieldName.TheVariants as field_name
 use Rattle.split_ring.specs.Ranges.{is_avail_entry, is_desc_address, is_desc_length, is_avail_index, is_desc_flags, is_used_index, is_used_id}
-use Rattle.split_ring.proofs.Tests.{entry_of_test, address_of_test}
-use Rattle.split_ring.proofs.Bounds.{bounds}
+use Rattle.split_ring.proofs.TestsDecideRanges.{entry_of_test, address_of_test}
+use Rattle.split_ring.proofs.QueueHasBounds.{bounds}
 use Rattle.call_grammar.specs.Steps.{Mark, Reclaim, Full, Look, Deliver, Done, Over, Step}
 use Rattle.call_grammar.specs.Trees.{CallTree, Ended, Does, Reads, Goes, GoesAlong}
 use Rattle.call_grammar.specs.Ends.{End}
@@ -105,20 +105,20 @@ after_tick_uses config Stay = tt
 after_tick_uses config (Set state) = (refl, tt)
 after_tick_uses config (ClearThenSet state) = clear_uses config config.own config.words (set_state state) (refl, tt)
 
-event_apart : (config : EndConfig) → HasSections config → index_at config (config.theirs + word_offset config.sizes AvailEvent) ≡ []
+event_apart : (config : EndConfig) → HasSections config → index_at config (config.other_start + word_offset config.sizes AvailEvent) ≡ []
 event_apart config has = let least = (bounds config.sizes has.queue).size_least in at_no_index config _ (λ e. omega (arith, e)) (λ e. omega (arith, e))
 
-tell_uses : (config : EndConfig) → HasSections config → (number : ℕ) → UsesReads config (notify config number)
-tell_uses config has number = choice config (has_events config.sizes) (read_avail_event config number) (ring_doorbell config) (λ _. λ value. (
+notify_uses_reads : (config : EndConfig) → HasSections config → (number : ℕ) → UsesReads config (notify config number)
+notify_uses_reads config has number = choice config (has_events config.sizes) (read_avail_event config number) (ring_doorbell config) (λ _. λ value. (
   event_apart config has ∙ sym (either config (wants_doorbell (low_half value) number) [] (Over ∷ []) [] refl refl),
   choice config (wants_doorbell (low_half value) number) (ring_doorbell config) Ended (λ _. (refl, tt)) tt,
 )) (refl, tt)
 
 fill_uses : (config : EndConfig) → HasSections config → (pending : PendingOffer) (at more : ℕ) → UsesReads config (write_frame_words config pending at more)
-fill_uses config has pending at zero = (refl, (refl, (refl, (refl, (refl, (refl, tell_uses config has pending.number))))))
+fill_uses config has pending at zero = (refl, (refl, (refl, (refl, (refl, (refl, notify_uses_reads config has pending.number))))))
 fill_uses config has pending at (suc more) = (refl, fill_uses config has pending (at + 1) more)
 
-id_apart : (config : EndConfig) (freed : ℕ) → index_at config (config.theirs + word_offset config.sizes (UsedId (avail_entry_of config freed))) ≡ []
+id_apart : (config : EndConfig) (freed : ℕ) → index_at config (config.other_start + word_offset config.sizes (UsedId (avail_entry_of config freed))) ≡ []
 id_apart config freed = at_no_index config _ (λ e. omega (arith, e)) (λ e. omega (arith, e))
 
 ids_use : (config : EndConfig) → HasSections config → (pending : PendingOffer) (freed more : ℕ) → UsesReads config (read_used_ids config pending freed more)
@@ -135,7 +135,7 @@ offer_uses config has pending freed = λ value. (
 )
 
 -- The words of a frame are after the words of the indices.
-frame_apart : (config : EndConfig) (address at : ℕ) → data_area_start config.sizes ≤ address → index_at config (config.theirs + (address / 4 + at)) ≡ []
+frame_apart : (config : EndConfig) (address at : ℕ) → data_area_start config.sizes ≤ address → index_at config (config.other_start + (address / 4 + at)) ≡ []
 frame_apart config address at above = at_no_index config _ (λ e. omega (arith, e)) (λ e. omega (arith, e))
 
 words_use : (config : EndConfig) (number entry address bytes : ℕ) (read : List ℕ) (more : ℕ) (after : CallTree) → data_area_start config.sizes ≤ address → UsesReads config after → UsesReads config (read_words config number entry address bytes read more after)
@@ -145,13 +145,13 @@ words_use config number entry address bytes read (suc more) after above uses = �
   words_use config number entry address bytes (read ++ value ∷ []) more after above uses,
 )
 
-low_apart : (config : EndConfig) (entry more : ℕ) → entry < size_of config.sizes → more < 4 → index_at config (config.theirs + (4 * entry + more)) ≡ []
+low_apart : (config : EndConfig) (entry more : ℕ) → entry < size_of config.sizes → more < 4 → index_at config (config.other_start + (4 * entry + more)) ≡ []
 low_apart config entry more low few = at_no_index config _ (λ e. omega (arith, e)) (λ e. omega (arith, e))
 
-descriptor_apart : (config : EndConfig) (entry more word : ℕ) → entry < size_of config.sizes → more < 4 → word ≡ config.theirs + (4 * entry + more) → index_at config word ≡ []
+descriptor_apart : (config : EndConfig) (entry more word : ℕ) → entry < size_of config.sizes → more < 4 → word ≡ config.other_start + (4 * entry + more) → index_at config word ≡ []
 descriptor_apart config entry more word low few is = ap (index_at config) is ∙ low_apart config entry more low few
 
-entry_apart : (config : EndConfig) → HasSections config → (number : ℕ) → index_at config (config.theirs + word_offset config.sizes (AvailEntry (avail_entry_of config number))) ≡ []
+entry_apart : (config : EndConfig) → HasSections config → (number : ℕ) → index_at config (config.other_start + word_offset config.sizes (AvailEntry (avail_entry_of config number))) ≡ []
 entry_apart config has number =
     let least = (bounds config.sizes has.queue).size_least in
     let low = mod_below number (size_of config.sizes) (omega arith) in
@@ -190,7 +190,7 @@ poll_uses : (config : EndConfig) → HasSections config → (taken : ℕ) (last 
 poll_uses config has taken true = look_uses config has taken true Ended tt
 poll_uses config has taken false = look_uses config has taken false (write_avail_event config taken (read_avail_index config taken true Ended)) (refl, look_uses config has taken true Ended tt)
 
-call_uses : (config : EndConfig) (end : End) (call : Call) → HasSections config → other_state config < config.theirs → UsesReads config (tree_of config end call)
+call_uses : (config : EndConfig) (end : End) (call : Call) → HasSections config → other_state config < config.other_start → UsesReads config (tree_of config end call)
 call_uses config end Tick has before = λ value. (
   at_no_index config (other_state config) (λ e. omega (arith, e)) (λ e. omega (arith, e)) ∙ sym (tick_uses config value (move_of end.handshake value)),
   after_tick_uses config (move_of end.handshake value),
@@ -214,6 +214,6 @@ steps_use config tree left (step ∷ steps) uses along =
     let first = step_uses config tree along.0 step uses along.1 in
     All-cons (ReadsForUse config) step steps first.0 (steps_use config along.0 left steps first.1 along.2)
 
-pub indexes_lem : (config : EndConfig) (end : End) (call : Call) (steps : List Step) (left : CallTree) → HasSections config → other_state config < config.theirs →
+pub indexes_are_read_once : (config : EndConfig) (end : End) (call : Call) (steps : List Step) (left : CallTree) → HasSections config → other_state config < config.other_start →
     GoesAlong (tree_of config end call) steps left → All (ReadsForUse config) steps
-indexes_lem config end call steps left has before along = steps_use config (tree_of config end call) left steps (call_uses config end call has before) along
+indexes_are_read_once config end call steps left has before along = steps_use config (tree_of config end call) left steps (call_uses config end call has before) along

@@ -11,8 +11,8 @@ use Rattle.call_grammar.specs.Polls.{item_entry, item_address, word_steps, retur
 use Rattle.call_grammar.specs.ItemSpelling.{AllMatchWords, ReadItemsAreSpelled}
 
 -- The value read of the word at offset `place` of the section is the section's word.
-pub there : (words : ℕ → ℕ) (theirs place value : ℕ) → value ≡ words (theirs + place - theirs) → words place ≡ value
-there words theirs place value met = let e : theirs + place - theirs ≡ place = omega arith in sym (met ∙ ap words e)
+pub there : (words : ℕ → ℕ) (other_start place value : ℕ) → value ≡ words (other_start + place - other_start) → words place ≡ value
+there words other_start place value met = let e : other_start + place - other_start ≡ place = omega arith in sym (met ∙ ap words e)
 
 -- A byte of a word, at an offset by words and bytes.
 byte_of : (words : ℕ → ℕ) (place at rest word : ℕ) → words at ≡ word → place ≡ 4 * at + rest → rest < 4 → byte_at words place ≡ word / 256 ^ rest % 256
@@ -40,21 +40,21 @@ pub words_spell : (config : EndConfig) (words : ℕ → ℕ) (address at place b
 words_spell config words address at place zero read marks tail met is count = refl
 words_spell config words address at place (suc bytes) [] marks tail met is count = absurd (omega (arith, count))
 words_spell config words address at place (suc zero) (word ∷ read) marks tail met is count =
-    let holds = there words config.theirs (address / 4 + at) word met.0 in
+    let holds = there words config.other_start (address / 4 + at) word met.0 in
     ap (λ b. b ∷ []) (sym (byte_0 words place (address / 4 + at) word holds is))
 words_spell config words address at place (suc (suc zero)) (word ∷ read) marks tail met is count =
-    let holds = there words config.theirs (address / 4 + at) word met.0 in
+    let holds = there words config.other_start (address / 4 + at) word met.0 in
     let a = byte_0 words place (address / 4 + at) word holds is in
     let b = byte_1 words (place + 1) (address / 4 + at) word holds (omega arith) in
     cc
 words_spell config words address at place (suc (suc (suc zero))) (word ∷ read) marks tail met is count =
-    let holds = there words config.theirs (address / 4 + at) word met.0 in
+    let holds = there words config.other_start (address / 4 + at) word met.0 in
     let a = byte_0 words place (address / 4 + at) word holds is in
     let b = byte_1 words (place + 1) (address / 4 + at) word holds (omega arith) in
     let c = byte_2 words (place + 1 + 1) (address / 4 + at) word holds (omega arith) in
     cc
 words_spell config words address at place (suc (suc (suc (suc bytes)))) (word ∷ read) marks tail met is count =
-    let holds = there words config.theirs (address / 4 + at) word met.0 in
+    let holds = there words config.other_start (address / 4 + at) word met.0 in
     let a = byte_0 words place (address / 4 + at) word holds is in
     let b = byte_1 words (place + 1) (address / 4 + at) word holds (omega arith) in
     let c = byte_2 words (place + 1 + 1) (address / 4 + at) word holds (omega arith) in
@@ -65,7 +65,7 @@ words_spell config words address at place (suc (suc (suc (suc bytes)))) (word �
 pub spelled : ReadItemsAreSpelled
 spelled config number read words good met =
     let e = item_entry config number read in
-    let t = config.theirs in
+    let t = config.other_start in
     let entry = there words t (word_offset config.sizes (AvailEntry (avail_entry_of config number))) read.entry_word met.0 in
     let low = there words t (word_offset config.sizes (DescAddress e)) read.low met.1.0 in
     let high = there words t (word_offset config.sizes (DescAddress e) + 1) read.high (met.1.1.0 ∙ ap words (omega arith)) in

@@ -2,7 +2,7 @@
 use Rattle.std.proofs.Common.{◌≡◌, ℕ, ◌+◌, ◌*◌, ◌<◌, ◌≤◌, List, [], ◌∷◌, ◌++◌, length, ap, arith}
 use Rattle.std.proofs.Math.ListN.{get_or-append}
 use Rattle.std.proofs.Math.Seq.{get_or-append_seam}
-use Rattle.split_ring.proofs.Frames.{frames_lem}
+use Rattle.split_ring.proofs.FramesAreLaidOut.{frames_are_laid_out}
 use Rattle.call_grammar.specs.Words.{words_for, lengths_of}
 use Rattle.call_grammar.specs.Ends.{End}
 use Rattle.call_grammar.specs.Ticks.{EndConfig}
@@ -22,7 +22,7 @@ pub words_fit : (config : EndConfig) (end : End) (frame : List ℕ) → HasSecti
 words_fit config end frame has fits =
     let pending = pending_of config end frame in
     let long = last_length end.accepted frame in
-    let placed = frames_lem.placed config.sizes pending.lengths pending.number has.queue in
+    let placed = frames_are_laid_out.placed config.sizes pending.lengths pending.number has.queue in
     let holds = placed.holds (omega arith) in
     let inside = placed.inside (omega arith) in
     omega arith

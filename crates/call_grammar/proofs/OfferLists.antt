@@ -33,8 +33,8 @@ ring_listed : (config : EndConfig) (steps : List Step) → Makes (ring_doorbell 
 ring_listed config [] m = absurd m
 ring_listed config (step ∷ steps) m = let first = m.0 in let none = m.1 in cc
 
-abbrev heard_steps : EndConfig → (number value : ℕ) → Bool → List Step
-heard_steps config number value b = avail_event_read_step config number value ∷ (if b then doorbell_step config (Over ∷ []) ∷ [] else [])
+abbrev steps_of_notify : EndConfig → (number value : ℕ) → Bool → List Step
+steps_of_notify config number value b = avail_event_read_step config number value ∷ (if b then doorbell_step config (Over ∷ []) ∷ [] else [])
 
 after_event : (config : EndConfig) (b : Bool) (steps : List Step) → Makes (if b then ring_doorbell config else Ended) steps → steps ≡ (if b then doorbell_step config (Over ∷ []) ∷ [] else [])
 after_event config true steps m = ring_listed config steps m
@@ -44,16 +44,16 @@ event_makes : (config : EndConfig) (b : Bool) → Makes (if b then ring_doorbell
 event_makes config true = (refl, refl)
 event_makes config false = refl
 
-tell_listed : (config : EndConfig) (number : ℕ) (b : Bool) (steps : List Step) → Makes (if b then read_avail_event config number else ring_doorbell config) steps →
-    (value : ℕ) × (steps ≡ (if b then heard_steps config number value (wants_doorbell (low_half value) number) else doorbell_step config (Over ∷ []) ∷ []))
-tell_listed config number true [] m = absurd m
-tell_listed config number true (step ∷ steps) m = (m.0, (let first = m.1 in let later = after_event config (wants_doorbell (low_half m.0) number) steps m.2 in cc))
-tell_listed config number false steps m = (0, ring_listed config steps m)
+notify_is_list : (config : EndConfig) (number : ℕ) (b : Bool) (steps : List Step) → Makes (if b then read_avail_event config number else ring_doorbell config) steps →
+    (value : ℕ) × (steps ≡ (if b then steps_of_notify config number value (wants_doorbell (low_half value) number) else doorbell_step config (Over ∷ []) ∷ []))
+notify_is_list config number true [] m = absurd m
+notify_is_list config number true (step ∷ steps) m = (m.0, (let first = m.1 in let later = after_event config (wants_doorbell (low_half m.0) number) steps m.2 in cc))
+notify_is_list config number false steps m = (0, ring_listed config steps m)
 
-tell_made : (config : EndConfig) (number value : ℕ) (b : Bool) →
-    Makes (if b then read_avail_event config number else ring_doorbell config) (if b then heard_steps config number value (wants_doorbell (low_half value) number) else doorbell_step config (Over ∷ []) ∷ [])
-tell_made config number value true = (value, refl, event_makes config (wants_doorbell (low_half value) number))
-tell_made config number value false = (refl, refl)
+notify_is_made : (config : EndConfig) (number value : ℕ) (b : Bool) →
+    Makes (if b then read_avail_event config number else ring_doorbell config) (if b then steps_of_notify config number value (wants_doorbell (low_half value) number) else doorbell_step config (Over ∷ []) ∷ [])
+notify_is_made config number value true = (value, refl, event_makes config (wants_doorbell (low_half value) number))
+notify_is_made config number value false = (refl, refl)
 
 -- The steps of an offer from its descriptor on, and from its words on.
 abbrev Published : EndConfig → PendingOffer → (before : List Step) → List Step → Type 0
@@ -67,11 +67,11 @@ publish_listed config pending (a ∷ (b ∷ (c ∷ []))) m = absurd m.1.1.1
 publish_listed config pending (a ∷ (b ∷ (c ∷ (d ∷ [])))) m = absurd m.1.1.1.1
 publish_listed config pending (a ∷ (b ∷ (c ∷ (d ∷ (e ∷ []))))) m = absurd m.1.1.1.1.1
 publish_listed config pending (a ∷ (b ∷ (c ∷ (d ∷ (e ∷ (f ∷ g)))))) m =
-    let told = tell_listed config pending.number (has_events config.sizes) g m.1.1.1.1.1.1 in
-    (told.0, (let a1 = m.0 in let b1 = m.1.0 in let c1 = m.1.1.0 in let d1 = m.1.1.1.0 in let e1 = m.1.1.1.1.0 in let f1 = m.1.1.1.1.1.0 in let g1 = told.1 in cc))
+    let listed = notify_is_list config pending.number (has_events config.sizes) g m.1.1.1.1.1.1 in
+    (listed.0, (let a1 = m.0 in let b1 = m.1.0 in let c1 = m.1.1.0 in let d1 = m.1.1.1.0 in let e1 = m.1.1.1.1.0 in let f1 = m.1.1.1.1.1.0 in let g1 = listed.1 in cc))
 
 publish_made : (config : EndConfig) (pending : PendingOffer) (event : ℕ) → Makes (write_desc_address_low config pending) (publish_steps config pending ++ notify_steps config pending.number event)
-publish_made config pending event = (refl, (refl, (refl, (refl, (refl, (refl, tell_made config pending.number event (has_events config.sizes)))))))
+publish_made config pending event = (refl, (refl, (refl, (refl, (refl, (refl, notify_is_made config pending.number event (has_events config.sizes)))))))
 
 fill_listed : (config : EndConfig) (pending : PendingOffer) (at more : ℕ) (steps : List Step) → Makes (write_frame_words config pending at more) steps → Published config pending (frame_write_steps config pending at more) steps
 fill_listed config pending at zero steps m = publish_listed config pending steps m

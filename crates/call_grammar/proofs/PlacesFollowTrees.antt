@@ -44,8 +44,8 @@ ids_left config pending freed zero = chosen config (frame_fits config pending fr
     both (frame_fits config pending freed) _ _ Ended Ended (fill_left config pending 0 (words_for (length pending.frame))) refl
 ids_left config pending freed (suc more) = refl
 
-tell_left : (config : EndConfig) (number : ℕ) → remaining config (notify_place config number) ≡ notify config number
-tell_left config number = chosen config (has_events config.sizes) (ReadingAvailEvent number) RingingOffer
+notify_remains : (config : EndConfig) (number : ℕ) → remaining config (notify_place config number) ≡ notify config number
+notify_remains config number = chosen config (has_events config.sizes) (ReadingAvailEvent number) RingingOffer
 
 -- The rest of a poll after a read of the available index that finds no frame.
 abbrev after_none : EndConfig → ℕ → (last : Bool) → CallTree
@@ -93,73 +93,73 @@ look_comes config taken last value = (
   sym (going_on config (is_avail_index config.sizes (taken % 65536) (high_half value)) (if published_by taken value == 0 then none_place taken last else items_place taken (published_by taken value)) _ (look_left config taken last value)),
 )
 
-goes_lem : (config : EndConfig) (place : Place) (step : Step) (left : CallTree) → Goes (remaining config place) step left → (value : ℕ) × (step ≡ step_at config place value) × (left ≡ remaining config (next_place config place value))
-goes_lem config Closed step left g = absurd g
-goes_lem config (ReadingOtherState handshake) step left g = (g.0, g.1, g.2 ∙ sym (tick_left config (move_of handshake g.0)))
-goes_lem config (Clearing at more state) step left g = (0, g.0, g.1 ∙ sym (clear_left config (at + 1) more state))
-goes_lem config (WritingState state) step left g = (0, g.0, g.1)
-goes_lem config Refusing step left g = (0, g.0, g.1)
-goes_lem config NotInRun step left g = (0, g.0, g.1)
-goes_lem config (ReadingUsedIndex pending freed) step left g = (g.0, g.1, g.2 ∙ going_on config (is_used_index (freed % 65536) (high_half g.0) (pending.number - freed)) (ids_place config pending freed (returned_by freed g.0)) _ (ids_left config pending freed (returned_by freed g.0)))
-goes_lem config (ReadingUsedId pending freed more) step left g = (g.0, g.1, g.2 ∙ going_on config (is_used_id (descriptor_of config freed) g.0) (ids_place config pending (freed + 1) more) _ (ids_left config pending (freed + 1) more))
-goes_lem config (WritingFrameWord pending at more) step left g = (0, g.0, g.1 ∙ sym (fill_left config pending (at + 1) more))
-goes_lem config (WritingDescAddressLow pending) step left g = (0, g.0, g.1)
-goes_lem config (WritingDescAddressHigh pending) step left g = (0, g.0, g.1)
-goes_lem config (WritingDescLength pending) step left g = (0, g.0, g.1)
-goes_lem config (WritingDescFlags pending) step left g = (0, g.0, g.1)
-goes_lem config (WritingAvailEntry pending) step left g = (0, g.0, g.1)
-goes_lem config (WritingAvailIndex pending) step left g = (0, g.0, g.1 ∙ sym (tell_left config pending.number))
-goes_lem config (ReadingAvailEvent number) step left g = (g.0, g.1, g.2 ∙ sym (chosen config (wants_doorbell (low_half g.0) number) RingingOffer Closed))
-goes_lem config RingingOffer step left g = (0, g.0, g.1)
-goes_lem config (ReadingAvailIndex taken last) step left g = look_goes config taken last step left (subst (λ (t : CallTree). Goes t step left) (poll_is config taken last) g)
-goes_lem config (WritingAvailEvent taken) step left g = (0, g.0, g.1)
-goes_lem config (ReadingAvailEntry number more) step left g = (g.0, g.1, g.2 ∙ going_on config (is_avail_entry config.sizes (entry_half (avail_entry_of config number) g.0)) (ReadingDescAddressLow number more (entry_half (avail_entry_of config number) g.0)) _ refl)
-goes_lem config (ReadingDescAddressLow number more entry) step left g = g
-goes_lem config (ReadingDescAddressHigh number more entry low) step left g = (g.0, g.1, g.2 ∙ going_on config (is_desc_address config.sizes (address_of low g.0)) (ReadingDescLength number more entry (address_of low g.0)) _ refl)
-goes_lem config (ReadingDescLength number more entry address) step left g = (g.0, g.1, g.2 ∙ going_on config (is_desc_length config.sizes address g.0) (ReadingDescFlags number more entry address g.0) _ refl)
-goes_lem config (ReadingDescFlags number more entry address bytes) step left g = (g.0, g.1, g.2 ∙ going_on config (is_desc_flags (desc_flags g.0)) (words_place number more entry address bytes [] (words_for bytes)) _ (words_left config number more entry address bytes [] (words_for bytes)))
-goes_lem config (ReadingFrameWord number more entry address bytes read words) step left g = (g.0, g.1, g.2 ∙ sym (words_left config number more entry address bytes (read ++ g.0 ∷ []) words))
-goes_lem config (WritingUsedId number more entry) step left g = (0, g.0, g.1)
-goes_lem config (WritingUsedLength number more) step left g = (0, g.0, g.1)
-goes_lem config (WritingUsedIndex number more) step left g = (0, g.0, g.1 ∙ sym (items_left config (number + 1) more))
-goes_lem config RingingPoll step left g = (0, g.0, g.1)
+goes_to_place : (config : EndConfig) (place : Place) (step : Step) (left : CallTree) → Goes (remaining config place) step left → (value : ℕ) × (step ≡ step_at config place value) × (left ≡ remaining config (next_place config place value))
+goes_to_place config Closed step left g = absurd g
+goes_to_place config (ReadingOtherState handshake) step left g = (g.0, g.1, g.2 ∙ sym (tick_left config (move_of handshake g.0)))
+goes_to_place config (Clearing at more state) step left g = (0, g.0, g.1 ∙ sym (clear_left config (at + 1) more state))
+goes_to_place config (WritingState state) step left g = (0, g.0, g.1)
+goes_to_place config Refusing step left g = (0, g.0, g.1)
+goes_to_place config NotInRun step left g = (0, g.0, g.1)
+goes_to_place config (ReadingUsedIndex pending freed) step left g = (g.0, g.1, g.2 ∙ going_on config (is_used_index (freed % 65536) (high_half g.0) (pending.number - freed)) (ids_place config pending freed (returned_by freed g.0)) _ (ids_left config pending freed (returned_by freed g.0)))
+goes_to_place config (ReadingUsedId pending freed more) step left g = (g.0, g.1, g.2 ∙ going_on config (is_used_id (descriptor_of config freed) g.0) (ids_place config pending (freed + 1) more) _ (ids_left config pending (freed + 1) more))
+goes_to_place config (WritingFrameWord pending at more) step left g = (0, g.0, g.1 ∙ sym (fill_left config pending (at + 1) more))
+goes_to_place config (WritingDescAddressLow pending) step left g = (0, g.0, g.1)
+goes_to_place config (WritingDescAddressHigh pending) step left g = (0, g.0, g.1)
+goes_to_place config (WritingDescLength pending) step left g = (0, g.0, g.1)
+goes_to_place config (WritingDescFlags pending) step left g = (0, g.0, g.1)
+goes_to_place config (WritingAvailEntry pending) step left g = (0, g.0, g.1)
+goes_to_place config (WritingAvailIndex pending) step left g = (0, g.0, g.1 ∙ sym (notify_remains config pending.number))
+goes_to_place config (ReadingAvailEvent number) step left g = (g.0, g.1, g.2 ∙ sym (chosen config (wants_doorbell (low_half g.0) number) RingingOffer Closed))
+goes_to_place config RingingOffer step left g = (0, g.0, g.1)
+goes_to_place config (ReadingAvailIndex taken last) step left g = look_goes config taken last step left (subst (λ (t : CallTree). Goes t step left) (poll_is config taken last) g)
+goes_to_place config (WritingAvailEvent taken) step left g = (0, g.0, g.1)
+goes_to_place config (ReadingAvailEntry number more) step left g = (g.0, g.1, g.2 ∙ going_on config (is_avail_entry config.sizes (entry_half (avail_entry_of config number) g.0)) (ReadingDescAddressLow number more (entry_half (avail_entry_of config number) g.0)) _ refl)
+goes_to_place config (ReadingDescAddressLow number more entry) step left g = g
+goes_to_place config (ReadingDescAddressHigh number more entry low) step left g = (g.0, g.1, g.2 ∙ going_on config (is_desc_address config.sizes (address_of low g.0)) (ReadingDescLength number more entry (address_of low g.0)) _ refl)
+goes_to_place config (ReadingDescLength number more entry address) step left g = (g.0, g.1, g.2 ∙ going_on config (is_desc_length config.sizes address g.0) (ReadingDescFlags number more entry address g.0) _ refl)
+goes_to_place config (ReadingDescFlags number more entry address bytes) step left g = (g.0, g.1, g.2 ∙ going_on config (is_desc_flags (desc_flags g.0)) (words_place number more entry address bytes [] (words_for bytes)) _ (words_left config number more entry address bytes [] (words_for bytes)))
+goes_to_place config (ReadingFrameWord number more entry address bytes read words) step left g = (g.0, g.1, g.2 ∙ sym (words_left config number more entry address bytes (read ++ g.0 ∷ []) words))
+goes_to_place config (WritingUsedId number more entry) step left g = (0, g.0, g.1)
+goes_to_place config (WritingUsedLength number more) step left g = (0, g.0, g.1)
+goes_to_place config (WritingUsedIndex number more) step left g = (0, g.0, g.1 ∙ sym (items_left config (number + 1) more))
+goes_to_place config RingingPoll step left g = (0, g.0, g.1)
 
-comes_lem : (config : EndConfig) (place : Place) (value : ℕ) → is_open place ≡ true → Goes (remaining config place) (step_at config place value) (remaining config (next_place config place value))
-comes_lem config Closed value is = let f : false ≡ true = is in cc
-comes_lem config (ReadingOtherState handshake) value is = (value, refl, tick_left config (move_of handshake value))
-comes_lem config (Clearing at more state) value is = (refl, clear_left config (at + 1) more state)
-comes_lem config (WritingState state) value is = (refl, refl)
-comes_lem config Refusing value is = (refl, refl)
-comes_lem config NotInRun value is = (refl, refl)
-comes_lem config (ReadingUsedIndex pending freed) value is = (value, refl, sym (going_on config (is_used_index (freed % 65536) (high_half value) (pending.number - freed)) (ids_place config pending freed (returned_by freed value)) _ (ids_left config pending freed (returned_by freed value))))
-comes_lem config (ReadingUsedId pending freed more) value is = (value, refl, sym (going_on config (is_used_id (descriptor_of config freed) value) (ids_place config pending (freed + 1) more) _ (ids_left config pending (freed + 1) more)))
-comes_lem config (WritingFrameWord pending at more) value is = (refl, fill_left config pending (at + 1) more)
-comes_lem config (WritingDescAddressLow pending) value is = (refl, refl)
-comes_lem config (WritingDescAddressHigh pending) value is = (refl, refl)
-comes_lem config (WritingDescLength pending) value is = (refl, refl)
-comes_lem config (WritingDescFlags pending) value is = (refl, refl)
-comes_lem config (WritingAvailEntry pending) value is = (refl, refl)
-comes_lem config (WritingAvailIndex pending) value is = (refl, tell_left config pending.number)
-comes_lem config (ReadingAvailEvent number) value is = (value, refl, chosen config (wants_doorbell (low_half value) number) RingingOffer Closed)
-comes_lem config RingingOffer value is = (refl, refl)
-comes_lem config (ReadingAvailIndex taken last) value is = subst (λ (t : CallTree). Goes t (step_at config (ReadingAvailIndex taken last) value) (remaining config (next_place config (ReadingAvailIndex taken last) value))) (sym (poll_is config taken last)) (look_comes config taken last value)
-comes_lem config (WritingAvailEvent taken) value is = (refl, refl)
-comes_lem config (ReadingAvailEntry number more) value is = (value, refl, sym (going_on config (is_avail_entry config.sizes (entry_half (avail_entry_of config number) value)) (ReadingDescAddressLow number more (entry_half (avail_entry_of config number) value)) _ refl))
-comes_lem config (ReadingDescAddressLow number more entry) value is = (value, refl, refl)
-comes_lem config (ReadingDescAddressHigh number more entry low) value is = (value, refl, sym (going_on config (is_desc_address config.sizes (address_of low value)) (ReadingDescLength number more entry (address_of low value)) _ refl))
-comes_lem config (ReadingDescLength number more entry address) value is = (value, refl, sym (going_on config (is_desc_length config.sizes address value) (ReadingDescFlags number more entry address value) _ refl))
-comes_lem config (ReadingDescFlags number more entry address bytes) value is = (value, refl, sym (going_on config (is_desc_flags (desc_flags value)) (words_place number more entry address bytes [] (words_for bytes)) _ (words_left config number more entry address bytes [] (words_for bytes))))
-comes_lem config (ReadingFrameWord number more entry address bytes read words) value is = (value, refl, words_left config number more entry address bytes (read ++ value ∷ []) words)
-comes_lem config (WritingUsedId number more entry) value is = (refl, refl)
-comes_lem config (WritingUsedLength number more) value is = (refl, refl)
-comes_lem config (WritingUsedIndex number more) value is = (refl, items_left config (number + 1) more)
-comes_lem config RingingPoll value is = (refl, refl)
+place_goes : (config : EndConfig) (place : Place) (value : ℕ) → is_open place ≡ true → Goes (remaining config place) (step_at config place value) (remaining config (next_place config place value))
+place_goes config Closed value is = let f : false ≡ true = is in cc
+place_goes config (ReadingOtherState handshake) value is = (value, refl, tick_left config (move_of handshake value))
+place_goes config (Clearing at more state) value is = (refl, clear_left config (at + 1) more state)
+place_goes config (WritingState state) value is = (refl, refl)
+place_goes config Refusing value is = (refl, refl)
+place_goes config NotInRun value is = (refl, refl)
+place_goes config (ReadingUsedIndex pending freed) value is = (value, refl, sym (going_on config (is_used_index (freed % 65536) (high_half value) (pending.number - freed)) (ids_place config pending freed (returned_by freed value)) _ (ids_left config pending freed (returned_by freed value))))
+place_goes config (ReadingUsedId pending freed more) value is = (value, refl, sym (going_on config (is_used_id (descriptor_of config freed) value) (ids_place config pending (freed + 1) more) _ (ids_left config pending (freed + 1) more)))
+place_goes config (WritingFrameWord pending at more) value is = (refl, fill_left config pending (at + 1) more)
+place_goes config (WritingDescAddressLow pending) value is = (refl, refl)
+place_goes config (WritingDescAddressHigh pending) value is = (refl, refl)
+place_goes config (WritingDescLength pending) value is = (refl, refl)
+place_goes config (WritingDescFlags pending) value is = (refl, refl)
+place_goes config (WritingAvailEntry pending) value is = (refl, refl)
+place_goes config (WritingAvailIndex pending) value is = (refl, notify_remains config pending.number)
+place_goes config (ReadingAvailEvent number) value is = (value, refl, chosen config (wants_doorbell (low_half value) number) RingingOffer Closed)
+place_goes config RingingOffer value is = (refl, refl)
+place_goes config (ReadingAvailIndex taken last) value is = subst (λ (t : CallTree). Goes t (step_at config (ReadingAvailIndex taken last) value) (remaining config (next_place config (ReadingAvailIndex taken last) value))) (sym (poll_is config taken last)) (look_comes config taken last value)
+place_goes config (WritingAvailEvent taken) value is = (refl, refl)
+place_goes config (ReadingAvailEntry number more) value is = (value, refl, sym (going_on config (is_avail_entry config.sizes (entry_half (avail_entry_of config number) value)) (ReadingDescAddressLow number more (entry_half (avail_entry_of config number) value)) _ refl))
+place_goes config (ReadingDescAddressLow number more entry) value is = (value, refl, refl)
+place_goes config (ReadingDescAddressHigh number more entry low) value is = (value, refl, sym (going_on config (is_desc_address config.sizes (address_of low value)) (ReadingDescLength number more entry (address_of low value)) _ refl))
+place_goes config (ReadingDescLength number more entry address) value is = (value, refl, sym (going_on config (is_desc_length config.sizes address value) (ReadingDescFlags number more entry address value) _ refl))
+place_goes config (ReadingDescFlags number more entry address bytes) value is = (value, refl, sym (going_on config (is_desc_flags (desc_flags value)) (words_place number more entry address bytes [] (words_for bytes)) _ (words_left config number more entry address bytes [] (words_for bytes))))
+place_goes config (ReadingFrameWord number more entry address bytes read words) value is = (value, refl, words_left config number more entry address bytes (read ++ value ∷ []) words)
+place_goes config (WritingUsedId number more entry) value is = (refl, refl)
+place_goes config (WritingUsedLength number more) value is = (refl, refl)
+place_goes config (WritingUsedIndex number more) value is = (refl, items_left config (number + 1) more)
+place_goes config RingingPoll value is = (refl, refl)
 
-begins_lem : (config : EndConfig) (end : End) (call : Call) → remaining config (first_place config end call) ≡ tree_of config end call
-begins_lem config end Tick = refl
-begins_lem config end Stop = refl
-begins_lem config end (Offer frame) = chosen config (in_run end.handshake.phase) (ReadingUsedIndex (pending_of config end frame) end.freed) NotInRun
-begins_lem config end Poll = chosen config (in_run end.handshake.phase) (ReadingAvailIndex (length end.delivered) (is_last config end.found_none)) NotInRun
+first_place_has_tree : (config : EndConfig) (end : End) (call : Call) → remaining config (first_place config end call) ≡ tree_of config end call
+first_place_has_tree config end Tick = refl
+first_place_has_tree config end Stop = refl
+first_place_has_tree config end (Offer frame) = chosen config (in_run end.handshake.phase) (ReadingUsedIndex (pending_of config end frame) end.freed) NotInRun
+first_place_has_tree config end Poll = chosen config (in_run end.handshake.phase) (ReadingAvailIndex (length end.delivered) (is_last config end.found_none)) NotInRun
 
 pub following : PlacesFollowTrees
-following = record { begins = begins_lem; goes = goes_lem; comes = comes_lem }
+following = record { begins = first_place_has_tree; goes = goes_to_place; comes = place_goes }

@@ -7,7 +7,7 @@ use Rattle.split_ring.specs.declared.steps.Access.TheVariants.{Read}
 use Rattle.split_ring.specs.Layout.{size_of, word_offset, DescAddress, DescLength, DescFlags, AvailEntry}
 use Rattle.split_ring.specs.Ranges.{IsAvailEntry, IsDescAddress, IsDescLength, is_avail_entry, is_desc_address, is_desc_length, is_avail_index, is_desc_flags}
 use Rattle.split_ring.specs.Spelling.{high_half, entry_half, desc_flags}
-use Rattle.split_ring.proofs.Tests.{entry_of_test, entry_denies, entry_test, entry_fails, address_of_test, address_test, address_denies, address_fails, length_of_test, length_test, length_denies, length_fails, flags_of_test, flags_denies}
+use Rattle.split_ring.proofs.TestsDecideRanges.{entry_of_test, entry_denies, entry_test, entry_fails, address_of_test, address_test, address_denies, address_fails, length_of_test, length_test, length_denies, length_fails, flags_of_test, flags_denies}
 use Rattle.call_grammar.specs.Steps.{Step, Mark, Look, Deliver, Done, step_of}
 use Rattle.call_grammar.specs.Trees.{CallTree, Ended, Reads, Makes}
 use Rattle.call_grammar.specs.Ticks.{EndConfig, set_state, state_step}
@@ -79,9 +79,9 @@ words_listed config number entry address bytes read (suc more) at after (step �
     let others = words_listed config number entry address bytes (read ++ m.0 ∷ []) more (at + 1) after steps (omega (arith, longer read m.0)) m.2 in
     let words = others.0 in let tail = others.1 in
     let whole : (read ++ m.0 ∷ []) ++ words ≡ read ++ m.0 ∷ words = append_assoc read (m.0 ∷ []) words in
-    let first : step ≡ step_of (Read (config.theirs + (address / 4 + at))) m.0 (if length words == 0 then Deliver (frame_in bytes (read ++ m.0 ∷ words)) ∷ [] else []) =
-    m.1 ∙ (ap (λ n. step_of (Read (config.theirs + (address / 4 + n))) m.0 (if more == 0 then Deliver (frame_in bytes (read ++ m.0 ∷ [])) ∷ [] else [])) (sym is) ∙
-    ap (λ (l : List Mark). step_of (Read (config.theirs + (address / 4 + at))) m.0 l) (word_marks bytes more m.0 read words others.3)) in
+    let first : step ≡ step_of (Read (config.other_start + (address / 4 + at))) m.0 (if length words == 0 then Deliver (frame_in bytes (read ++ m.0 ∷ words)) ∷ [] else []) =
+    m.1 ∙ (ap (λ n. step_of (Read (config.other_start + (address / 4 + n))) m.0 (if more == 0 then Deliver (frame_in bytes (read ++ m.0 ∷ [])) ∷ [] else [])) (sym is) ∙
+    ap (λ (l : List Mark). step_of (Read (config.other_start + (address / 4 + at))) m.0 l) (word_marks bytes more m.0 read words others.3)) in
     let rest : steps ≡ word_steps config address (at + 1) words (Deliver (frame_in bytes (read ++ m.0 ∷ words)) ∷ []) ++ (return_steps config number entry ++ tail) =
     others.4 ∙ ap (λ (l : List ℕ). word_steps config address (at + 1) words (Deliver (frame_in bytes l) ∷ []) ++ (return_steps config number entry ++ tail)) whole in
     (m.0 ∷ words, tail, others.2, (let n = others.3 in omega arith), (cc))
@@ -94,8 +94,8 @@ words_made config number entry address bytes read (w ∷ words) zero at after ta
 words_made config number entry address bytes read (w ∷ words) (suc more) at after tail is n made =
     let count : length words ≡ more = omega arith in let whole : (read ++ w ∷ []) ++ words ≡ read ++ w ∷ words = append_assoc read (w ∷ []) words in (
       w,
-      ap (λ k. step_of (Read (config.theirs + (address / 4 + k))) w (if length words == 0 then Deliver (frame_in bytes (read ++ w ∷ words)) ∷ [] else [])) is ∙
-          ap (λ (l : List Mark). step_of (Read (config.theirs + (address / 4 + length read))) w l) (sym (word_marks bytes more w read words count)),
+      ap (λ k. step_of (Read (config.other_start + (address / 4 + k))) w (if length words == 0 then Deliver (frame_in bytes (read ++ w ∷ words)) ∷ [] else [])) is ∙
+          ap (λ (l : List Mark). step_of (Read (config.other_start + (address / 4 + length read))) w l) (sym (word_marks bytes more w read words count)),
       subst (λ (l : List ℕ). Makes (read_words config number entry address bytes (read ++ w ∷ []) more after) (word_steps config address (at + 1) words (Deliver (frame_in bytes l) ∷ []) ++ (return_steps config number entry ++ tail))) whole
           (words_made config number entry address bytes (read ++ w ∷ []) words more (at + 1) after tail (omega (arith, longer read w)) count made),
     )
@@ -119,7 +119,7 @@ abbrev four : EndConfig → (number ew lo hi l : ℕ) → List Step → List Ste
 four config number ew lo hi l steps = three config number ew lo hi (length_step config number (item_of ew lo hi l 0 []) [] ∷ steps)
 
 flags_item : (config : EndConfig) (number ew lo hi l : ℕ) (after : CallTree) (steps : List Step) → IsAvailEntry config.sizes (entry_name config number ew) → IsDescAddress config.sizes (address_of lo hi) → IsDescLength config.sizes (address_of lo hi) l →
-    (t : (value : ℕ) × IsTested (config.theirs + word_offset config.sizes (DescFlags (entry_name config number ew))) (λ value. is_desc_flags (desc_flags value)) (λ value. refusal field_name.DescFlags (desc_flags value)) (λ value. read_words config number (entry_name config number ew) (address_of lo hi) l [] (words_for l) after) value steps) →
+    (t : (value : ℕ) × IsTested (config.other_start + word_offset config.sizes (DescFlags (entry_name config number ew))) (λ value. is_desc_flags (desc_flags value)) (λ value. refusal field_name.DescFlags (desc_flags value)) (λ value. read_words config number (entry_name config number ew) (address_of lo hi) l [] (words_for l) after) value steps) →
     ItemListed config number after (four config number ew lo hi l steps)
 flags_item config number ew lo hi l after steps ie ia il (fw, inl good) =
     let w = words_listed config number (entry_name config number ew) (address_of lo hi) l [] (words_for l) 0 after good.1 refl good.3 in
@@ -134,21 +134,21 @@ flags_item config number ew lo hi l after steps ie ia il (fw, inl good) =
 flags_item config number ew lo hi l after steps ie ia il (fw, inr bad) = inr (item_of ew lo hi l fw [], inr (inr (inr (ie, ia, il, flags_denies (desc_flags fw) bad.0, (let here = bad.1 in cc)))))
 
 length_item : (config : EndConfig) (number ew lo hi : ℕ) (after : CallTree) (steps : List Step) → IsAvailEntry config.sizes (entry_name config number ew) → IsDescAddress config.sizes (address_of lo hi) →
-    (t : (value : ℕ) × IsTested (config.theirs + word_offset config.sizes (DescLength (entry_name config number ew))) (λ value. is_desc_length config.sizes (address_of lo hi) value) (λ value. refusal field_name.DescLength value) (λ value. read_flags config number (entry_name config number ew) (address_of lo hi) value after) value steps) →
+    (t : (value : ℕ) × IsTested (config.other_start + word_offset config.sizes (DescLength (entry_name config number ew))) (λ value. is_desc_length config.sizes (address_of lo hi) value) (λ value. refusal field_name.DescLength value) (λ value. read_flags config number (entry_name config number ew) (address_of lo hi) value after) value steps) →
     ItemListed config number after (three config number ew lo hi steps)
 length_item config number ew lo hi after steps ie ia (l, inl good) =
     subst (λ (s : List Step). ItemListed config number after (three config number ew lo hi s)) (sym good.2)
     (flags_item config number ew lo hi l after good.1 ie ia (length_of_test config.sizes (address_of lo hi) l good.0)
-    (tested (config.theirs + word_offset config.sizes (DescFlags (entry_name config number ew))) (λ value. is_desc_flags (desc_flags value)) (λ value. refusal field_name.DescFlags (desc_flags value)) (λ value. read_words config number (entry_name config number ew) (address_of lo hi) l [] (words_for l) after) good.1 good.3))
+    (tested (config.other_start + word_offset config.sizes (DescFlags (entry_name config number ew))) (λ value. is_desc_flags (desc_flags value)) (λ value. refusal field_name.DescFlags (desc_flags value)) (λ value. read_words config number (entry_name config number ew) (address_of lo hi) l [] (words_for l) after) good.1 good.3))
 length_item config number ew lo hi after steps ie ia (l, inr bad) = inr (item_of ew lo hi l 0 [], inr (inr (inl (ie, ia, length_denies config.sizes (address_of lo hi) l bad.0, (let here = bad.1 in cc)))))
 
 high_item : (config : EndConfig) (number ew lo : ℕ) (after : CallTree) (steps : List Step) → IsAvailEntry config.sizes (entry_name config number ew) →
-    (t : (value : ℕ) × IsTested (config.theirs + word_offset config.sizes (DescAddress (entry_name config number ew)) + 1) (λ value. is_desc_address config.sizes (address_of lo value)) (λ value. refusal field_name.DescAddress (address_of lo value)) (λ value. read_length config number (entry_name config number ew) (address_of lo value) after) value steps) →
+    (t : (value : ℕ) × IsTested (config.other_start + word_offset config.sizes (DescAddress (entry_name config number ew)) + 1) (λ value. is_desc_address config.sizes (address_of lo value)) (λ value. refusal field_name.DescAddress (address_of lo value)) (λ value. read_length config number (entry_name config number ew) (address_of lo value) after) value steps) →
     ItemListed config number after (entry_step config number (item_of ew lo 0 0 0 []) [] ∷ low_step config number (item_of ew lo 0 0 0 []) ∷ steps)
 high_item config number ew lo after steps ie (hi, inl good) =
     subst (λ (s : List Step). ItemListed config number after (entry_step config number (item_of ew lo 0 0 0 []) [] ∷ low_step config number (item_of ew lo 0 0 0 []) ∷ s)) (sym good.2)
     (length_item config number ew lo hi after good.1 ie (address_of_test config.sizes (address_of lo hi) good.0)
-    (tested (config.theirs + word_offset config.sizes (DescLength (entry_name config number ew))) (λ value. is_desc_length config.sizes (address_of lo hi) value) (λ value. refusal field_name.DescLength value) (λ value. read_flags config number (entry_name config number ew) (address_of lo hi) value after) good.1 good.3))
+    (tested (config.other_start + word_offset config.sizes (DescLength (entry_name config number ew))) (λ value. is_desc_length config.sizes (address_of lo hi) value) (λ value. refusal field_name.DescLength value) (λ value. read_flags config number (entry_name config number ew) (address_of lo hi) value after) good.1 good.3))
 high_item config number ew lo after steps ie (hi, inr bad) = inr (item_of ew lo hi 0 0 [], inr (inl (ie, address_denies config.sizes (address_of lo hi) bad.0, (let here = bad.1 in cc))))
 
 low_item : (config : EndConfig) (number ew : ℕ) (after : CallTree) (steps : List Step) → IsAvailEntry config.sizes (entry_name config number ew) → Makes (read_low config number (entry_name config number ew) after) steps →
@@ -157,17 +157,17 @@ low_item config number ew after [] ie m = absurd m
 low_item config number ew after (step ∷ steps) ie m =
     subst (λ (s : Step). ItemListed config number after (entry_step config number (item_of ew 0 0 0 0 []) [] ∷ s ∷ steps)) (sym m.1)
     (high_item config number ew m.0 after steps ie
-    (tested (config.theirs + word_offset config.sizes (DescAddress (entry_name config number ew)) + 1) (λ value. is_desc_address config.sizes (address_of m.0 value)) (λ value. refusal field_name.DescAddress (address_of m.0 value)) (λ value. read_length config number (entry_name config number ew) (address_of m.0 value) after) steps m.2))
+    (tested (config.other_start + word_offset config.sizes (DescAddress (entry_name config number ew)) + 1) (λ value. is_desc_address config.sizes (address_of m.0 value)) (λ value. refusal field_name.DescAddress (address_of m.0 value)) (λ value. read_length config number (entry_name config number ew) (address_of m.0 value) after) steps m.2))
 
 entry_item : (config : EndConfig) (number : ℕ) (after : CallTree) (steps : List Step) →
-    (t : (value : ℕ) × IsTested (config.theirs + word_offset config.sizes (AvailEntry (avail_entry_of config number))) (λ value. is_avail_entry config.sizes (entry_name config number value)) (λ value. refusal field_name.AvailEntry (entry_name config number value)) (λ value. read_low config number (entry_name config number value) after) value steps) →
+    (t : (value : ℕ) × IsTested (config.other_start + word_offset config.sizes (AvailEntry (avail_entry_of config number))) (λ value. is_avail_entry config.sizes (entry_name config number value)) (λ value. refusal field_name.AvailEntry (entry_name config number value)) (λ value. read_low config number (entry_name config number value) after) value steps) →
     ItemListed config number after steps
 entry_item config number after steps (ew, inl good) = subst (λ (s : List Step). ItemListed config number after s) (sym good.2) (low_item config number ew after good.1 (entry_of_test config.sizes (entry_name config number ew) good.0) good.3)
 entry_item config number after steps (ew, inr bad) = inr (item_of ew 0 0 0 0 [], inl (entry_denies config.sizes (entry_name config number ew) bad.0, (let here = bad.1 in cc)))
 
 item_listed : (config : EndConfig) (number : ℕ) (after : CallTree) (steps : List Step) → Makes (item config number after) steps → ItemListed config number after steps
 item_listed config number after steps m = entry_item config number after steps
-    (tested (config.theirs + word_offset config.sizes (AvailEntry (avail_entry_of config number))) (λ value. is_avail_entry config.sizes (entry_name config number value)) (λ value. refusal field_name.AvailEntry (entry_name config number value)) (λ value. read_low config number (entry_name config number value) after) steps m)
+    (tested (config.other_start + word_offset config.sizes (AvailEntry (avail_entry_of config number))) (λ value. is_avail_entry config.sizes (entry_name config number value)) (λ value. refusal field_name.AvailEntry (entry_name config number value)) (λ value. read_low config number (entry_name config number value) after) steps m)
 
 -- The items
 
@@ -221,39 +221,39 @@ poll_listed config taken false (step ∷ steps) m = look_by config taken false (
 
 length_made : (config : EndConfig) (number : ℕ) (after : CallTree) (read : Item) (steps : List Step) → IsDescLength config.sizes (item_address read) read.bytes → Makes (read_flags config number (item_entry config number read) (item_address read) read.bytes after) steps →
     Makes (read_length config number (item_entry config number read) (item_address read) after) (length_step config number read [] ∷ steps)
-length_made config number after read steps il made = tested_good (config.theirs + word_offset config.sizes (DescLength (item_entry config number read))) (λ value. is_desc_length config.sizes (item_address read) value) (λ value. refusal field_name.DescLength value)
+length_made config number after read steps il made = tested_good (config.other_start + word_offset config.sizes (DescLength (item_entry config number read))) (λ value. is_desc_length config.sizes (item_address read) value) (λ value. refusal field_name.DescLength value)
     (λ value. read_flags config number (item_entry config number read) (item_address read) value after) read.bytes steps (length_test config.sizes (item_address read) read.bytes il) made
 
 high_made : (config : EndConfig) (number : ℕ) (after : CallTree) (read : Item) (steps : List Step) → IsDescAddress config.sizes (item_address read) → Makes (read_length config number (item_entry config number read) (item_address read) after) steps →
     Makes (read_high config number (item_entry config number read) read.low after) (high_step config number read [] ∷ steps)
-high_made config number after read steps ia made = tested_good (config.theirs + word_offset config.sizes (DescAddress (item_entry config number read)) + 1) (λ value. is_desc_address config.sizes (address_of read.low value)) (λ value. refusal field_name.DescAddress (address_of read.low value))
+high_made config number after read steps ia made = tested_good (config.other_start + word_offset config.sizes (DescAddress (item_entry config number read)) + 1) (λ value. is_desc_address config.sizes (address_of read.low value)) (λ value. refusal field_name.DescAddress (address_of read.low value))
     (λ value. read_length config number (item_entry config number read) (address_of read.low value) after) read.high steps (address_test config.sizes (item_address read) ia) made
 
 entry_made : (config : EndConfig) (number : ℕ) (after : CallTree) (read : Item) (steps : List Step) → IsAvailEntry config.sizes (item_entry config number read) → Makes (read_high config number (item_entry config number read) read.low after) steps →
     Makes (item config number after) (entry_step config number read [] ∷ low_step config number read ∷ steps)
-entry_made config number after read steps ie made = tested_good (config.theirs + word_offset config.sizes (AvailEntry (avail_entry_of config number))) (λ value. is_avail_entry config.sizes (entry_name config number value)) (λ value. refusal field_name.AvailEntry (entry_name config number value))
+entry_made config number after read steps ie made = tested_good (config.other_start + word_offset config.sizes (AvailEntry (avail_entry_of config number))) (λ value. is_avail_entry config.sizes (entry_name config number value)) (λ value. refusal field_name.AvailEntry (entry_name config number value))
     (λ value. read_low config number (entry_name config number value) after) read.entry_word _ (entry_test config.sizes (item_entry config number read) ie) (read.low, refl, made)
 
 good_made : (config : EndConfig) (number : ℕ) (after : CallTree) (read : Item) (tail : List Step) → IsValidItem config number read → Makes after tail → Makes (item config number after) (item_steps config number read ++ tail)
 good_made config number after read tail good made = let e = item_entry config number read in let a = item_address read in
     let words = words_made config number e a read.bytes [] read.words (words_for read.bytes) 0 after tail refl good.words made in
     let seam = append_assoc (word_steps config a 0 read.words (Deliver (frame_in read.bytes read.words) ∷ [])) (return_steps config number e) tail in
-    let f = tested_good (config.theirs + word_offset config.sizes (DescFlags e)) (λ value. is_desc_flags (desc_flags value)) (λ value. refusal field_name.DescFlags (desc_flags value)) (λ value. read_words config number e a read.bytes [] (words_for read.bytes) after) read.flags_word _ (eq-eqb _ _ good.flags)
+    let f = tested_good (config.other_start + word_offset config.sizes (DescFlags e)) (λ value. is_desc_flags (desc_flags value)) (λ value. refusal field_name.DescFlags (desc_flags value)) (λ value. read_words config number e a read.bytes [] (words_for read.bytes) after) read.flags_word _ (eq-eqb _ _ good.flags)
     (subst (λ (l : List Step). Makes (read_words config number e a read.bytes [] (words_for read.bytes) after) l) (sym seam) words) in
     entry_made config number after read _ good.entry (high_made config number after read _ good.address (length_made config number after read _ good.bytes f))
 
 refused_made : (config : EndConfig) (number : ℕ) (after : CallTree) (read : Item) (steps : List Step) → IsRefusedItem config number read steps → Makes (item config number after) steps
 refused_made config number after read steps (inl is) = subst (λ (l : List Step). Makes (item config number after) l) (sym is.1)
-    (tested_bad (config.theirs + word_offset config.sizes (AvailEntry (avail_entry_of config number))) (λ value. is_avail_entry config.sizes (entry_name config number value)) (λ value. refusal field_name.AvailEntry (entry_name config number value)) (λ value. read_low config number (entry_name config number value) after) read.entry_word (entry_fails config.sizes (item_entry config number read) is.0))
+    (tested_bad (config.other_start + word_offset config.sizes (AvailEntry (avail_entry_of config number))) (λ value. is_avail_entry config.sizes (entry_name config number value)) (λ value. refusal field_name.AvailEntry (entry_name config number value)) (λ value. read_low config number (entry_name config number value) after) read.entry_word (entry_fails config.sizes (item_entry config number read) is.0))
 refused_made config number after read steps (inr (inl is)) = subst (λ (l : List Step). Makes (item config number after) l) (sym is.2)
     (entry_made config number after read _ is.0
-    (tested_bad (config.theirs + word_offset config.sizes (DescAddress (item_entry config number read)) + 1) (λ value. is_desc_address config.sizes (address_of read.low value)) (λ value. refusal field_name.DescAddress (address_of read.low value)) (λ value. read_length config number (item_entry config number read) (address_of read.low value) after) read.high (address_fails config.sizes (item_address read) is.1)))
+    (tested_bad (config.other_start + word_offset config.sizes (DescAddress (item_entry config number read)) + 1) (λ value. is_desc_address config.sizes (address_of read.low value)) (λ value. refusal field_name.DescAddress (address_of read.low value)) (λ value. read_length config number (item_entry config number read) (address_of read.low value) after) read.high (address_fails config.sizes (item_address read) is.1)))
 refused_made config number after read steps (inr (inr (inl is))) = subst (λ (l : List Step). Makes (item config number after) l) (sym is.3)
     (entry_made config number after read _ is.0 (high_made config number after read _ is.1
-    (tested_bad (config.theirs + word_offset config.sizes (DescLength (item_entry config number read))) (λ value. is_desc_length config.sizes (item_address read) value) (λ value. refusal field_name.DescLength value) (λ value. read_flags config number (item_entry config number read) (item_address read) value after) read.bytes (length_fails config.sizes (item_address read) read.bytes is.2))))
+    (tested_bad (config.other_start + word_offset config.sizes (DescLength (item_entry config number read))) (λ value. is_desc_length config.sizes (item_address read) value) (λ value. refusal field_name.DescLength value) (λ value. read_flags config number (item_entry config number read) (item_address read) value after) read.bytes (length_fails config.sizes (item_address read) read.bytes is.2))))
 refused_made config number after read steps (inr (inr (inr is))) = subst (λ (l : List Step). Makes (item config number after) l) (sym is.4)
     (entry_made config number after read _ is.0 (high_made config number after read _ is.1 (length_made config number after read _ is.2
-    (tested_bad (config.theirs + word_offset config.sizes (DescFlags (item_entry config number read))) (λ value. is_desc_flags (desc_flags value)) (λ value. refusal field_name.DescFlags (desc_flags value)) (λ value. read_words config number (item_entry config number read) (item_address read) read.bytes [] (words_for read.bytes) after) read.flags_word (ne_eqb _ _ is.3)))))
+    (tested_bad (config.other_start + word_offset config.sizes (DescFlags (item_entry config number read))) (λ value. is_desc_flags (desc_flags value)) (λ value. refusal field_name.DescFlags (desc_flags value)) (λ value. read_words config number (item_entry config number read) (item_address read) read.bytes [] (words_for read.bytes) after) read.flags_word (ne_eqb _ _ is.3)))))
 
 items_made : (config : EndConfig) (number count : ℕ) (reads : List Item) → AreValidItems config number reads → length reads ≡ count → Makes (items config number count) (items_steps config number reads ++ doorbell_step config (Done ∷ []) ∷ [])
 items_made config number zero [] good n = (refl, refl)

@@ -33,11 +33,11 @@ pub shut_place : (place : Place) → is_open place ≡ false → place ≡ Close
 shut_place Closed shut = refl
 shut_place _ shut = absurd (cc)
 
-call_lem : (config : EndConfig) (place : Place) (steps : List Step) → IsReplayed config place steps → Makes (remaining config place) steps
-call_lem config place [] p = subst (λ (x : Place). Makes (remaining config x) []) (sym p) refl
-call_lem config place (step ∷ steps) p = makes_more (remaining config place) (remaining config (next_place config place step.value)) step steps
+replay_is_made : (config : EndConfig) (place : Place) (steps : List Step) → IsReplayed config place steps → Makes (remaining config place) steps
+replay_is_made config place [] p = subst (λ (x : Place). Makes (remaining config x) []) (sym p) refl
+replay_is_made config place (step ∷ steps) p = makes_more (remaining config place) (remaining config (next_place config place step.value)) step steps
     (subst (λ (s : Step). Goes (remaining config place) s (remaining config (next_place config place step.value))) (sym p.1) (following.comes config place step.value p.0))
-    (call_lem config (next_place config place step.value) steps p.2)
+    (replay_is_made config (next_place config place step.value) steps p.2)
 
 -- A step without a read has one next place.
 pub given : (config : EndConfig) (place : Place) (v : ℕ) → (step_at config place (value_given (access_at config place) v) ≡ step_at config place v) × (next_place config place (value_given (access_at config place) v) ≡ next_place config place v)
@@ -55,18 +55,18 @@ pub opened : (config : EndConfig) (place : Place) (step : Step) (left : CallTree
 opened config Closed step left g = absurd g
 opened config place step left g = refl
 
-played_lem : (config : EndConfig) (place : Place) (steps : List Step) → Makes (remaining config place) steps → IsReplayed config place steps
-played_lem config place [] m = is_closed config place m
-played_lem config place (step ∷ steps) m =
+made_is_replayed : (config : EndConfig) (place : Place) (steps : List Step) → Makes (remaining config place) steps → IsReplayed config place steps
+made_is_replayed config place [] m = is_closed config place m
+made_is_replayed config place (step ∷ steps) m =
     let first = makes_first (remaining config place) step steps m in let g = following.goes config place step first.0 first.1 in let v = g.0 in
     let value : step.value ≡ value_given (access_at config place) v = ap (λ (s : Step). s.value) g.1 in
     let same = given config place v in
     let step_is : step ≡ step_at config place step.value = g.1 ∙ (sym same.0 ∙ ap (step_at config place) (sym value)) in
     let next_is : first.0 ≡ remaining config (next_place config place step.value) = g.2 ∙ ap (remaining config) (sym same.1 ∙ ap (next_place config place) (sym value)) in
-    (opened config place step first.0 first.1, step_is, played_lem config (next_place config place step.value) steps (subst (λ (t : CallTree). Makes t steps) next_is first.2))
+    (opened config place step first.0 first.1, step_is, made_is_replayed config (next_place config place step.value) steps (subst (λ (t : CallTree). Makes t steps) next_is first.2))
 
 pub playing : ReplaysAreCalls
 playing = record {
-  call = λ config end call steps p. lists.listed config end call steps (subst (λ (t : CallTree). Makes t steps) (following.begins config end call) (call_lem config (first_place config end call) steps p));
-  played = λ config end call steps is. played_lem config (first_place config end call) steps (subst (λ (t : CallTree). Makes t steps) (sym (following.begins config end call)) (lists.made config end call steps is));
+  call = λ config end call steps p. lists.listed config end call steps (subst (λ (t : CallTree). Makes t steps) (following.begins config end call) (replay_is_made config (first_place config end call) steps p));
+  played = λ config end call steps is. made_is_replayed config (first_place config end call) steps (subst (λ (t : CallTree). Makes t steps) (sym (following.begins config end call)) (lists.made config end call steps is));
 }

@@ -2,7 +2,7 @@
 -- by `record end { .. }`, and `fresh` is the only literal.
 use Rattle.std.specs.Prelude.{ℕ, ◌≡◌, ◌≢◌, ◌+◌, ◌==◌, Bool, true, false, if◌then◌else◌, List, [], ◌∷◌, ◌++◌}
 use Rattle.link_handshake.specs.declared.Phase.TheVariants.{Reset}
-use Rattle.link_handshake.specs.PhaseTable.{phase_at}
+use Rattle.link_handshake.specs.PhaseTable.{phase_of_state}
 use Rattle.link_handshake.specs.HandshakeState.{HandshakeState}
 use Rattle.split_ring.specs.declared.steps.Access.{Access}
 use Rattle.split_ring.specs.declared.steps.Access.TheVariants as access
@@ -36,7 +36,7 @@ after_reset end = record end { handshake = record { phase = Reset; mark = false 
 -- (profile).
 abbrev pub with_state : End → ℕ → End
 with_state end state = record {
-  handshake = record (end.handshake) { phase = phase_at state };
+  handshake = record (end.handshake) { phase = phase_of_state state };
   accepted = if state == 2 then [] else end.accepted;
   freed = if state == 2 then 0 else end.freed;
   delivered = if state == 2 then [] else end.delivered;
@@ -76,4 +76,4 @@ pub record PhaseFollowsState : Type 0 where
   pub kept : (end : End) (step : Step) → ((state : ℕ) → step.access ≢ access.State state) →
       (end_after end step).handshake.phase ≡ end.handshake.phase
   pub written : (end : End) (step : Step) (state : ℕ) → step.access ≡ access.State state →
-      (end_after end step).handshake.phase ≡ phase_at state
+      (end_after end step).handshake.phase ≡ phase_of_state state

@@ -14,7 +14,7 @@ use Rattle.call_grammar.specs.Polls.{Item, item_entry, IsValidItem, item_steps}
 
 -- If the access is a read, the value that it met is the word's value.
 abbrev pub MatchesWords : EndConfig → (ℕ → ℕ) → Access → ℕ → Type 0
-MatchesWords config words (access.Read word) value = value ≡ words (word - config.theirs)
+MatchesWords config words (access.Read word) value = value ≡ words (word - config.other_start)
 MatchesWords config words _ value = Unit {0}
 
 -- Each read of these steps met the word's value.

@@ -68,7 +68,7 @@ avail_event_marks number value = if wants_doorbell (low_half value) number then 
 -- The read of the other's avail_event, and the doorbell if it wants one for this frame.
 abbrev pub read_avail_event : EndConfig → ℕ → CallTree
 read_avail_event config number =
-    Reads (config.theirs + word_offset config.sizes AvailEvent)
+    Reads (config.other_start + word_offset config.sizes AvailEvent)
     (λ value. avail_event_marks number value)
     (λ value. if wants_doorbell (low_half value) number then ring_doorbell config else Ended)
 
@@ -130,7 +130,7 @@ used_id_marks config pending freed more value =
 abbrev pub read_used_ids : EndConfig → PendingOffer → ℕ → ℕ → CallTree
 read_used_ids config pending freed zero = after_ids config pending freed
 read_used_ids config pending freed (suc more) =
-    Reads (config.theirs + word_offset config.sizes (UsedId (avail_entry_of config freed)))
+    Reads (config.other_start + word_offset config.sizes (UsedId (avail_entry_of config freed)))
     (λ value. used_id_marks config pending freed more value)
     (λ value. if is_used_id (descriptor_of config freed) value then read_used_ids config pending (freed + 1) more else set_state 0)
 
@@ -152,7 +152,7 @@ used_index_marks config pending freed value =
 -- An offer of this pending frame, after `freed` frames were freed.
 abbrev pub offer : EndConfig → PendingOffer → ℕ → CallTree
 offer config pending freed =
-    Reads (config.theirs + word_offset config.sizes UsedIndex)
+    Reads (config.other_start + word_offset config.sizes UsedIndex)
     (λ value. used_index_marks config pending freed value)
     (λ value. if is_used_index (freed % 65536) (high_half value) (pending.number - freed) then read_used_ids config pending freed (returned_by freed value) else set_state 0)
 
@@ -160,11 +160,11 @@ offer config pending freed =
 
 -- The read of the used index, with its marks.
 abbrev pub used_index_step : EndConfig → ℕ → List Mark → Step
-used_index_step config value marks = step_of (Read (config.theirs + word_offset config.sizes UsedIndex)) value marks
+used_index_step config value marks = step_of (Read (config.other_start + word_offset config.sizes UsedIndex)) value marks
 
 -- The read of the id of the used element with this number.
 abbrev pub used_id_step : EndConfig → ℕ → ℕ → List Mark → Step
-used_id_step config number value marks = step_of (Read (config.theirs + word_offset config.sizes (UsedId (avail_entry_of config number)))) value marks
+used_id_step config number value marks = step_of (Read (config.other_start + word_offset config.sizes (UsedId (avail_entry_of config number)))) value marks
 
 -- The reads of the ids in order, from number `freed` on, the last with these marks.
 abbrev pub used_id_steps : EndConfig → ℕ → ℕ → List Mark → List Step
@@ -200,7 +200,7 @@ doorbell_step config marks = step_of (Ring config.other config.vector) 0 marks
 
 -- The read of the other's avail_event.
 abbrev pub avail_event_read_step : EndConfig → (number value : ℕ) → Step
-avail_event_read_step config number value = step_of (Read (config.theirs + word_offset config.sizes AvailEvent)) value (avail_event_marks number value)
+avail_event_read_step config number value = step_of (Read (config.other_start + word_offset config.sizes AvailEvent)) value (avail_event_marks number value)
 
 -- The notification for this frame. In a link with events it is the read of the other's avail_event,
 -- which met `value`, and the doorbell if that value wants one.

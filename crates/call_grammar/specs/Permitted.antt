@@ -13,7 +13,7 @@ use Rattle.call_grammar.specs.Calls.{Call, Offer, tree_of}
 
 -- A word that an end may read: the other's State, or a word of the other's section.
 abbrev pub MayRead : EndConfig → ℕ → Type 0
-MayRead config word = (word ≡ other_state config) ⊎ ((config.theirs ≤ word) × (word < config.theirs + config.words))
+MayRead config word = (word ≡ other_state config) ⊎ ((config.other_start ≤ word) × (word < config.other_start + config.words))
 
 -- A word that an end may write: a word of its own section.
 abbrev pub MayStore : EndConfig → ℕ → Type 0

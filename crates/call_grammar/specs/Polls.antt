@@ -51,7 +51,7 @@ write_used_id config number entry after = Does (Write (config.own + word_offset 
 abbrev pub read_words : EndConfig → (number entry address bytes : ℕ) → List ℕ → ℕ → CallTree → CallTree
 read_words config number entry address bytes read zero after = write_used_id config number entry after
 read_words config number entry address bytes read (suc more) after =
-    Reads (config.theirs + (address / 4 + length read))
+    Reads (config.other_start + (address / 4 + length read))
     (λ value. if more == 0 then Deliver (frame_in bytes (read ++ value ∷ [])) ∷ [] else [])
     (λ value. read_words config number entry address bytes (read ++ value ∷ []) more after)
 
@@ -59,29 +59,29 @@ read_words config number entry address bytes read (suc more) after =
 -- with its test.
 abbrev pub read_flags : EndConfig → (number entry address bytes : ℕ) → CallTree → CallTree
 read_flags config number entry address bytes after =
-    Reads (config.theirs + word_offset config.sizes (DescFlags entry))
+    Reads (config.other_start + word_offset config.sizes (DescFlags entry))
     (λ value. flags_marks value)
     (λ value. if is_desc_flags (desc_flags value) then read_words config number entry address bytes [] (words_for bytes) after else set_state 0)
 
 abbrev pub read_length : EndConfig → (number entry address : ℕ) → CallTree → CallTree
 read_length config number entry address after =
-    Reads (config.theirs + word_offset config.sizes (DescLength entry))
+    Reads (config.other_start + word_offset config.sizes (DescLength entry))
     (λ value. length_marks config address value)
     (λ value. if is_desc_length config.sizes address value then read_flags config number entry address value after else set_state 0)
 
 abbrev pub read_high : EndConfig → (number entry low : ℕ) → CallTree → CallTree
 read_high config number entry low after =
-    Reads (config.theirs + word_offset config.sizes (DescAddress entry) + 1)
+    Reads (config.other_start + word_offset config.sizes (DescAddress entry) + 1)
     (λ value. address_marks config low value)
     (λ value. if is_desc_address config.sizes (address_of low value) then read_length config number entry (address_of low value) after else set_state 0)
 
 abbrev pub read_low : EndConfig → (number entry : ℕ) → CallTree → CallTree
 read_low config number entry after =
-    Reads (config.theirs + word_offset config.sizes (DescAddress entry)) (λ value. []) (λ value. read_high config number entry value after)
+    Reads (config.other_start + word_offset config.sizes (DescAddress entry)) (λ value. []) (λ value. read_high config number entry value after)
 
 abbrev pub item : EndConfig → ℕ → CallTree → CallTree
 item config number after =
-    Reads (config.theirs + word_offset config.sizes (AvailEntry (avail_entry_of config number)))
+    Reads (config.other_start + word_offset config.sizes (AvailEntry (avail_entry_of config number)))
     (λ value. entry_marks config number value)
     (λ value. if is_avail_entry config.sizes (entry_in config number value) then read_low config number (entry_in config number value) after else set_state 0)
 
@@ -124,7 +124,7 @@ after_look config taken value none = if published_by taken value == 0 then none 
 -- `none` if no frame was published.
 abbrev pub read_avail_index : EndConfig → ℕ → (last : Bool) → CallTree → CallTree
 read_avail_index config taken last none =
-    Reads (config.theirs + word_offset config.sizes AvailIndex)
+    Reads (config.other_start + word_offset config.sizes AvailIndex)
     (λ value. avail_index_marks config taken last value)
     (λ value. if is_avail_index config.sizes (taken % 65536) (high_half value) then after_look config taken value none else set_state 0)
 
@@ -159,25 +159,25 @@ item_address read = address_of read.low read.high
 
 -- The reads of an item up to each of its tests, the last with these marks.
 abbrev pub entry_step : EndConfig → ℕ → Item → List Mark → Step
-entry_step config number read marks = step_of (Read (config.theirs + word_offset config.sizes (AvailEntry (avail_entry_of config number)))) read.entry_word marks
+entry_step config number read marks = step_of (Read (config.other_start + word_offset config.sizes (AvailEntry (avail_entry_of config number)))) read.entry_word marks
 
 abbrev pub low_step : EndConfig → ℕ → Item → Step
-low_step config number read = step_of (Read (config.theirs + word_offset config.sizes (DescAddress (item_entry config number read)))) read.low []
+low_step config number read = step_of (Read (config.other_start + word_offset config.sizes (DescAddress (item_entry config number read)))) read.low []
 
 abbrev pub high_step : EndConfig → ℕ → Item → List Mark → Step
-high_step config number read marks = step_of (Read (config.theirs + word_offset config.sizes (DescAddress (item_entry config number read)) + 1)) read.high marks
+high_step config number read marks = step_of (Read (config.other_start + word_offset config.sizes (DescAddress (item_entry config number read)) + 1)) read.high marks
 
 abbrev pub length_step : EndConfig → ℕ → Item → List Mark → Step
-length_step config number read marks = step_of (Read (config.theirs + word_offset config.sizes (DescLength (item_entry config number read)))) read.bytes marks
+length_step config number read marks = step_of (Read (config.other_start + word_offset config.sizes (DescLength (item_entry config number read)))) read.bytes marks
 
 abbrev pub flags_step : EndConfig → ℕ → Item → List Mark → Step
-flags_step config number read marks = step_of (Read (config.theirs + word_offset config.sizes (DescFlags (item_entry config number read)))) read.flags_word marks
+flags_step config number read marks = step_of (Read (config.other_start + word_offset config.sizes (DescFlags (item_entry config number read)))) read.flags_word marks
 
 -- The reads of these words of a frame from word `at` on, the last with these marks.
 abbrev pub word_steps : EndConfig → (address at : ℕ) → List ℕ → List Mark → List Step
 word_steps config address at [] marks = []
 word_steps config address at (word ∷ words) marks =
-    step_of (Read (config.theirs + (address / 4 + at))) word (if length words == 0 then marks else []) ∷ word_steps config address (at + 1) words marks
+    step_of (Read (config.other_start + (address / 4 + at))) word (if length words == 0 then marks else []) ∷ word_steps config address (at + 1) words marks
 
 abbrev pub return_steps : EndConfig → (number entry : ℕ) → List Step
 return_steps config number entry =
@@ -244,7 +244,7 @@ IsRefusedItem config number read steps =
 
 -- The read of the available index, with its marks.
 abbrev pub avail_index_step : EndConfig → ℕ → List Mark → Step
-avail_index_step config value marks = step_of (Read (config.theirs + word_offset config.sizes AvailIndex)) value marks
+avail_index_step config value marks = step_of (Read (config.other_start + word_offset config.sizes AvailIndex)) value marks
 
 -- The available index is out of range.
 pub record RefusesAvailIndex (config : EndConfig) (taken : ℕ) (steps : List Step) : Type 0 where

@@ -40,10 +40,10 @@ AreDistinct (word ∷ words) = IsNone word words × AreDistinct words
 
 -- The words with the indices of the other's section.
 abbrev pub used_index_word : EndConfig → ℕ
-used_index_word config = config.theirs + word_offset config.sizes UsedIndex
+used_index_word config = config.other_start + word_offset config.sizes UsedIndex
 
 abbrev pub avail_index_word : EndConfig → ℕ
-avail_index_word config = config.theirs + word_offset config.sizes AvailIndex
+avail_index_word config = config.other_start + word_offset config.sizes AvailIndex
 
 -- The index word of a field.
 abbrev pub index_in : EndConfig → FieldName → List ℕ
@@ -85,5 +85,5 @@ pub record FieldsAreReadOnce : Type 0 where
       AreDistinct (reads_of steps)
   pub offered : (config : EndConfig) (pending : PendingOffer) (freed : ℕ) (steps : List Step) → HasSections config → pending.number ≤ freed + limit_of config.sizes →
       IsOffer config pending freed steps → AreDistinct (reads_of steps)
-  pub indexes : (config : EndConfig) (end : End) (call : Call) (steps : List Step) (left : CallTree) → HasSections config → other_state config < config.theirs →
+  pub indexes : (config : EndConfig) (end : End) (call : Call) (steps : List Step) (left : CallTree) → HasSections config → other_state config < config.other_start →
       GoesAlong (tree_of config end call) steps left → All (ReadsForUse config) steps

@@ -3,7 +3,7 @@
 use Rattle.std.specs.Prelude.{ℕ, ◌≡◌, ◌⊎◌, List, [], ◌∷◌}
 use Rattle.link_handshake.specs.declared.Phase.{Phase}
 use Rattle.link_handshake.specs.declared.Move.TheVariants.{Set, ClearThenSet}
-use Rattle.link_handshake.specs.PhaseTable.{move_on, phase_at}
+use Rattle.link_handshake.specs.PhaseTable.{phase_move, phase_of_state}
 use Rattle.split_ring.specs.declared.steps.Access.{Access}
 use Rattle.split_ring.specs.declared.steps.Access.TheVariants as access
 use Rattle.call_grammar.specs.Steps.{Mark, Saw, Step}
@@ -14,11 +14,11 @@ use Rattle.call_grammar.specs.Calls.{EndConfig, Call, tree_of}
 
 -- An end in phase `phase` that read `seen` moves to this State.
 abbrev pub MovesTo : Phase → ℕ → ℕ → Type 0
-MovesTo phase seen state = (move_on phase seen ≡ Set state) ⊎ (move_on phase seen ≡ ClearThenSet state)
+MovesTo phase seen state = (phase_move phase seen ≡ Set state) ⊎ (phase_move phase seen ≡ ClearThenSet state)
 
 -- The phase after an access.
 abbrev pub phase_with : Phase → Access → Phase
-phase_with phase (access.State state) = phase_at state
+phase_with phase (access.State state) = phase_of_state state
 phase_with phase _ = phase
 
 -- The State value read last, after these marks.

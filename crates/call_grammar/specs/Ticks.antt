@@ -17,7 +17,7 @@ pub record EndConfig : Type 0 where
   pub me : ℕ
   pub other : ℕ
   pub own : ℕ
-  pub theirs : ℕ
+  pub other_start : ℕ
   pub words : ℕ
   pub sizes : Sizes
   pub vector : ℕ

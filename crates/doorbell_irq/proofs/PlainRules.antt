@@ -10,7 +10,7 @@ use Rattle.std.proofs.Math.Nat.{mod-eq_of_lt}
 use Rattle.pci_space.specs.declared.wiring.Wiring.{Wiring}
 use Rattle.pci_space.specs.Numbers.{number_byte, number_from}
 use Rattle.pci_space.specs.Fields.{merged, reset_byte}
-use Rattle.pci_space.proofs.NumberLemmas.{number_from-bytes}
+use Rattle.pci_space.proofs.NumberBytes.{number_from-bytes}
 use Rattle.doorbell_irq.specs.Events.{Devices, Event, ConfigWritten, RegisterWritten, MsixWritten, WasReset, WasDisconnected, WasConnected, Part, Page, page_rows}
 use Rattle.doorbell_irq.specs.DeviceRules.{Write, state_in, is_enabled, is_one_shot, bit, vector_by, page_write, write_of, write_or, clear_of, byte_after, delivery_by, delivery_of, resets, is_connected, bytes_after}
 

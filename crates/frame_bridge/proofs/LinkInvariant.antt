@@ -22,7 +22,7 @@ use Rattle.link_invariant.specs.LinkConfig.{IsLinkConfig, config_of, IsOffered, 
 use Rattle.link_invariant.specs.Steps.{Stored, ReadsMemory, MemoryAfter, OnlyEndChanges, BeginsCall, TakesStep}
 use Rattle.link_invariant.specs.Sides.{CallIs, SideIs, SawFor}
 use Rattle.pair_sessions.specs.CalmRuns.{CalmRuns, begins, steps}
-use Rattle.pair_sessions.proofs.CalmRuns.{deliver_lem}
+use Rattle.pair_sessions.proofs.CalmRuns.{calm_runs_deliver}
 use Rattle.link_endpoint.specs.Plan.{left_after, delivered_by}
 use Rattle.frame_bridge.specs.Links.{link_config, expected, AutoEnd, Link, choice, with_choice, opened, stepped, value_in, words_after, with_end, step_of_link, turned}
 use Rattle.frame_bridge.specs.Keeps.{pending_frame, HeadIs, ends_in, places_in, Sound}
@@ -243,7 +243,7 @@ call_at end place side at is =
 empty_lists : (link : Link) (p : ℕ) → CalmRuns link_config link.memory (ends_in link) (places_in link) → p < 2 → places_in link p ≡ WritingState 2 →
     ((ends_in link p).accepted ≡ []) × ((ends_in link p).delivered ≡ [])
 empty_lists link p runs below at =
-    let all = deliver_lem link_config link.memory (ends_in link) (places_in link) is_link_config runs in
+    let all = calm_runs_deliver link_config link.memory (ends_in link) (places_in link) is_link_config runs in
     let here = all.3 p below in
     none_yet (all.1 p).opened (ends_in link p) here.1.stays here.1.none (call_at (ends_in link p) (places_in link p) (all.0 p) at here.0)
 

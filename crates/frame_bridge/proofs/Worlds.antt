@@ -14,7 +14,7 @@ use Rattle.link_invariant.specs.LinkConfig.{config_of, IsOffered}
 use Rattle.link_invariant.specs.Runs.{HonestRuns}
 use Rattle.link_invariant.specs.Runs as honest
 use Rattle.pair_sessions.specs.CalmRuns.{CalmRuns, starts, begins, steps, others}
-use Rattle.pair_sessions.proofs.CalmRuns.{deliver_lem}
+use Rattle.pair_sessions.proofs.CalmRuns.{calm_runs_deliver}
 use Rattle.frame_bridge.specs.declared.scripts.Sent.{Sent}
 use Rattle.frame_bridge.specs.Spelling as text
 use Rattle.frame_bridge.specs.Forwarding.{Arrival, is_forwarded, forwarded_after, forward}
@@ -159,7 +159,7 @@ copies_sound sent forwarded copies link sound may = record { runs = runs; counte
 -- Each frame that the bridge's end delivered was offered by the station.
 pub delivered_offered : (sent forwarded : List (List ℕ)) (link : Link) → Sound (given_to sent forwarded) link → All (IsOffered link_config) (link.auto_ends 1).delivered
 delivered_offered sent forwarded link sound =
-    let all = deliver_lem link_config link.memory (ends_in link) (places_in link) is_link_config sound.runs in
+    let all = calm_runs_deliver link_config link.memory (ends_in link) (places_in link) is_link_config sound.runs in
     let begins_with = (all.3 0 (omega arith)).2 in
     let accepted : All (IsOffered link_config) (link.auto_ends 0).end.accepted =
     All_left (IsOffered link_config) (link.auto_ends 0).end.accepted (link.auto_ends 0).frames (subst (All (IsOffered link_config)) (sound.counted 0 (omega arith)) (sound.offered 0 (omega arith))) in
@@ -288,7 +288,7 @@ pub delivers : (script : text.World) (w : World) (port : ℕ) → Going script.s
 delivers script w port going below =
     let link : Link = w.links port in
     let sound : Sound (given_to (frames_of port script.sent) (forward w.arrivals port)) link = going.links port below in
-    let all = deliver_lem link_config link.memory (ends_in link) (places_in link) is_link_config sound.runs in
+    let all = calm_runs_deliver link_config link.memory (ends_in link) (places_in link) is_link_config sound.runs in
     let station = (all.3 0 (omega arith)).2 in
     let bridge = (all.3 1 (omega arith)).2 in
     let arrived : arrived_at port w.arrivals ≡ (link.auto_ends 1).end.delivered = going.arrived port below ∙ sound.recorded 1 (omega arith) in

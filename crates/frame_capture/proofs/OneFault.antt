@@ -50,16 +50,16 @@ never_cut order cut = let a = cut.0 in omega arith
 
 -- ---- a fault is of no file
 
-pub no_file_lem : FaultsAreOfNoFile
-no_file_lem bytes (Short found) capture small m h file = let a = h.0 in let b = (file_header capture bytes file).0.0 in omega arith
-no_file_lem bytes (BadMagic value) capture small m h file = h.1 file.order (file_header capture bytes file).0.1
-no_file_lem bytes (BadVersion major minor) capture small m (o, begins, isnt, a, b) file =
+pub faults_are_of_no_file : FaultsAreOfNoFile
+faults_are_of_no_file bytes (Short found) capture small m h file = let a = h.0 in let b = (file_header capture bytes file).0.0 in omega arith
+faults_are_of_no_file bytes (BadMagic value) capture small m h file = h.1 file.order (file_header capture bytes file).0.1
+faults_are_of_no_file bytes (BadVersion major minor) capture small m (o, begins, isnt, a, b) file =
     isnt (subst (λ (x : Order). IsVersion x bytes) (one_order bytes file.order o small (file_header capture bytes file).0.1 begins.1) (file_header capture bytes file).1)
-no_file_lem bytes (BadLinkType value) capture small m (o, begins, version, isnt, a) file =
+faults_are_of_no_file bytes (BadLinkType value) capture small m (o, begins, version, isnt, a) file =
     isnt (subst (λ (x : Order). IsEthernet x bytes) (one_order bytes file.order o small (file_header capture bytes file).0.1 begins.1) (file_header capture bytes file).2)
-no_file_lem bytes (BadPacket number) capture small m h file = no_packet_fault IsTooLong too_long_ends never_long bytes number capture small h file
-no_file_lem bytes (CutPacket number) capture small m h file = no_packet_fault IsCut cut_ends never_cut bytes number capture small h file
-no_file_lem bytes NoMemory capture small m h file = m refl
+faults_are_of_no_file bytes (BadPacket number) capture small m h file = no_packet_fault IsTooLong too_long_ends never_long bytes number capture small h file
+faults_are_of_no_file bytes (CutPacket number) capture small m h file = no_packet_fault IsCut cut_ends never_cut bytes number capture small h file
+faults_are_of_no_file bytes NoMemory capture small m h file = m refl
 
 -- ---- one fault
 
@@ -92,47 +92,47 @@ long_and_cut bytes n m small h g =
     let both = (one_fault IsTooLong IsCut too_long_ends cut_ends bytes n m small h g).1 in
     not_both both.0 both.1 both.2 both.3
 
-pub one_lem : FaultsAreOne
-one_lem bytes (Short a) (Short b) small m n h g = ap Short (h.1 ∙ sym g.1)
-one_lem bytes (Short a) (BadMagic b) small m n h g = absurd (let x = h.0 in let y = g.0 in omega arith)
-one_lem bytes (Short a) (BadVersion b c) small m n h g = absurd (too_short bytes a h (g.0, g.1))
-one_lem bytes (Short a) (BadLinkType b) small m n h g = absurd (too_short bytes a h (g.0, g.1))
-one_lem bytes (Short a) (BadPacket b) small m n h g = absurd (too_short bytes a h (g.0, g.1.0))
-one_lem bytes (Short a) (CutPacket b) small m n h g = absurd (too_short bytes a h (g.0, g.1.0))
-one_lem bytes (BadMagic a) (Short b) small m n h g = absurd (let x = h.0 in let y = g.0 in omega arith)
-one_lem bytes (BadMagic a) (BadMagic b) small m n h g = ap BadMagic (h.2 ∙ sym g.2)
-one_lem bytes (BadMagic a) (BadVersion b c) small m n h g = absurd (no_magic bytes a h (g.0, g.1))
-one_lem bytes (BadMagic a) (BadLinkType b) small m n h g = absurd (no_magic bytes a h (g.0, g.1))
-one_lem bytes (BadMagic a) (BadPacket b) small m n h g = absurd (no_magic bytes a h (g.0, g.1.0))
-one_lem bytes (BadMagic a) (CutPacket b) small m n h g = absurd (no_magic bytes a h (g.0, g.1.0))
-one_lem bytes (BadVersion a c) (Short b) small m n h g = absurd (too_short bytes b g (h.0, h.1))
-one_lem bytes (BadVersion a c) (BadMagic b) small m n h g = absurd (no_magic bytes b g (h.0, h.1))
-one_lem bytes (BadVersion a c) (BadVersion b d) small m n h g = same_version bytes a c b d small h g
-one_lem bytes (BadVersion a c) (BadLinkType b) small m n h g = absurd (no_version bytes h.0 g.0 small h.1 g.1 h.2 g.2)
-one_lem bytes (BadVersion a c) (BadPacket b) small m n h g = absurd (no_version bytes h.0 g.0 small h.1 g.1.0 h.2 g.1.1)
-one_lem bytes (BadVersion a c) (CutPacket b) small m n h g = absurd (no_version bytes h.0 g.0 small h.1 g.1.0 h.2 g.1.1)
-one_lem bytes (BadLinkType a) (Short b) small m n h g = absurd (too_short bytes b g (h.0, h.1))
-one_lem bytes (BadLinkType a) (BadMagic b) small m n h g = absurd (no_magic bytes b g (h.0, h.1))
-one_lem bytes (BadLinkType a) (BadVersion b d) small m n h g = absurd (no_version bytes g.0 h.0 small g.1 h.1 g.2 h.2)
-one_lem bytes (BadLinkType a) (BadLinkType b) small m n h g = same_link_type bytes a b small h g
-one_lem bytes (BadLinkType a) (BadPacket b) small m n h g = absurd (no_ethernet bytes h.0 g.0 small h.1 g.1.0 h.3 g.1.2)
-one_lem bytes (BadLinkType a) (CutPacket b) small m n h g = absurd (no_ethernet bytes h.0 g.0 small h.1 g.1.0 h.3 g.1.2)
-one_lem bytes (BadPacket a) (Short b) small m n h g = absurd (too_short bytes b g (h.0, h.1.0))
-one_lem bytes (BadPacket a) (BadMagic b) small m n h g = absurd (no_magic bytes b g (h.0, h.1.0))
-one_lem bytes (BadPacket a) (BadVersion b d) small m n h g = absurd (no_version bytes g.0 h.0 small g.1 h.1.0 g.2 h.1.1)
-one_lem bytes (BadPacket a) (BadLinkType b) small m n h g = absurd (no_ethernet bytes g.0 h.0 small g.1 h.1.0 g.3 h.1.2)
-one_lem bytes (BadPacket a) (BadPacket b) small m n h g = ap BadPacket (one_fault IsTooLong IsTooLong too_long_ends too_long_ends bytes a b small h g).0
-one_lem bytes (BadPacket a) (CutPacket b) small m n h g = absurd (long_and_cut bytes a b small h g)
-one_lem bytes (CutPacket a) (Short b) small m n h g = absurd (too_short bytes b g (h.0, h.1.0))
-one_lem bytes (CutPacket a) (BadMagic b) small m n h g = absurd (no_magic bytes b g (h.0, h.1.0))
-one_lem bytes (CutPacket a) (BadVersion b d) small m n h g = absurd (no_version bytes g.0 h.0 small g.1 h.1.0 g.2 h.1.1)
-one_lem bytes (CutPacket a) (BadLinkType b) small m n h g = absurd (no_ethernet bytes g.0 h.0 small g.1 h.1.0 g.3 h.1.2)
-one_lem bytes (CutPacket a) (BadPacket b) small m n h g = absurd (long_and_cut bytes b a small g h)
-one_lem bytes (CutPacket a) (CutPacket b) small m n h g = ap CutPacket (one_fault IsCut IsCut cut_ends cut_ends bytes a b small h g).0
-one_lem bytes NoMemory b small m n h g = absurd (m refl)
-one_lem bytes (Short a) NoMemory small m n h g = absurd (n refl)
-one_lem bytes (BadMagic a) NoMemory small m n h g = absurd (n refl)
-one_lem bytes (BadVersion a c) NoMemory small m n h g = absurd (n refl)
-one_lem bytes (BadLinkType a) NoMemory small m n h g = absurd (n refl)
-one_lem bytes (BadPacket a) NoMemory small m n h g = absurd (n refl)
-one_lem bytes (CutPacket a) NoMemory small m n h g = absurd (n refl)
+pub faults_are_one : FaultsAreOne
+faults_are_one bytes (Short a) (Short b) small m n h g = ap Short (h.1 ∙ sym g.1)
+faults_are_one bytes (Short a) (BadMagic b) small m n h g = absurd (let x = h.0 in let y = g.0 in omega arith)
+faults_are_one bytes (Short a) (BadVersion b c) small m n h g = absurd (too_short bytes a h (g.0, g.1))
+faults_are_one bytes (Short a) (BadLinkType b) small m n h g = absurd (too_short bytes a h (g.0, g.1))
+faults_are_one bytes (Short a) (BadPacket b) small m n h g = absurd (too_short bytes a h (g.0, g.1.0))
+faults_are_one bytes (Short a) (CutPacket b) small m n h g = absurd (too_short bytes a h (g.0, g.1.0))
+faults_are_one bytes (BadMagic a) (Short b) small m n h g = absurd (let x = h.0 in let y = g.0 in omega arith)
+faults_are_one bytes (BadMagic a) (BadMagic b) small m n h g = ap BadMagic (h.2 ∙ sym g.2)
+faults_are_one bytes (BadMagic a) (BadVersion b c) small m n h g = absurd (no_magic bytes a h (g.0, g.1))
+faults_are_one bytes (BadMagic a) (BadLinkType b) small m n h g = absurd (no_magic bytes a h (g.0, g.1))
+faults_are_one bytes (BadMagic a) (BadPacket b) small m n h g = absurd (no_magic bytes a h (g.0, g.1.0))
+faults_are_one bytes (BadMagic a) (CutPacket b) small m n h g = absurd (no_magic bytes a h (g.0, g.1.0))
+faults_are_one bytes (BadVersion a c) (Short b) small m n h g = absurd (too_short bytes b g (h.0, h.1))
+faults_are_one bytes (BadVersion a c) (BadMagic b) small m n h g = absurd (no_magic bytes b g (h.0, h.1))
+faults_are_one bytes (BadVersion a c) (BadVersion b d) small m n h g = same_version bytes a c b d small h g
+faults_are_one bytes (BadVersion a c) (BadLinkType b) small m n h g = absurd (no_version bytes h.0 g.0 small h.1 g.1 h.2 g.2)
+faults_are_one bytes (BadVersion a c) (BadPacket b) small m n h g = absurd (no_version bytes h.0 g.0 small h.1 g.1.0 h.2 g.1.1)
+faults_are_one bytes (BadVersion a c) (CutPacket b) small m n h g = absurd (no_version bytes h.0 g.0 small h.1 g.1.0 h.2 g.1.1)
+faults_are_one bytes (BadLinkType a) (Short b) small m n h g = absurd (too_short bytes b g (h.0, h.1))
+faults_are_one bytes (BadLinkType a) (BadMagic b) small m n h g = absurd (no_magic bytes b g (h.0, h.1))
+faults_are_one bytes (BadLinkType a) (BadVersion b d) small m n h g = absurd (no_version bytes g.0 h.0 small g.1 h.1 g.2 h.2)
+faults_are_one bytes (BadLinkType a) (BadLinkType b) small m n h g = same_link_type bytes a b small h g
+faults_are_one bytes (BadLinkType a) (BadPacket b) small m n h g = absurd (no_ethernet bytes h.0 g.0 small h.1 g.1.0 h.3 g.1.2)
+faults_are_one bytes (BadLinkType a) (CutPacket b) small m n h g = absurd (no_ethernet bytes h.0 g.0 small h.1 g.1.0 h.3 g.1.2)
+faults_are_one bytes (BadPacket a) (Short b) small m n h g = absurd (too_short bytes b g (h.0, h.1.0))
+faults_are_one bytes (BadPacket a) (BadMagic b) small m n h g = absurd (no_magic bytes b g (h.0, h.1.0))
+faults_are_one bytes (BadPacket a) (BadVersion b d) small m n h g = absurd (no_version bytes g.0 h.0 small g.1 h.1.0 g.2 h.1.1)
+faults_are_one bytes (BadPacket a) (BadLinkType b) small m n h g = absurd (no_ethernet bytes g.0 h.0 small g.1 h.1.0 g.3 h.1.2)
+faults_are_one bytes (BadPacket a) (BadPacket b) small m n h g = ap BadPacket (one_fault IsTooLong IsTooLong too_long_ends too_long_ends bytes a b small h g).0
+faults_are_one bytes (BadPacket a) (CutPacket b) small m n h g = absurd (long_and_cut bytes a b small h g)
+faults_are_one bytes (CutPacket a) (Short b) small m n h g = absurd (too_short bytes b g (h.0, h.1.0))
+faults_are_one bytes (CutPacket a) (BadMagic b) small m n h g = absurd (no_magic bytes b g (h.0, h.1.0))
+faults_are_one bytes (CutPacket a) (BadVersion b d) small m n h g = absurd (no_version bytes g.0 h.0 small g.1 h.1.0 g.2 h.1.1)
+faults_are_one bytes (CutPacket a) (BadLinkType b) small m n h g = absurd (no_ethernet bytes g.0 h.0 small g.1 h.1.0 g.3 h.1.2)
+faults_are_one bytes (CutPacket a) (BadPacket b) small m n h g = absurd (long_and_cut bytes b a small g h)
+faults_are_one bytes (CutPacket a) (CutPacket b) small m n h g = ap CutPacket (one_fault IsCut IsCut cut_ends cut_ends bytes a b small h g).0
+faults_are_one bytes NoMemory b small m n h g = absurd (m refl)
+faults_are_one bytes (Short a) NoMemory small m n h g = absurd (n refl)
+faults_are_one bytes (BadMagic a) NoMemory small m n h g = absurd (n refl)
+faults_are_one bytes (BadVersion a c) NoMemory small m n h g = absurd (n refl)
+faults_are_one bytes (BadLinkType a) NoMemory small m n h g = absurd (n refl)
+faults_are_one bytes (BadPacket a) NoMemory small m n h g = absurd (n refl)
+faults_are_one bytes (CutPacket a) NoMemory small m n h g = absurd (n refl)

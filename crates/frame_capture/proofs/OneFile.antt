@@ -152,5 +152,5 @@ frames_from peer number (line ∷ lines) =
     ∙ ap (λ (fs : List (List ℕ)). delivered_frame peer line ++ fs) (frames_from peer (number + 1) lines)
     ∙ sym (flat_map-cons (delivered_frame peer) line lines)
 
-pub frames_lem : FramesAreDelivered
-frames_lem peer lines = frames_from peer 1 lines
+pub frames_are_delivered : FramesAreDelivered
+frames_are_delivered peer lines = frames_from peer 1 lines

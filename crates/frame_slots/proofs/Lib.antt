@@ -1,4 +1,4 @@
-pub mod Fitting
-pub mod Flights
-pub mod Rings
-pub mod Rounds
+pub mod PlacedFramesFit
+pub mod FramesInOrder
+pub mod AllocatorRefinesSession
+pub mod DescriptorsAreReusedInOrder

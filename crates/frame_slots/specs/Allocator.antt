@@ -30,14 +30,14 @@ pub record IsAllocator (t : Allocator) : Type 0 where
   pub head : t.head ≤ data_area_len t.sizes
   pub tail : t.tail ≤ data_area_len t.sizes
 
--- The descriptor `turns` before the next one.
+-- The descriptor `count` before the next one.
 abbrev pub descriptor_before : Allocator → ℕ → ℕ
-descriptor_before t turns = (t.next + limit_of t.sizes - turns) % limit_of t.sizes
+descriptor_before t count = (t.next + limit_of t.sizes - count) % limit_of t.sizes
 
 -- A descriptor is in flight exactly if it is one of the `in_flight` descriptors before the next
 -- one.
 abbrev pub IsInFlight : Allocator → ℕ → Type 0
-IsInFlight t descriptor = (turns : ℕ) × (0 < turns) × (turns ≤ t.in_flight) × (descriptor ≡ descriptor_before t turns)
+IsInFlight t descriptor = (count : ℕ) × (0 < count) × (count ≤ t.in_flight) × (descriptor ≡ descriptor_before t count)
 
 -- The descriptor of the oldest frame in flight.
 abbrev pub oldest_of : Allocator → ℕ

@@ -23,7 +23,7 @@ use Rattle.link_invariant.specs.Fields.{AvailEvent}
 use Rattle.link_invariant.specs.LinkConfig.{LinkConfig, IsLinkConfig, config_of, fields}
 use Rattle.link_invariant.specs.Steps.{MemoryAfter}
 use Rattle.link_invariant.specs.EndInvariant.{PlaceInvariant}
-use Rattle.link_invariant.proofs.WriteSteps.{puts_lem}
+use Rattle.link_invariant.proofs.WriteSteps.{place_puts}
 use Rattle.link_invariant.proofs.DoorbellIsRung.{event_stays}
 
 -- avail_event is the number of the next frame to be delivered.
@@ -106,11 +106,11 @@ full_asked config event end pending freed a = by_marks event end (frame_fits con
 
 -- A call begins
 
-run_tells : (phase : Phase) → in_run phase ≡ true → phase ≡ Run
-run_tells Run is = refl
-run_tells Reset is = cc
-run_tells Init is = cc
-run_tells Ready is = cc
+run_of_test : (phase : Phase) → in_run phase ≡ true → phase ≡ Run
+run_of_test Run is = refl
+run_of_test Reset is = cc
+run_of_test Init is = cc
+run_of_test Ready is = cc
 
 look_armed : (event : ℕ) (end : End) (taken : ℕ) (events found_none : Bool) → events ≡ true → end.found_none ≡ found_none → (found_none ≡ true → Stood event end) → Asked event end → ArmedIs event end (ReadingAvailIndex taken (not events || found_none))
 look_armed event end taken false found_none is none stood a = cc
@@ -126,7 +126,7 @@ pub begin_armed : (config : EndConfig) (event : ℕ) (end : End) (call : Call) �
 begin_armed config event end Tick has a = a
 begin_armed config event end Stop has a = a
 begin_armed config event end (Offer frame) has a = either (ArmedIs event end) (in_run end.handshake.phase) (ReadingUsedIndex (pending_of config end frame) end.freed) NotInRun a a
-begin_armed config event end Poll has a = poll_armed config event end (in_run end.handshake.phase) has (run_tells end.handshake.phase) a
+begin_armed config event end Poll has a = poll_armed config event end (in_run end.handshake.phase) has (run_of_test end.handshake.phase) a
 
 pub reset_armed : (event : ℕ) (end : End) → ArmedIs event (after_reset end) Closed
 reset_armed event end = (λ ready. cc, λ run none. cc)
@@ -239,7 +239,7 @@ armed_on link_config is p below memory after end Closed value opened left h a = 
 armed_on link_config is p below memory after end (Clearing at more state) value opened left h a =
     let init = h.0 in
     clear_armed (fields link_config after p AvailEvent) (with_access end (access_at (config_of link_config p) (Clearing at more state))) (at + 1) more state (λ ready. let e : Init ≡ Ready = sym init ∙ ready in cc, λ run none. let e : Init ≡ Run = sym init ∙ run in cc)
-armed_on link_config is p below memory after end (WritingAvailEvent taken) value opened left h a = (puts_lem link_config is p below memory after end (WritingAvailEvent taken) left h).here ∙ ap (λ (n : ℕ). n % 65536) h.1
+armed_on link_config is p below memory after end (WritingAvailEvent taken) value opened left h a = (place_puts link_config is p below memory after end (WritingAvailEvent taken) left h).here ∙ ap (λ (n : ℕ). n % 65536) h.1
 armed_on link_config is p below memory after end place value opened left h a =
     subst (λ (event : ℕ). ArmedIs event (end_after end (step_at (config_of link_config p) place value)) (next_place (config_of link_config p) place value)) (sym (event_stays link_config is p below memory after end place (λ writes. writes) left h))
     (step_armed link_config p memory (fields link_config memory p AvailEvent) end value place (λ taken e. cc) h a)

@@ -124,8 +124,8 @@ history_apart world acts =
     without_reverse (run (record world { acts = acts }) (schedule acts) (initial_state world)).past ∙
     ap reverse (goes_apart world acts (schedule acts) (initial_state world) (initial_state world) (record { lines = refl; peers = refl })).lines
 
-pub devices_lem : HasOneHistory → HistoryIsLawful → DeviceActsChangeNothing
-devices_lem one exists world others lines other_lines is other_is same lawful other_lawful =
+pub device_acts_change_nothing : HasOneHistory → HistoryIsLawful → DeviceActsChangeNothing
+device_acts_change_nothing one exists world others lines other_lines is other_is same lawful other_lawful =
     let other : World = record world { acts = others } in
     let first : lines ≡ history world = one world lines (history world) lawful (exists world is) in
     let second : other_lines ≡ history other = one other other_lines (history other) other_lawful (exists other other_is) in

@@ -15,7 +15,7 @@ partner_is (suc (suc q)) below = absurd (omega arith)
 
 pub config_is : (world : World) (q : ℕ) → q < 2 → config_of world q ≡ pair.config_of (link_config_of world) q
 config_is world q below =
-    let make : ℕ → ℕ → ℕ → EndConfig = λ other own theirs. record { me = q; other = other; own = own; theirs = theirs; words = world.geometry.out; sizes = world.queue; vector = traffic_vector world.wiring } in
+    let make : ℕ → ℕ → ℕ → EndConfig = λ other own other_start. record { me = q; other = other; own = own; other_start = other_start; words = world.geometry.out; sizes = world.queue; vector = traffic_vector world.wiring } in
     let g = world.geometry in
     let e = partner_is q below in
     ap (λ (o : ℕ). make o (section_start g q) (section_start g (partner q))) e ∙

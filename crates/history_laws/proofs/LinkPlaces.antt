@@ -115,8 +115,8 @@ writes_apart world older (line.Write p word value) apart = absurd (cc)
 writes_apart world older l apart = tt
 
 pub writes_side_event : (world : World) (older : List Line) (l : Line) (p : ℕ) (side_event : SideEvent) → line_side_event_of l ≡ HasEvent p side_event → WritesIn world older l
-writes_side_event world older (line.Write p word value) q side_event tells = absurd (cc)
-writes_side_event world older l p side_event tells = tt
+writes_side_event world older (line.Write p word value) q side_event has_event = absurd (cc)
+writes_side_event world older l p side_event has_event = tt
 
 -- The invariant of each line.
 abbrev pub Fine : World → List Line → Line → Type 0

@@ -58,7 +58,7 @@ module _ {A : Type 0} (f : ℕ → A) (p : ℕ) (x : A) where
   changed_beside q ne = no (q == p) x (f q) (ne_eqb q p ne)
 
 side_event_runs : (world : World) (past : List Line) (l : Line) (p : ℕ) (side_event : SideEvent) → p < 2 → line_side_event_of l ≡ HasEvent p side_event → IsRow world past p side_event (side_of (l ∷ past) p) → RunsTo world past → RunsTo world (l ∷ past)
-side_event_runs world past l p side_event below tells row r =
+side_event_runs world past l p side_event below has_event row r =
     let new = side_of (l ∷ past) p in
     let log = log_of (l ∷ past) p in
     let o2 = other_below p below in
@@ -70,7 +70,7 @@ side_event_runs world past l p side_event below tells row r =
     (subst (λ (x : Side). Row world.queue (is_link world p) (is_link world (1 - p)) x (r.sides (1 - p)) side_event new) (sym (r.sides_are p below))
     (subst (λ (x : Side). Row world.queue (is_link world p) (is_link world (1 - p)) (side_of past p) x side_event new) (sym (r.sides_are (1 - p) o2)) (row_of world past p side_event new below row))) in
     let log_here : log ≡ log_after (r.logs p) (r.logs (1 - p)) (r.sides p) side_event =
-    log_is past l (HasEvent p side_event) p tells ∙ (here_is p (log_after (log_of past p) (log_of past (1 - p)) (side_of past p) side_event) (log_of past p) ∙
+    log_is past l (HasEvent p side_event) p has_event ∙ (here_is p (log_after (log_of past p) (log_of past (1 - p)) (side_of past p) side_event) (log_of past p) ∙
     (ap (λ (x : Log). log_after x (log_of past (1 - p)) (side_of past p) side_event) (sym (r.logs_are p below)) ∙
     (ap (λ (x : Log). log_after (r.logs p) x (side_of past p) side_event) (sym (r.logs_are (1 - p) o2)) ∙
     ap (λ (x : Side). log_after (r.logs p) (r.logs (1 - p)) x side_event) (sym (r.sides_are p below))))) in
@@ -80,27 +80,27 @@ side_event_runs world past l p side_event below tells row r =
       runs = goes r.sides sides' r.logs logs' p side_event r.runs below row_here (changed_beside r.sides p new (1 - p) ne) (changed_here r.logs p log ∙ log_here) (changed_beside r.logs p log (1 - p) ne);
       sides_are = λ q below'. dite (ℕ_discrete q p)
           (λ e. subst (λ (k : ℕ). sides' k ≡ side_of (l ∷ past) k) (sym e) (changed_here r.sides p new))
-          (λ ne'. changed_beside r.sides p new q ne' ∙ (r.sides_are q below' ∙ sym (side_is past l (HasEvent p side_event) q tells ∙ there_is p q (side_after side_event (side_of past q)) (side_of past q) (λ e. ne' (sym e)))));
+          (λ ne'. changed_beside r.sides p new q ne' ∙ (r.sides_are q below' ∙ sym (side_is past l (HasEvent p side_event) q has_event ∙ there_is p q (side_after side_event (side_of past q)) (side_of past q) (λ e. ne' (sym e)))));
       logs_are = λ q below'. dite (ℕ_discrete q p)
           (λ e. subst (λ (k : ℕ). logs' k ≡ log_of (l ∷ past) k) (sym e) (changed_here r.logs p log))
-          (λ ne'. changed_beside r.logs p log q ne' ∙ (r.logs_are q below' ∙ sym (log_is past l (HasEvent p side_event) q tells ∙ there_is p q (log_after (log_of past q) (log_of past (1 - q)) (side_of past q) side_event) (log_of past q) (λ e. ne' (sym e)))));
+          (λ ne'. changed_beside r.logs p log q ne' ∙ (r.logs_are q below' ∙ sym (log_is past l (HasEvent p side_event) q has_event ∙ there_is p q (log_after (log_of past q) (log_of past (1 - q)) (side_of past q) side_event) (log_of past q) (λ e. ne' (sym e)))));
     }
 
 line_runs : (world : World) (past : List Line) (l : Line) (t : LineSideEvent) → line_side_event_of l ≡ t → HasRow world past l t → RunsTo world past → RunsTo world (l ∷ past)
-line_runs world past l HasNoEvent tells row r = runs_alike world past l (λ q below. side_is past l HasNoEvent q tells) (λ q below. log_is past l HasNoEvent q tells) r
-line_runs world past l (HasEvent p side_event) tells row r = elim (cases_lt p 2) [
-  | inl below ↦ side_event_runs world past l p side_event below tells row r
+line_runs world past l HasNoEvent has_event row r = runs_alike world past l (λ q below. side_is past l HasNoEvent q has_event) (λ q below. log_is past l HasNoEvent q has_event) r
+line_runs world past l (HasEvent p side_event) has_event row r = elim (cases_lt p 2) [
+  | inl below ↦ side_event_runs world past l p side_event below has_event row r
   | inr above ↦ runs_alike world past l
-      (λ q below. side_is past l (HasEvent p side_event) q tells ∙ there_is p q (side_after side_event (side_of past q)) (side_of past q) (λ e. absurd (omega arith)))
-      (λ q below. log_is past l (HasEvent p side_event) q tells ∙ there_is p q (log_after (log_of past q) (log_of past (1 - q)) (side_of past q) side_event) (log_of past q) (λ e. absurd (omega arith))) r
+      (λ q below. side_is past l (HasEvent p side_event) q has_event ∙ there_is p q (side_after side_event (side_of past q)) (side_of past q) (λ e. absurd (omega arith)))
+      (λ q below. log_is past l (HasEvent p side_event) q has_event ∙ there_is p q (log_after (log_of past q) (log_of past (1 - q)) (side_of past q) side_event) (log_of past q) (λ e. absurd (omega arith))) r
 ]
 
 runs_to : (world : World) (past : List Line) → EachLine (Fine world) past → RunsTo world past
 runs_to world [] fine = record { sides = λ q. initial_side; logs = λ q. no_sessions; runs = starts (λ q. initial_side) (λ q. no_sessions) (λ q. refl) (λ q. refl); sides_are = λ q below. refl; logs_are = λ q below. refl }
 runs_to world (l ∷ past) fine = line_runs world past l (line_side_event_of l) refl fine.0.0 (runs_to world past fine.1)
 
-pub deliver_lem : HistoriesDeliver
-deliver_lem world before after p is lawful one other below =
+pub histories_deliver : HistoriesDeliver
+histories_deliver world before after p is lawful one other below =
     let r = runs_to world (reverse before) (at_beginning (Fine world) before after (all_fine world (before ++ after) is lawful)) in
     let o2 = other_below p below in
     subst (λ (x : Side). DeliversInOrder x (side_of (reverse before) (1 - p)) (log_of (reverse before) p) (log_of (reverse before) (1 - p))) (r.sides_are p below)

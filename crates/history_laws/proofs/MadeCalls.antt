@@ -254,8 +254,8 @@ first_of_all : (P : EventRecord → Type 0) (entries others : List EventRecord) 
 first_of_all P [] others all = tt
 first_of_all P (entry ∷ entries) others all = (all.0, first_of_all P entries others all.1)
 
-pub calls_lem : CallsEndWithinBounds
-calls_lem world lines entries before after p is by honest cut =
+pub calls_end_within_bounds : CallsEndWithinBounds
+calls_end_within_bounds world lines entries before after p is by honest cut =
     let peers = is.geometry.two_peers in let two = two_links world p honest in
     let all = by.calls p (omega arith) in
     let mid = serves_first world p before after initial_progress all.0 (subst (λ (k : List EventRecord). IsCallSequence world p initial_progress k all.0) cut all.1) in

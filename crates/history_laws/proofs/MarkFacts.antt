@@ -12,7 +12,7 @@ use Rattle.ivs_base.specs.Numbers.{distance}
 use Rattle.split_ring.specs.Layout.{Field, has_events, size_of, limit_of, word_offset, AvailIndex, UsedIndex, AvailEvent as LayoutAvailEvent}
 use Rattle.split_ring.specs.Spelling.{low_half, high_half, entry_half, Spells, desc_flags}
 use Rattle.split_ring.specs.Ranges.{IsAvailIndex, IsDescLength, IsUsedIndex, is_avail_entry, is_desc_address, is_desc_length, is_desc_flags, is_used_id, is_avail_index, is_used_index}
-use Rattle.split_ring.proofs.Tests.{entry_denies, address_denies, length_denies, flags_denies}
+use Rattle.split_ring.proofs.TestsDecideRanges.{entry_denies, address_denies, length_denies, flags_denies}
 use Rattle.link_handshake.specs.declared.Move.{Move}
 use Rattle.link_handshake.specs.declared.Move.TheVariants.{Stay, Set, ClearThenSet}
 use Rattle.link_handshake.specs.HandshakeState.{move_of}
@@ -31,7 +31,7 @@ use Rattle.link_invariant.specs.Steps.{ReadsMemory, MemoryAfter}
 use Rattle.link_invariant.specs.EndInvariant.{EndInvariant}
 use Rattle.link_invariant.specs.LinkConfig as pair
 use Rattle.link_invariant.specs.Sides.{SideIs}
-use Rattle.link_invariant.proofs.LinkInvariantKept.{spelled_lem}
+use Rattle.link_invariant.proofs.LinkInvariantKept.{frames_are_spelled}
 use Rattle.lawful_history.specs.declared.line.Line.{Line}
 use Rattle.lawful_history.specs.declared.line.Line.TheVariants as line
 use Rattle.lawful_history.specs.Memory.{last_write}
@@ -71,8 +71,8 @@ SideStays _ new old = Stays new old
 -- the read of an index it is that read.
 abbrev pub HeadAt : EndConfig → ℕ → Place → ℕ → (past older : List Line) → Type 0
 HeadAt config p RingingPoll value past older = ¬ EndsLook p older
-HeadAt config p (ReadingUsedIndex pending freed) value past older = older ≡ line.Read p (config.theirs + word_offset config.sizes UsedIndex) value ∷ past
-HeadAt config p (ReadingAvailIndex taken last) value past older = older ≡ line.Read p (config.theirs + word_offset config.sizes AvailIndex) value ∷ past
+HeadAt config p (ReadingUsedIndex pending freed) value past older = older ≡ line.Read p (config.other_start + word_offset config.sizes UsedIndex) value ∷ past
+HeadAt config p (ReadingAvailIndex taken last) value past older = older ≡ line.Read p (config.other_start + word_offset config.sizes AvailIndex) value ∷ past
 HeadAt config p place value past older = Unit {0}
 
 ends_silent : (p : ℕ) (lines past : List Line) → AreSilent lines → ¬ EndsLook p past → ¬ EndsLook p (reverse lines ++ past)
@@ -159,8 +159,8 @@ accepted_number end place side now si e = ap length (sym (e ∙ si.accepted))
 pub delivered_number : (end : End) (place : Place) (side : Side) (now : List (List ℕ)) → SideIs end place side → now ≡ side.delivered → length end.delivered ≡ length now
 delivered_number end place side now si e = ap length (sym (e ∙ si.delivered))
 
-zero_tells : (n : ℕ) → (n == 0) ≡ true → n ≡ 0
-zero_tells n test = grind (arith, nat_tests)
+zero_of_test : (n : ℕ) → (n == 0) ≡ true → n ≡ 0
+zero_of_test n test = grind (arith, nat_tests)
 
 same_denies : (a b : ℕ) → (a == b) ≡ false → a ≢ b
 same_denies a b test = grind (arith, nat_tests)
@@ -201,7 +201,7 @@ module _ (world : World) (p : ℕ) (past older : List Line) (value : ℕ) (end :
       let read : IsIndexRead (config_of world p) p older UsedIndex (side_of older p).freed count = index_rest UsedIndex (side_of older p).freed count (high_half value, lone, ap (λ (k : ℕ). distance (k % 65536) (high_half value)) freed_is) in
       by_test world older p (is_used_index (freed % 65536) (high_half value) (pending.number - freed)) (reclaim_marks config pending freed count) (refusal field_name.UsedIndex (high_half value))
       (λ _. by_test world older p (count == 0) (Reclaim 0 ∷ full_marks config pending freed) (Reclaim count ∷ [])
-      (λ none. (subst (IsIndexRead (config_of world p) p older UsedIndex (side_of older p).freed) (zero_tells count none) read, full_rest world (line.Reclaim p 0 ∷ older) p config pending freed)) (λ _. (read, tt)))
+      (λ none. (subst (IsIndexRead (config_of world p) p older UsedIndex (side_of older p).freed) (zero_of_test count none) read, full_rest world (line.Reclaim p 0 ∷ older) p config pending freed)) (λ _. (read, tt)))
       (λ test. let beyond = within_denies count (pending.number - freed) test in
       let beyond_here : ¬ IsUsedIndex (freed % 65536) (high_half value) (length (side_of older p).accepted - freed) = subst (λ (n : ℕ). ¬ IsUsedIndex (freed % 65536) (high_half value) (n - freed)) number beyond in
       refused_rest field_name.UsedIndex (high_half value) (
@@ -220,7 +220,7 @@ module _ (world : World) (p : ℕ) (past older : List Line) (value : ℕ) (end :
   accept_rest : (pending : PendingOffer) → AtMarks world p past older (WritingAvailIndex pending) value end → MarksRest world older p (marks_at (pair.config_of (link_config_of world) p) (WritingAvailIndex pending) value)
   accept_rest pending a =
       let link_config = link_config_of world in
-      let spelled = spelled_lem.accepted link_config (last_write past) (last_write older) p end pending (is_link_config world is) below a.alone a.left in
+      let spelled = frames_are_spelled.accepted link_config (last_write past) (last_write older) p end pending (is_link_config world is) below a.alone a.left in
       let number : pending.number ≡ length (side_of older p).accepted = a.alone.holds.1 ∙ accepted_number end (WritingAvailIndex pending) (side_of past p) (side_of older p).accepted a.side a.stays.accepted in
       let at : ℕ → ℕ → ℕ = λ start word. last_write older (start + word) in
       let words : at (section_of link_config p) ≡ section_words world older p = ap at (section_is world p) in (
@@ -234,7 +234,7 @@ module _ (world : World) (p : ℕ) (past older : List Line) (value : ℕ) (end :
       let config = pair.config_of (link_config_of world) p in
       let r = a.were in
       let read : Item = record (r.0) { words = words ++ value ∷ [] } in
-      let none = zero_tells left test in
+      let none = zero_of_test left test in
       let total = a.alone.holds.5 in
       let one = length-append words (value ∷ []) in
       let size : words_for bytes ≡ words_for read.bytes = ap words_for r.6 in
@@ -273,7 +273,7 @@ module _ (world : World) (p : ℕ) (past older : List Line) (value : ℕ) (end :
       let read : IsIndexRead (config_of world p) p older AvailIndex (length (side_of older p).delivered) count = index_rest AvailIndex (length (side_of older p).delivered) count (high_half value, lone, ap (λ (k : ℕ). distance (k % 65536) (high_half value)) n) in
       by_test world older p (is_avail_index world.queue (taken % 65536) (high_half value)) (look_marks last count) (refusal field_name.AvailIndex (high_half value))
       (λ _. by_test world older p (count == 0) (if last then Look 0 ∷ Done ∷ [] else Look 0 ∷ []) (Look count ∷ [])
-      (λ none. let found_none = subst (IsIndexRead (config_of world p) p older AvailIndex (length (side_of older p).delivered)) (zero_tells count none) read in
+      (λ none. let found_none = subst (IsIndexRead (config_of world p) p older AvailIndex (length (side_of older p).delivered)) (zero_of_test count none) read in
       by_test world older p last (Look 0 ∷ Done ∷ []) (Look 0 ∷ []) (λ final. (found_none, (λ has _. done_rest taken last a final n has, tt))) (λ _. (found_none, tt))) (λ _. (read, tt)))
       (λ test. let beyond : ¬ IsAvailIndex world.queue (taken % 65536) (high_half value) = within_denies count (size_of world.queue) test in
       refused_rest field_name.AvailIndex (high_half value) (reads_of past p, value, a.reads, refl, subst (λ (k : ℕ). ¬ IsAvailIndex world.queue (k % 65536) (high_half value)) n beyond) lone)
@@ -320,12 +320,12 @@ module _ (world : World) (p : ℕ) (past older : List Line) (value : ℕ) (end :
   event_rest : (number : ℕ) → AtMarks world p past older (ReadingAvailEvent number) value end → wants_doorbell (low_half value) number ≡ false →
       wants_doorbell (low_half (last_write older (event_word world (1 - p)))) (length (side_of older p).accepted - 1) ≡ false
   event_rest number a test =
-      let heard : value ≡ last_write older (event_word world (1 - p)) =
+      let event_is : value ≡ last_write older (event_word world (1 - p)) =
       a.met ∙ (ap (λ (w : ℕ). last_write past (w + word_offset world.queue LayoutAvailEvent)) (section_is world (1 - p)) ∙ ap (λ (m : ℕ → ℕ). m (event_word world (1 - p))) (sym a.left)) in
       let count = a.alone.holds.1 in
       let same = accepted_number end (ReadingAvailEvent number) (side_of past p) (side_of older p).accepted a.side a.stays.accepted in
       let last : number ≡ length (side_of older p).accepted - 1 = omega arith in
-      ap (λ (k : ℕ). wants_doorbell (low_half (last_write older (event_word world (1 - p)))) k) (sym last) ∙ (ap (λ (v : ℕ). wants_doorbell (low_half v) number) (sym heard) ∙ test)
+      ap (λ (k : ℕ). wants_doorbell (low_half (last_write older (event_word world (1 - p)))) k) (sym last) ∙ (ap (λ (v : ℕ). wants_doorbell (low_half v) number) (sym event_is) ∙ test)
 
   -- The marks of the step at each place.
   pub marks_rest : (place : Place) → AtMarks world p past older place value end → MarksRest world older p (marks_at (pair.config_of (link_config_of world) p) place value)

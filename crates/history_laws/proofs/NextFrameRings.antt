@@ -140,8 +140,8 @@ IsRung = (world : World) (before since offer after : List Line) (p : ℕ) (frame
     EventIs world (reverse before) p (length (side_of (reverse (before ++ since)) (1 - p)).accepted) →
     All (LeavesEvent world p) since → All (LeavesEvent world p) offer → All (λ l. GoesOn (1 - p) (line_side_event_of l)) offer → IsRungIn world (1 - p) offer
 
-rung_lem : IsRung
-rung_lem world before since offer after p frame is below honest lawful event spares_since spares_offer goes_on =
+is_rung : IsRung
+is_rung world before since offer after p frame is below honest lawful event spares_since spares_offer goes_on =
     let goes = recursion_from_All (λ (l : Line). GoesOn (1 - p) (line_side_event_of l)) offer goes_on in
     elim (rung_or_not world (1 - p) offer (accepted_past (1 - p) frame (before ++ since)) goes (inl (frame, refl))) [
       | inl rung ↦ rung
@@ -181,8 +181,8 @@ abbrev IsNext : Type 0
 IsNext = (world : World) (before after : List Line) (p : ℕ) → IsWorld world → is_link world (1 - p) ≡ true → IsLawful world (before ++ line.Look p 0 ∷ after) →
     length (side_of (reverse before) (1 - p)).accepted ≡ length (side_of (reverse before) p).delivered
 
-next_lem : IsNext
-next_lem world before after p is honest lawful =
+is_next : IsNext
+is_next world before after p is honest lawful =
     let row = (at_line (Fine world) before after (line.Look p 0) (all_fine world (before ++ line.Look p 0 ∷ after) is lawful)).0.1.1.2 in
     let found : MayLook world.queue true (side_of (reverse before) p) (side_of (reverse before) (1 - p)) 0 =
     subst (λ (b : _). MayLook world.queue b (side_of (reverse before) p) (side_of (reverse before) (1 - p)) 0) honest row in omega arith
@@ -195,8 +195,8 @@ abbrev IsArmed : Type 0
 IsArmed = (world : World) (before after : List Line) (p : ℕ) → IsWorld world → has_events world.queue ≡ true → IsLawful world (before ++ line.Look p 0 ∷ line.Done p ∷ after) →
     EventIs world (reverse before) p (length (side_of (reverse before) p).delivered)
 
-armed_lem : IsArmed
-armed_lem world before after p is has lawful =
+is_armed : IsArmed
+is_armed world before after p is has lawful =
     let look = line.Look p 0 in
     let joined : before ++ (look ∷ (line.Done p ∷ after)) ≡ (before ++ look ∷ []) ++ line.Done p ∷ after = sym (append_assoc before (look ∷ []) (line.Done p ∷ after)) in
     let all : EachLine (Fine world) (reverse ((before ++ look ∷ []) ++ line.Done p ∷ after)) = subst (λ (ls : List Line). EachLine (Fine world) (reverse ls)) joined (all_fine world (before ++ (look ∷ (line.Done p ∷ after))) is lawful) in
@@ -210,10 +210,10 @@ Wakes = (world : World) (before since offer after : List Line) (p : ℕ) (frame 
     All (LeavesEvent world p) since → All (λ l. AcceptsNothing (1 - p) (line_side_event_of l)) since →
     All (LeavesEvent world p) offer → All (λ l. GoesOn (1 - p) (line_side_event_of l)) offer → IsRungIn world (1 - p) offer
 
-wakes_lem : Wakes
-wakes_lem world before since offer after p frame is has below honest lawful spares_since idle spares_offer goes =
+wakes_hold : Wakes
+wakes_hold world before since offer after p frame is has below honest lawful spares_since idle spares_offer goes =
     let front = before ++ line.Look p 0 ∷ line.Done p ∷ [] in
-    rung_lem world front since offer after p frame is below honest lawful (subst (EventIs world (reverse front) p) number event) spares_since spares_offer goes
+    is_rung world front since offer after p frame is below honest lawful (subst (EventIs world (reverse front) p) number event) spares_since spares_offer goes
   where
     joined : before ++ line.Look p 0 ∷ line.Done p ∷ [] ++ since ++ line.Accept (1 - p) frame ∷ offer ++ line.Over (1 - p) ∷ after ≡ before ++ (line.Look p 0 ∷ (line.Done p ∷ (since ++ (line.Accept (1 - p) frame ∷ (offer ++ line.Over (1 - p) ∷ after)))))
     joined =
@@ -240,15 +240,15 @@ wakes_lem world before since offer after p frame is has below honest lawful spar
 
     event : EventIs world (reverse (before ++ line.Look p 0 ∷ line.Done p ∷ [])) p (length (side_of (reverse before) p).delivered)
     event = subst (λ (ls : List Line). EventIs world ls p (length (side_of (reverse before) p).delivered)) (sym front_is)
-        (armed_lem world before (since ++ (line.Accept (1 - p) frame ∷ (offer ++ line.Over (1 - p) ∷ after))) p is has whole)
+        (is_armed world before (since ++ (line.Accept (1 - p) frame ∷ (offer ++ line.Over (1 - p) ∷ after))) p is has whole)
 
     number : length (side_of (reverse before) p).delivered ≡ length (side_of (reverse (before ++ line.Look p 0 ∷ line.Done p ∷ [] ++ since)) (1 - p)).accepted
     number =
         let start = before ++ line.Look p 0 ∷ line.Done p ∷ [] in
         let kept = accepted_kept (1 - p) since (reverse start) (recursion_from_All (λ (l : Line). AcceptsNothing (1 - p) (line_side_event_of l)) since idle) in
-        let found = next_lem world before (line.Done p ∷ (since ++ (line.Accept (1 - p) frame ∷ (offer ++ line.Over (1 - p) ∷ after)))) p is honest whole in
+        let found = is_next world before (line.Done p ∷ (since ++ (line.Accept (1 - p) frame ∷ (offer ++ line.Over (1 - p) ∷ after)))) p is honest whole in
         sym found ∙ (ap (λ (x : Side). length x.accepted) (sym beside) ∙ (ap (λ (ls : List Line). length (side_of ls (1 - p)).accepted) (sym front_is) ∙
         (ap length (sym kept) ∙ ap (λ (ls : List Line). length (side_of ls (1 - p)).accepted) (sym (reverse-append start since)))))
 
-pub wake_lem : WakesAreRung
-wake_lem = record { armed = armed_lem; next = next_lem; rung = rung_lem; wakes = wakes_lem }
+pub wakes_are_rung : WakesAreRung
+wakes_are_rung = record { armed = is_armed; next = is_next; rung = is_rung; wakes = wakes_hold }

@@ -6,7 +6,7 @@ use Rattle.std.specs.Prelude.{◌==◌, if◌then◌else◌}
 use Rattle.std.proofs.Math.Nat.{mul_comm}
 use Rattle.section_map.specs.Geometry.{Shape, section_start}
 use Rattle.section_map.specs.MayWrite.{InSection, MayWrite}
-use Rattle.section_map.proofs.Apart.{stand_apart}
+use Rattle.section_map.proofs.SectionsAreApart.{sections_are_apart}
 use Rattle.scenario_text.specs.Scenario.{World, IsWorld, is_link}
 use Rattle.call_grammar.specs.Ends.{End}
 use Rattle.call_grammar.specs.Places.{Place}
@@ -74,8 +74,8 @@ in_section : (world : World) (q j : ℕ) → j < world.geometry.out → InSectio
 in_section world q j small = let e = section_is world q in (omega arith, omega arith)
 
 apart_from : (world : World) (p q word j : ℕ) → MayWrite world.geometry p word → p ≢ q → j < world.geometry.out → word ≢ section_of (link_config_of world) q + j
-apart_from world p q word j (inl mine) ne small e = stand_apart world.geometry p q word ne mine (subst (λ (w : ℕ). InSection world.geometry q w) (sym e) (in_section world q j small))
-apart_from world p q word j (inr common) ne small e = let theirs = in_section world q j small in absurd (omega arith)
+apart_from world p q word j (inl mine) ne small e = sections_are_apart world.geometry p q word ne mine (subst (λ (w : ℕ). InSection world.geometry q w) (sym e) (in_section world q j small))
+apart_from world p q word j (inr common) ne small e = let opposite = in_section world q j small in absurd (omega arith)
 
 above_table : (g : Shape) (p word : ℕ) → MayWrite g p word → g.table ≤ word
 above_table g p word (inl mine) = omega arith
@@ -122,7 +122,7 @@ state_untouched : (world : World) (past : List Line) (p value : ℕ) → IsWorld
     IsUntouched (link_config_of world) (last_write past) (λ at. (if p == at then value else last_write past at)) q
 state_untouched world past p value is few no_link q below honest = record {
   state = there_is p q value (last_write past q) (differ world p q no_link honest);
-  section = λ j small. there_is p (section_of (link_config_of world) q + j) value (last_write past (section_of (link_config_of world) q + j)) (λ e. let theirs = in_section world q j small in let table = is.geometry.states in absurd (omega arith));
+  section = λ j small. there_is p (section_of (link_config_of world) q + j) value (last_write past (section_of (link_config_of world) q + j)) (λ e. let opposite = in_section world q j small in let table = is.geometry.states in absurd (omega arith));
 }
 
 state_there : (past : List Line) (p value q : ℕ) (new : Side) → new.state ≡ value → last_write past q ≡ (side_of past q).state → (if p == q then value else last_write past q) ≡ (if p == q then new else side_of past q).state

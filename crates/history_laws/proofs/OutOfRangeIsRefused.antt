@@ -11,7 +11,7 @@ use Rattle.split_ring.specs.declared.steps.Access.TheVariants as access
 use Rattle.split_ring.specs.Layout.{size_of, limit_of, data_area_start, word_offset, DescAddress, DescLength, DescFlags, AvailIndex, AvailEntry, UsedIndex, UsedId, AvailEvent}
 use Rattle.split_ring.specs.Spelling.{high_half, entry_half, desc_flags}
 use Rattle.split_ring.specs.Ranges.{IsAvailIndex, IsAvailEntry, IsDescAddress, IsDescLength, IsDescFlags, IsUsedIndex, IsUsedId, is_avail_entry, is_desc_address, is_desc_length, is_desc_flags, is_used_id, is_avail_index, is_used_index}
-use Rattle.split_ring.proofs.Tests.{entry_fails, address_fails, length_fails, flags_fails}
+use Rattle.split_ring.proofs.TestsDecideRanges.{entry_fails, address_fails, length_fails, flags_fails}
 use Rattle.call_grammar.specs.Steps.{Mark}
 use Rattle.call_grammar.specs.Ends.{End}
 use Rattle.call_grammar.specs.Words.{address_of}
@@ -45,22 +45,22 @@ snoc_inj (a ∷ xs) (b ∷ ys) x y e =
 
 -- The facts of a read of this word, after these reads, that is out of the range of this field.
 Last : EndConfig → Side → List Got → (word value : ℕ) → FieldName → ℕ → Type 0
-Last config side reads word value field_name.AvailIndex refused = (word ≡ config.theirs + word_offset config.sizes AvailIndex) × (refused ≡ high_half value) × (¬ IsAvailIndex config.sizes (length side.delivered % 65536) refused)
+Last config side reads word value field_name.AvailIndex refused = (word ≡ config.other_start + word_offset config.sizes AvailIndex) × (refused ≡ high_half value) × (¬ IsAvailIndex config.sizes (length side.delivered % 65536) refused)
 Last config side reads word value field_name.AvailEntry refused =
-    (word ≡ config.theirs + word_offset config.sizes (AvailEntry (avail_entry_of config (length side.delivered)))) × (refused ≡ entry_half (avail_entry_of config (length side.delivered)) value) × (¬ IsAvailEntry config.sizes refused)
+    (word ≡ config.other_start + word_offset config.sizes (AvailEntry (avail_entry_of config (length side.delivered)))) × (refused ≡ entry_half (avail_entry_of config (length side.delivered)) value) × (¬ IsAvailEntry config.sizes refused)
 Last config side reads word value field_name.DescAddress refused =
     (read : Item) × (reads ≡ entry_read config (length side.delivered) read ∷ low_read config (length side.delivered) read ∷ []) × IsAvailEntry config.sizes (item_entry config (length side.delivered) read) ×
-    (word ≡ config.theirs + word_offset config.sizes (DescAddress (item_entry config (length side.delivered) read)) + 1) × (refused ≡ address_of read.low value) × (¬ IsDescAddress config.sizes refused)
+    (word ≡ config.other_start + word_offset config.sizes (DescAddress (item_entry config (length side.delivered) read)) + 1) × (refused ≡ address_of read.low value) × (¬ IsDescAddress config.sizes refused)
 Last config side reads word value field_name.DescLength refused =
     (read : Item) × (reads ≡ entry_read config (length side.delivered) read ∷ low_read config (length side.delivered) read ∷ high_read config (length side.delivered) read ∷ []) × IsAvailEntry config.sizes (item_entry config (length side.delivered) read) ×
-    (word ≡ config.theirs + word_offset config.sizes (DescLength (item_entry config (length side.delivered) read))) × (refused ≡ value) × (¬ IsDescLength config.sizes (item_address read) refused)
+    (word ≡ config.other_start + word_offset config.sizes (DescLength (item_entry config (length side.delivered) read))) × (refused ≡ value) × (¬ IsDescLength config.sizes (item_address read) refused)
 Last config side reads word value field_name.DescFlags refused =
     (read : Item) × IsAvailEntry config.sizes (item_entry config (length side.delivered) read) ×
-    (word ≡ config.theirs + word_offset config.sizes (DescFlags (item_entry config (length side.delivered) read))) × (refused ≡ desc_flags value) × (¬ IsDescFlags refused)
+    (word ≡ config.other_start + word_offset config.sizes (DescFlags (item_entry config (length side.delivered) read))) × (refused ≡ desc_flags value) × (¬ IsDescFlags refused)
 Last config side reads word value field_name.UsedIndex refused =
-    (word ≡ config.theirs + word_offset config.sizes UsedIndex) × (refused ≡ high_half value) × (¬ IsUsedIndex (side.freed % 65536) refused (length side.accepted - side.freed))
+    (word ≡ config.other_start + word_offset config.sizes UsedIndex) × (refused ≡ high_half value) × (¬ IsUsedIndex (side.freed % 65536) refused (length side.accepted - side.freed))
 Last config side reads word value field_name.UsedId refused =
-    (number : ℕ) × (number < side.freed) × (side.freed ≤ number + limit_of config.sizes) × (word ≡ config.theirs + word_offset config.sizes (UsedId (avail_entry_of config number))) × (refused ≡ value) × (¬ IsUsedId (number % limit_of config.sizes) refused)
+    (number : ℕ) × (number < side.freed) × (side.freed ≤ number + limit_of config.sizes) × (word ≡ config.other_start + word_offset config.sizes (UsedId (avail_entry_of config number))) × (refused ≡ value) × (¬ IsUsedId (number % limit_of config.sizes) refused)
 
 word_is : (word value w v : ℕ) → got word value ≡ got w v → word ≡ w
 word_is word value w v e = ap (λ (g : Got). g.word) e
@@ -96,13 +96,13 @@ last_of config side reads word value field_name.UsedId refused b =
 -- The words of the fields are different
 
 FieldWord : EndConfig → FieldName → ℕ → Type 0
-FieldWord config field_name.AvailIndex word = word ≡ config.theirs + word_offset config.sizes AvailIndex
-FieldWord config field_name.AvailEntry word = (k : ℕ) × (k < size_of config.sizes) × (word ≡ config.theirs + word_offset config.sizes (AvailEntry k))
-FieldWord config field_name.DescAddress word = (e : ℕ) × (e < size_of config.sizes) × (word ≡ config.theirs + word_offset config.sizes (DescAddress e) + 1)
-FieldWord config field_name.DescLength word = (e : ℕ) × (e < size_of config.sizes) × (word ≡ config.theirs + word_offset config.sizes (DescLength e))
-FieldWord config field_name.DescFlags word = (e : ℕ) × (e < size_of config.sizes) × (word ≡ config.theirs + word_offset config.sizes (DescFlags e))
-FieldWord config field_name.UsedIndex word = word ≡ config.theirs + word_offset config.sizes UsedIndex
-FieldWord config field_name.UsedId word = (k : ℕ) × (k < size_of config.sizes) × (word ≡ config.theirs + word_offset config.sizes (UsedId k))
+FieldWord config field_name.AvailIndex word = word ≡ config.other_start + word_offset config.sizes AvailIndex
+FieldWord config field_name.AvailEntry word = (k : ℕ) × (k < size_of config.sizes) × (word ≡ config.other_start + word_offset config.sizes (AvailEntry k))
+FieldWord config field_name.DescAddress word = (e : ℕ) × (e < size_of config.sizes) × (word ≡ config.other_start + word_offset config.sizes (DescAddress e) + 1)
+FieldWord config field_name.DescLength word = (e : ℕ) × (e < size_of config.sizes) × (word ≡ config.other_start + word_offset config.sizes (DescLength e))
+FieldWord config field_name.DescFlags word = (e : ℕ) × (e < size_of config.sizes) × (word ≡ config.other_start + word_offset config.sizes (DescFlags e))
+FieldWord config field_name.UsedIndex word = word ≡ config.other_start + word_offset config.sizes UsedIndex
+FieldWord config field_name.UsedId word = (k : ℕ) × (k < size_of config.sizes) × (word ≡ config.other_start + word_offset config.sizes (UsedId k))
 
 word_of_last : (config : EndConfig) (side : Side) (reads : List Got) (word value : ℕ) (field : FieldName) (refused : ℕ) → 0 < size_of config.sizes → Last config side reads word value field refused → FieldWord config field word
 unfolding Last FieldWord
@@ -115,7 +115,7 @@ word_of_last config side reads word value field_name.UsedIndex refused some b = 
 word_of_last config side reads word value field_name.UsedId refused some b = (avail_entry_of config b.0, mod_below b.0 (size_of config.sizes) some, b.3)
 
 module _ (config : EndConfig) where
-  only_avail_index : (field : FieldName) → FieldWord config field (config.theirs + word_offset config.sizes AvailIndex) → field ≡ field_name.AvailIndex
+  only_avail_index : (field : FieldName) → FieldWord config field (config.other_start + word_offset config.sizes AvailIndex) → field ≡ field_name.AvailIndex
   unfolding FieldWord
   only_avail_index field_name.AvailIndex f = refl
   only_avail_index field_name.AvailEntry f = let s = f.1 in let e = f.2 in absurd (omega arith)
@@ -125,7 +125,7 @@ module _ (config : EndConfig) where
   only_avail_index field_name.UsedIndex f = let e = f in absurd (omega arith)
   only_avail_index field_name.UsedId f = let s = f.1 in let e = f.2 in absurd (omega arith)
 
-  only_entry : (i : ℕ) → i < size_of config.sizes → (field : FieldName) → FieldWord config field (config.theirs + word_offset config.sizes (AvailEntry i)) → field ≡ field_name.AvailEntry
+  only_entry : (i : ℕ) → i < size_of config.sizes → (field : FieldName) → FieldWord config field (config.other_start + word_offset config.sizes (AvailEntry i)) → field ≡ field_name.AvailEntry
   unfolding FieldWord
   only_entry i low field_name.AvailIndex f = let e = f in absurd (omega arith)
   only_entry i low field_name.AvailEntry f = refl
@@ -135,7 +135,7 @@ module _ (config : EndConfig) where
   only_entry i low field_name.UsedIndex f = let e = f in absurd (omega arith)
   only_entry i low field_name.UsedId f = let s = f.1 in let e = f.2 in absurd (omega arith)
 
-  only_low : (i : ℕ) → i < size_of config.sizes → (field : FieldName) → FieldWord config field (config.theirs + word_offset config.sizes (DescAddress i)) → ⊥
+  only_low : (i : ℕ) → i < size_of config.sizes → (field : FieldName) → FieldWord config field (config.other_start + word_offset config.sizes (DescAddress i)) → ⊥
   unfolding FieldWord
   only_low i low field_name.AvailIndex f = let e = f in absurd (omega arith)
   only_low i low field_name.AvailEntry f = let s = f.1 in let e = f.2 in absurd (omega arith)
@@ -145,7 +145,7 @@ module _ (config : EndConfig) where
   only_low i low field_name.UsedIndex f = let e = f in absurd (omega arith)
   only_low i low field_name.UsedId f = let s = f.1 in let e = f.2 in absurd (omega arith)
 
-  only_high : (i : ℕ) → i < size_of config.sizes → (field : FieldName) → FieldWord config field (config.theirs + word_offset config.sizes (DescAddress i) + 1) → field ≡ field_name.DescAddress
+  only_high : (i : ℕ) → i < size_of config.sizes → (field : FieldName) → FieldWord config field (config.other_start + word_offset config.sizes (DescAddress i) + 1) → field ≡ field_name.DescAddress
   unfolding FieldWord
   only_high i low field_name.AvailIndex f = let e = f in absurd (omega arith)
   only_high i low field_name.AvailEntry f = let s = f.1 in let e = f.2 in absurd (omega arith)
@@ -155,7 +155,7 @@ module _ (config : EndConfig) where
   only_high i low field_name.UsedIndex f = let e = f in absurd (omega arith)
   only_high i low field_name.UsedId f = let s = f.1 in let e = f.2 in absurd (omega arith)
 
-  only_length : (i : ℕ) → i < size_of config.sizes → (field : FieldName) → FieldWord config field (config.theirs + word_offset config.sizes (DescLength i)) → field ≡ field_name.DescLength
+  only_length : (i : ℕ) → i < size_of config.sizes → (field : FieldName) → FieldWord config field (config.other_start + word_offset config.sizes (DescLength i)) → field ≡ field_name.DescLength
   unfolding FieldWord
   only_length i low field_name.AvailIndex f = let e = f in absurd (omega arith)
   only_length i low field_name.AvailEntry f = let s = f.1 in let e = f.2 in absurd (omega arith)
@@ -165,7 +165,7 @@ module _ (config : EndConfig) where
   only_length i low field_name.UsedIndex f = let e = f in absurd (omega arith)
   only_length i low field_name.UsedId f = let s = f.1 in let e = f.2 in absurd (omega arith)
 
-  only_flags : (i : ℕ) → i < size_of config.sizes → (field : FieldName) → FieldWord config field (config.theirs + word_offset config.sizes (DescFlags i)) → field ≡ field_name.DescFlags
+  only_flags : (i : ℕ) → i < size_of config.sizes → (field : FieldName) → FieldWord config field (config.other_start + word_offset config.sizes (DescFlags i)) → field ≡ field_name.DescFlags
   unfolding FieldWord
   only_flags i low field_name.AvailIndex f = let e = f in absurd (omega arith)
   only_flags i low field_name.AvailEntry f = let s = f.1 in let e = f.2 in absurd (omega arith)
@@ -175,7 +175,7 @@ module _ (config : EndConfig) where
   only_flags i low field_name.UsedIndex f = let e = f in absurd (omega arith)
   only_flags i low field_name.UsedId f = let s = f.1 in let e = f.2 in absurd (omega arith)
 
-  only_used_index : (field : FieldName) → FieldWord config field (config.theirs + word_offset config.sizes UsedIndex) → field ≡ field_name.UsedIndex
+  only_used_index : (field : FieldName) → FieldWord config field (config.other_start + word_offset config.sizes UsedIndex) → field ≡ field_name.UsedIndex
   unfolding FieldWord
   only_used_index field_name.AvailIndex f = let e = f in absurd (omega arith)
   only_used_index field_name.AvailEntry f = let s = f.1 in let e = f.2 in absurd (omega arith)
@@ -185,7 +185,7 @@ module _ (config : EndConfig) where
   only_used_index field_name.UsedIndex f = refl
   only_used_index field_name.UsedId f = let s = f.1 in let e = f.2 in absurd (omega arith)
 
-  only_id : (i : ℕ) → i < size_of config.sizes → (field : FieldName) → FieldWord config field (config.theirs + word_offset config.sizes (UsedId i)) → field ≡ field_name.UsedId
+  only_id : (i : ℕ) → i < size_of config.sizes → (field : FieldName) → FieldWord config field (config.other_start + word_offset config.sizes (UsedId i)) → field ≡ field_name.UsedId
   unfolding FieldWord
   only_id i low field_name.AvailIndex f = let e = f in absurd (omega arith)
   only_id i low field_name.AvailEntry f = let s = f.1 in let e = f.2 in absurd (omega arith)
@@ -195,7 +195,7 @@ module _ (config : EndConfig) where
   only_id i low field_name.UsedIndex f = let e = f in absurd (omega arith)
   only_id i low field_name.UsedId f = refl
 
-  no_event : (field : FieldName) → FieldWord config field (config.theirs + word_offset config.sizes AvailEvent) → ⊥
+  no_event : (field : FieldName) → FieldWord config field (config.other_start + word_offset config.sizes AvailEvent) → ⊥
   unfolding FieldWord
   no_event field_name.AvailIndex f = let e = f in absurd (omega arith)
   no_event field_name.AvailEntry f = let s = f.1 in let e = f.2 in absurd (omega arith)
@@ -205,7 +205,7 @@ module _ (config : EndConfig) where
   no_event field_name.UsedIndex f = let e = f in absurd (omega arith)
   no_event field_name.UsedId f = let s = f.1 in let e = f.2 in absurd (omega arith)
 
-  no_word : (a j : ℕ) → data_area_start config.sizes ≤ a → (field : FieldName) → FieldWord config field (config.theirs + (a / 4 + j)) → ⊥
+  no_word : (a j : ℕ) → data_area_start config.sizes ≤ a → (field : FieldName) → FieldWord config field (config.other_start + (a / 4 + j)) → ⊥
   unfolding FieldWord
   no_word a j high field_name.AvailIndex f = let e = f in absurd (omega arith)
   no_word a j high field_name.AvailEntry f = let s = f.1 in let e = f.2 in absurd (omega arith)
@@ -215,7 +215,7 @@ module _ (config : EndConfig) where
   no_word a j high field_name.UsedIndex f = let e = f in absurd (omega arith)
   no_word a j high field_name.UsedId f = let s = f.1 in let e = f.2 in absurd (omega arith)
 
-  no_state : (w : ℕ) → w < config.theirs → (field : FieldName) → FieldWord config field (w) → ⊥
+  no_state : (w : ℕ) → w < config.other_start → (field : FieldName) → FieldWord config field (w) → ⊥
   unfolding FieldWord
   no_state w low field_name.AvailIndex f = let e = f in absurd (omega arith)
   no_state w low field_name.AvailEntry f = let s = f.1 in let e = f.2 in absurd (omega arith)
@@ -304,7 +304,7 @@ module _ (link_config : LinkConfig) (p : ℕ) (memory : ℕ → ℕ) (end : End)
       let only = only_id config (avail_entry_of config freed) (mod_below freed (size_of link_config.sizes) (omega arith)) field (subst (FieldWord config field) (read_word _ word at) there) in
       let all = f.alone.holds.2 in let within = f.alone.holds.3 in let below = f.alone.freed in let g = f.si.freed in
       at_field config side reads word value field field_name.UsedId refused (marks_at config (ReadingUsedId pending freed more) value) only
-      (λ l. let words : config.theirs + word_offset link_config.sizes (UsedId (avail_entry_of config freed)) ≡ config.theirs + word_offset link_config.sizes (UsedId (avail_entry_of config l.0)) = sym (read_word _ word at) ∙ l.3 in
+      (λ l. let words : config.other_start + word_offset link_config.sizes (UsedId (avail_entry_of config freed)) ≡ config.other_start + word_offset link_config.sizes (UsedId (avail_entry_of config l.0)) = sym (read_word _ word at) ∙ l.3 in
       let place : avail_entry_of config l.0 ≡ avail_entry_of config freed = omega arith in
       let low = l.1 in let high = l.2 in
       let number : l.0 ≡ freed = same_number freed l.0 side.freed (omega arith) (omega arith) low high place in

@@ -23,7 +23,7 @@ use Rattle.link_invariant.proofs.Fields.{fields_same, theirs_stay}
 use Rattle.link_invariant.proofs.EndInvariantKept.{alone_kept}
 use Rattle.link_invariant.specs.Sides.{SideIs}
 use Rattle.link_invariant.proofs.LinkInvariantKept.{whole_kept}
-use Rattle.link_invariant.proofs.RowsKept.{follow_lem}
+use Rattle.link_invariant.proofs.RowsKept.{steps_follow_rows}
 use Rattle.link_invariant.proofs.RunsKept.{side_like}
 use Rattle.lawful_history.specs.declared.line.Line.{Line}
 use Rattle.lawful_history.specs.declared.line.Line.TheVariants as line
@@ -95,12 +95,12 @@ come_stands world past after ends after_ends places after_places p end place new
     mine : last_write after p ≡ (side_of after p).state
     mine = let is_end = ap (λ (x : End). state_of x.handshake.phase) only.end_is in (holds.alone p below honest).state ∙ (is_end ∙ (sym si.state ∙ ap (λ (x : Side). x.state) (sym keeps.here)))
 
-    theirs : last_write after (1 - p) ≡ (side_of after (1 - p)).state
-    theirs = let o2 : 1 - p < 2 = omega arith in keeps.untouched.state ∙ (s.states (1 - p) o2 ∙ ap (λ (x : Side). x.state) (sym keeps.neighbour_word))
+    opposite : last_write after (1 - p) ≡ (side_of after (1 - p)).state
+    opposite = let o2 : 1 - p < 2 = omega arith in keeps.untouched.state ∙ (s.states (1 - p) o2 ∙ ap (λ (x : Side). x.state) (sym keeps.neighbour_word))
 
     state : (q : ℕ) → (q ≡ p) ⊎ (q ≡ 1 - p) → last_write after q ≡ (side_of after q).state
     state q (inl e) = subst (λ (k : ℕ). last_write after k ≡ (side_of after k).state) (sym e) mine
-    state q (inr e) = subst (λ (k : ℕ). last_write after k ≡ (side_of after k).state) (sym e) theirs
+    state q (inr e) = subst (λ (k : ℕ). last_write after k ≡ (side_of after k).state) (sym e) opposite
 
     reads_at : (q : ℕ) → q < 2 → is_link world q ≡ true → (q ≡ p) ⊎ (q ≡ 1 - p) → ReadsAre (config_of (link_config_of world) q) (after_places q) (reads_of after q)
     reads_at q below' honest' (inl e) = subst (λ (k : ℕ). ReadsAre (config_of (link_config_of world) k) (after_places k) (reads_of after k)) (sym e) (subst (λ (x : Place). ReadsAre (config_of (link_config_of world) p) x (reads_of after p)) (sym only.place_is) reads)
@@ -138,7 +138,7 @@ begins_stands world past ends after_ends places after_places p call is below hon
     let config = config_of link_config p in
     come_stands world past past ends after_ends places after_places p (ends p) (first_place config (ends p) call) (side_of past p) is below honest only
     (whole_kept.begins link_config (is_link world) (last_write past) ends after_ends places after_places p call (is_link_config world is) below honest record { given = given; closed = closed; comes = only } s.holds)
-    (follow_lem.begins config (ends p) call (side_of past p) (subst (λ (x : Place). SideIs (ends p) x (side_of past p)) closed (s.sides p below honest)))
+    (steps_follow_rows.begins config (ends p) call (side_of past p) (subst (λ (x : Place). SideIs (ends p) x (side_of past p)) closed (s.sides p below honest)))
     (first_reads config (reads_of past p) (ends p) call (subst (λ (x : Place). ReadsAre config x (reads_of past p)) closed (s.reads p below honest)))
     (at_place world p (first_place config (ends p) call) past (subst (λ (x : Place). UnrungIs world p x past) closed (s.unrung p below honest)))
     (λ has. begin_armed config (fields link_config (last_write past) p AvailEvent) (ends p) call has (subst (λ (x : Place). ArmedIs (fields link_config (last_write past) p AvailEvent) (ends p) x) closed (s.armed has p below honest)))
@@ -214,7 +214,7 @@ step_stands world past device ends after_ends places after_places p value is bel
     let alone = s.holds.alone p below honest in
     let unrung = s.unrung p below honest in
     let silent = quiet_silent device quiet in
-    let f = follow_lem.steps link_config (is_link world) (last_write past) ends places p value (side_of past p) (side_of past (1 - p)) (is_link_config world is) below honest s.holds si (sym (s.states (1 - p) o2)) (s.sides (1 - p) o2) opened met in
+    let f = steps_follow_rows.steps link_config (is_link world) (last_write past) ends places p value (side_of past p) (side_of past (1 - p)) (is_link_config world is) below honest s.holds si (sym (s.states (1 - p) o2)) (s.sides (1 - p) o2) opened met in
     let rests = rests_at world past p a (λ _ refused. zero_at link_config p (ends p) place alone.rests (sym si.refused ∙ refused)) (λ word v e zero. alone_kept.quiet link_config p (last_write past) (ends p) place word v alone (phase_reset (ends p).handshake.phase (sym si.state ∙ zero)) e) in
     let older = reverse device ++ after_access p a value past in
     let there = at_access world p a value device past quiet in
@@ -236,7 +236,7 @@ own_reset_stands world past ends after_ends places after_places p is below hones
     let link_config = link_config_of world in
     let after = line.Reset p ∷ past in
     let stored : Stored (last_write past) (last_write after) p 0 = record { here = here_is p 0 (last_write past p); neighbour_word = stored_at p 0 (last_write past) } in
-    let f = follow_lem.resets world.queue (is_link world (1 - p)) (ends p) (places p) (side_of past p) (side_of past (1 - p)) (s.sides p below honest) in
+    let f = steps_follow_rows.resets world.queue (is_link world (1 - p)) (ends p) (places p) (side_of past p) (side_of past (1 - p)) (s.sides p below honest) in
     let one = one_side_event world past (line.Reset p) p side_event.WasReset f.0 below honest refl f.1 tt (answers world past (line.Reset p) s.settled) in
     come_stands world past after ends after_ends places after_places p (after_reset (ends p)) Closed f.0 is below honest only
     (whole_kept.resets link_config (is_link world) (last_write past) (last_write after) ends after_ends places after_places p (is_link_config world is) below honest record { stored = stored; comes = only } s.holds) f.2 (broken_here (line.Reset p) past p refl)

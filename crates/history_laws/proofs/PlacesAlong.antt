@@ -16,7 +16,7 @@ use Rattle.link_invariant.specs.LinkConfig as pair
 use Rattle.link_invariant.specs.Steps.{OnlyEndChanges}
 use Rattle.link_invariant.specs.Sides.{SideIs}
 use Rattle.link_invariant.proofs.LinkInvariantKept.{whole_kept}
-use Rattle.link_invariant.proofs.RowsKept.{follow_lem}
+use Rattle.link_invariant.proofs.RowsKept.{steps_follow_rows}
 use Rattle.lawful_history.specs.declared.line.Line.{Line}
 use Rattle.lawful_history.specs.declared.line.Line.TheVariants as line
 use Rattle.lawful_history.specs.Schedule.{Event, CallQueued, AutoStarted, StormStarted, TurnTaken, RegionAccessed, DeviceReset, DeviceAccessed, InterruptDropped, InterruptRepeated, event_peer, schedule}
@@ -27,8 +27,8 @@ use Rattle.lawful_history.specs.Device.{device_lines, step_interrupts}
 use Rattle.lawful_history.specs.History.{HistoryState, peer_at, step_of_event, peer_after, after_event, run, initial_state, history}
 use Rattle.lawful_history.specs.Lawful.{IsLawful}
 use Rattle.lawful_history.proofs.EventsArePermitted.{IsPermittedEvent, there_below, all_there}
-use Rattle.lawful_history.proofs.Unique.{one_history_lem}
-use Rattle.lawful_history.proofs.Exists.{Good, good_on, good_at_first, has_sections, opened_fits, peer_same, peer_other, at_beginning, stays_on, history_lem}
+use Rattle.lawful_history.proofs.Unique.{has_one_history}
+use Rattle.lawful_history.proofs.Exists.{Good, good_on, good_at_first, has_sections, opened_fits, peer_same, peer_other, at_beginning, stays_on, history_is_lawful}
 use Rattle.history_laws.specs.Rows.{EachLine, KeepsRows, HistoriesRunTheMachine}
 use Rattle.history_laws.proofs.PermittedEvents.{link_config_of, IsProper, all_proper}
 use Rattle.history_laws.proofs.LinkPlaces.{Fine, Stands, ends_alike, device_quiet, Settled, step_quiet, step_brings}
@@ -41,46 +41,46 @@ use Rattle.history_laws.proofs.Turns.{Came, placed, placed_here, placed_beside, 
 use Rattle.history_laws.proofs.OtherActions.{after_first, quiet_stands, other_turn_stands, acted_stands, other_reset_stands}
 
 abbrev pub ends_of : HistoryState → ℕ → End
-ends_of moment p = (peer_at moment p).end
+ends_of so_far p = (peer_at so_far p).end
 
 -- The invariant of a moment.
-pub record Ran (world : World) (moment : HistoryState) : Type 0 where
-  pub good : Good world moment
+pub record Ran (world : World) (so_far : HistoryState) : Type 0 where
+  pub good : Good world so_far
   pub places : ℕ → Place
-  pub refines : Stands world moment.past (ends_of moment) places
-  pub left : (p : ℕ) → p < 2 → is_link world p ≡ true → remaining (pair.config_of (link_config_of world) p) (places p) ≡ (peer_at moment p).left
-  pub suits : (p : ℕ) → Suits world (is_link world p) (peer_at moment p)
+  pub refines : Stands world so_far.past (ends_of so_far) places
+  pub left : (p : ℕ) → p < 2 → is_link world p ≡ true → remaining (pair.config_of (link_config_of world) p) (places p) ≡ (peer_at so_far p).left
+  pub suits : (p : ℕ) → Suits world (is_link world p) (peer_at so_far p)
 
 pub two_links : (world : World) (p : ℕ) → is_link world p ≡ true → p < 2
 two_links world p is = link_below p _ is
 
 -- The invariant after an event
 
-module _ (world : World) (moment : HistoryState) (event : Event) (is : IsWorld world) (there : IsPermittedEvent world event) (proper : IsProper world event) (ran : Ran world moment) where
-  below : event_peer event < length moment.peers
+module _ (world : World) (so_far : HistoryState) (event : Event) (is : IsWorld world) (there : IsPermittedEvent world event) (proper : IsProper world event) (ran : Ran world so_far) where
+  below : event_peer event < length so_far.peers
   below = let few = there_below world event there in let count = ran.good.count in omega arith
 
-  good_after : Good world (after_event world moment event)
-  good_after = good_on reaching world moment event is there ran.good
+  good_after : Good world (after_event world so_far event)
+  good_after = good_on reaching world so_far event is there ran.good
 
-  suits_after : (q : ℕ) → Suits world (is_link world q) (peer_at (after_event world moment event) q)
-  suits_after q = stays_on (λ k x. Suits world (is_link world k) x) world moment event below (event_suits world (peer_at moment (event_peer event)) moment.past event proper (ran.suits (event_peer event))) q (event_peer event == q) refl (ran.suits q)
+  suits_after : (q : ℕ) → Suits world (is_link world q) (peer_at (after_event world so_far event) q)
+  suits_after q = stays_on (λ k x. Suits world (is_link world k) x) world so_far event below (event_suits world (peer_at so_far (event_peer event)) so_far.past event proper (ran.suits (event_peer event))) q (event_peer event == q) refl (ran.suits q)
 
-  end_here : (peer_at (after_event world moment event) (event_peer event)).end ≡ (peer_after world moment event).end
-  end_here = ap (λ (x : Peer). x.end) (peer_same world moment event below)
+  end_here : (peer_at (after_event world so_far event) (event_peer event)).end ≡ (peer_after world so_far event).end
+  end_here = ap (λ (x : Peer). x.end) (peer_same world so_far event below)
 
-  end_beside : (q : ℕ) → q ≢ event_peer event → (peer_at (after_event world moment event) q).end ≡ (peer_at moment q).end
-  end_beside q ne = ap (λ (x : Peer). x.end) (peer_other world moment event q ne)
+  end_beside : (q : ℕ) → q ≢ event_peer event → (peer_at (after_event world so_far event) q).end ≡ (peer_at so_far q).end
+  end_beside q ne = ap (λ (x : Peer). x.end) (peer_other world so_far event q ne)
 
-  left_here : (places : ℕ → Place) → remaining (pair.config_of (link_config_of world) (event_peer event)) (places (event_peer event)) ≡ (peer_after world moment event).left → (q : ℕ) → q ≡ event_peer event →
-      remaining (pair.config_of (link_config_of world) q) (places q) ≡ (peer_at (after_event world moment event) q).left
-  left_here places at q e = subst (λ (k : ℕ). remaining (pair.config_of (link_config_of world) k) (places k) ≡ (peer_at (after_event world moment event) k).left) (sym e) (at ∙ ap (λ (x : Peer). x.left) (sym (peer_same world moment event below)))
+  left_here : (places : ℕ → Place) → remaining (pair.config_of (link_config_of world) (event_peer event)) (places (event_peer event)) ≡ (peer_after world so_far event).left → (q : ℕ) → q ≡ event_peer event →
+      remaining (pair.config_of (link_config_of world) q) (places q) ≡ (peer_at (after_event world so_far event) q).left
+  left_here places at q e = subst (λ (k : ℕ). remaining (pair.config_of (link_config_of world) k) (places k) ≡ (peer_at (after_event world so_far event) k).left) (sym e) (at ∙ ap (λ (x : Peer). x.left) (sym (peer_same world so_far event below)))
 
-  left_beside : (places : ℕ → Place) (q : ℕ) → q ≢ event_peer event → places q ≡ ran.places q → q < 2 → is_link world q ≡ true → remaining (pair.config_of (link_config_of world) q) (places q) ≡ (peer_at (after_event world moment event) q).left
-  left_beside places q ne same below' honest = ap (remaining (pair.config_of (link_config_of world) q)) same ∙ (ran.left q below' honest ∙ ap (λ (x : Peer). x.left) (sym (peer_other world moment event q ne)))
+  left_beside : (places : ℕ → Place) (q : ℕ) → q ≢ event_peer event → places q ≡ ran.places q → q < 2 → is_link world q ≡ true → remaining (pair.config_of (link_config_of world) q) (places q) ≡ (peer_at (after_event world so_far event) q).left
+  left_beside places q ne same below' honest = ap (remaining (pair.config_of (link_config_of world) q)) same ∙ (ran.left q below' honest ∙ ap (λ (x : Peer). x.left) (sym (peer_other world so_far event q ne)))
 
   -- The peer of the event moves to another place.
-  came_ran : Came world (after_event world moment event).past (ends_of (after_event world moment event)) ran.places (event_peer event) (peer_after world moment event).left → Ran world (after_event world moment event)
+  came_ran : Came world (after_event world so_far event).past (ends_of (after_event world so_far event)) ran.places (event_peer event) (peer_after world so_far event).left → Ran world (after_event world so_far event)
   came_ran c = record {
     good = good_after;
     places = c.after_places;
@@ -90,20 +90,20 @@ module _ (world : World) (moment : HistoryState) (event : Event) (is : IsWorld w
   }
 
   -- The peer of the event stays at its place, if it is an honest link peer.
-  stays_ran : (is_link world (event_peer event) ≡ true → ((peer_after world moment event).end ≡ (peer_at moment (event_peer event)).end) × ((peer_after world moment event).left ≡ (peer_at moment (event_peer event)).left)) →
-      Stands world (after_event world moment event).past (ends_of moment) ran.places → Ran world (after_event world moment event)
+  stays_ran : (is_link world (event_peer event) ≡ true → ((peer_after world so_far event).end ≡ (peer_at so_far (event_peer event)).end) × ((peer_after world so_far event).left ≡ (peer_at so_far (event_peer event)).left)) →
+      Stands world (after_event world so_far event).past (ends_of so_far) ran.places → Ran world (after_event world so_far event)
   stays_ran still s = record {
     good = good_after;
     places = ran.places;
-    refines = ends_alike world (after_event world moment event).past (ends_of moment) (ends_of (after_event world moment event)) ran.places (λ q below' honest. dite (ℕ_discrete q (event_peer event)) (λ e. end_still q e honest) (λ ne. end_beside q ne)) s;
+    refines = ends_alike world (after_event world so_far event).past (ends_of so_far) (ends_of (after_event world so_far event)) ran.places (λ q below' honest. dite (ℕ_discrete q (event_peer event)) (λ e. end_still q e honest) (λ ne. end_beside q ne)) s;
     left = λ q below' honest. dite (ℕ_discrete q (event_peer event)) (λ e. left_still q e below' honest) (λ ne. left_beside ran.places q ne refl below' honest);
     suits = suits_after;
   }
     where
-      end_still : (q : ℕ) → q ≡ event_peer event → is_link world q ≡ true → ends_of (after_event world moment event) q ≡ ends_of moment q
-      end_still q e honest = subst (λ (k : ℕ). ends_of (after_event world moment event) k ≡ ends_of moment k) (sym e) (end_here ∙ (still (ap (is_link world) (sym e) ∙ honest)).0)
+      end_still : (q : ℕ) → q ≡ event_peer event → is_link world q ≡ true → ends_of (after_event world so_far event) q ≡ ends_of so_far q
+      end_still q e honest = subst (λ (k : ℕ). ends_of (after_event world so_far event) k ≡ ends_of so_far k) (sym e) (end_here ∙ (still (ap (is_link world) (sym e) ∙ honest)).0)
 
-      left_still : (q : ℕ) → q ≡ event_peer event → q < 2 → is_link world q ≡ true → remaining (pair.config_of (link_config_of world) q) (ran.places q) ≡ (peer_at (after_event world moment event) q).left
+      left_still : (q : ℕ) → q ≡ event_peer event → q < 2 → is_link world q ≡ true → remaining (pair.config_of (link_config_of world) q) (ran.places q) ≡ (peer_at (after_event world so_far event) q).left
       left_still q e below' honest =
           let honest_p : is_link world (event_peer event) ≡ true = ap (is_link world) (sym e) ∙ honest in
           left_here ran.places (ran.left (event_peer event) (two_links world (event_peer event) honest_p) honest_p ∙ sym (still honest_p).1) q e
@@ -126,70 +126,70 @@ not_honest : {A : Type 0} → (b : Bool) → b ≡ false → b ≡ true → A
 not_honest b is_none is_one = let f : false ≡ true = sym is_none ∙ is_one in absurd (cc)
 
 -- A turn.
-turned_ran : (world : World) (moment : HistoryState) (p : ℕ) → IsWorld world → IsPermittedEvent world (TurnTaken p) → (ran : Ran world moment) → (is_link world p ≡ true) ⊎ (is_link world p ≡ false) → Ran world (after_event world moment (TurnTaken p))
-turned_ran world moment p is there ran (inl honest) =
+turned_ran : (world : World) (so_far : HistoryState) (p : ℕ) → IsWorld world → IsPermittedEvent world (TurnTaken p) → (ran : Ran world so_far) → (is_link world p ≡ true) ⊎ (is_link world p ≡ false) → Ran world (after_event world so_far (TurnTaken p))
+turned_ran world so_far p is there ran (inl honest) =
     let event = TurnTaken p in
-    let peer = peer_at moment p in
-    let device = step_interrupts world moment.past moment.losses p in
+    let peer = peer_at so_far p in
+    let device = step_interrupts world so_far.past so_far.losses p in
     let stays = (opened_fits reaching (config_of world p) peer (has_sections world p is) (ran.good.fits p)).stays in
     let two = two_links world p honest in
-    came_ran world moment event is there tt ran
-    (turn_stands world moment.past device (ends_of moment) (ends_of (after_event world moment event)) ran.places p peer is two honest (step_quiet world moment.past moment.losses p) (step_brings world moment.past moment.losses p) stays (ran.left p two honest) refl
-    (subst (λ (b : Bool). Suits world b peer) honest (ran.suits p)) (end_here world moment event is there tt ran) (end_beside world moment event is there tt ran) ran.refines)
-turned_ran world moment p is there ran (inr no_link) =
+    came_ran world so_far event is there tt ran
+    (turn_stands world so_far.past device (ends_of so_far) (ends_of (after_event world so_far event)) ran.places p peer is two honest (step_quiet world so_far.past so_far.losses p) (step_brings world so_far.past so_far.losses p) stays (ran.left p two honest) refl
+    (subst (λ (b : Bool). Suits world b peer) honest (ran.suits p)) (end_here world so_far event is there tt ran) (end_beside world so_far event is there tt ran) ran.refines)
+turned_ran world so_far p is there ran (inr no_link) =
     let event = TurnTaken p in
-    let device = device_lines world moment.past moment.losses event (step_of_event world moment event) in
-    stays_ran world moment event is there tt ran (not_honest (is_link world p) no_link)
-    (other_turn_stands world moment.past device (ends_of moment) ran.places p (peer_at moment p) is (there_below world event there) no_link (device_quiet world moment.past moment.losses event (step_of_event world moment event)) (ran.suits p)
-    (good_after world moment event is there tt ran).law ran.refines)
+    let device = device_lines world so_far.past so_far.losses event (step_of_event world so_far event) in
+    stays_ran world so_far event is there tt ran (not_honest (is_link world p) no_link)
+    (other_turn_stands world so_far.past device (ends_of so_far) ran.places p (peer_at so_far p) is (there_below world event there) no_link (device_quiet world so_far.past so_far.losses event (step_of_event world so_far event)) (ran.suits p)
+    (good_after world so_far event is there tt ran).law ran.refines)
 
 -- A device reset.
-reset_ran : (world : World) (moment : HistoryState) (p : ℕ) → IsWorld world → IsPermittedEvent world (DeviceReset p) → (ran : Ran world moment) → (is_link world p ≡ true) ⊎ (is_link world p ≡ false) → Ran world (after_event world moment (DeviceReset p))
-reset_ran world moment p is there ran (inl honest) =
+reset_ran : (world : World) (so_far : HistoryState) (p : ℕ) → IsWorld world → IsPermittedEvent world (DeviceReset p) → (ran : Ran world so_far) → (is_link world p ≡ true) ⊎ (is_link world p ≡ false) → Ran world (after_event world so_far (DeviceReset p))
+reset_ran world so_far p is there ran (inl honest) =
     let event = DeviceReset p in
-    let device = device_lines world moment.past moment.losses event (step_of_event world moment event) in
-    let after_ends = ends_of (after_event world moment event) in
+    let device = device_lines world so_far.past so_far.losses event (step_of_event world so_far event) in
+    let after_ends = ends_of (after_event world so_far event) in
     let two = two_links world p honest in
     let places = placed ran.places p Closed in
-    let only : OnlyEndChanges (ends_of moment) after_ends ran.places places p (after_reset (ends_of moment p)) Closed =
-    record { end_is = end_here world moment event is there tt ran; place_is = placed_here ran.places p Closed; ends_stay = end_beside world moment event is there tt ran; places_stay = λ q ne. placed_beside ran.places p q Closed ne } in
-    came_ran world moment event is there tt ran record {
+    let only : OnlyEndChanges (ends_of so_far) after_ends ran.places places p (after_reset (ends_of so_far p)) Closed =
+    record { end_is = end_here world so_far event is there tt ran; place_is = placed_here ran.places p Closed; ends_stay = end_beside world so_far event is there tt ran; places_stay = λ q ne. placed_beside ran.places p q Closed ne } in
+    came_ran world so_far event is there tt ran record {
       after_places = places;
-      refines = after_first world (line.Reset p) device moment.past after_ends places (device_quiet world moment.past moment.losses event (step_of_event world moment event)) (own_reset_stands world moment.past (ends_of moment) after_ends ran.places places p is two honest only ran.refines);
+      refines = after_first world (line.Reset p) device so_far.past after_ends places (device_quiet world so_far.past so_far.losses event (step_of_event world so_far event)) (own_reset_stands world so_far.past (ends_of so_far) after_ends ran.places places p is two honest only ran.refines);
       here = ap (remaining (pair.config_of (link_config_of world) p)) (placed_here ran.places p Closed);
       neighbour_word = λ q ne. placed_beside ran.places p q Closed ne;
     }
-reset_ran world moment p is there ran (inr no_link) =
+reset_ran world so_far p is there ran (inr no_link) =
     let event = DeviceReset p in
-    let device = device_lines world moment.past moment.losses event (step_of_event world moment event) in
-    stays_ran world moment event is there tt ran (not_honest (is_link world p) no_link)
-    (other_reset_stands world moment.past device (ends_of moment) ran.places p is (there_below world event there) no_link (device_quiet world moment.past moment.losses event (step_of_event world moment event)) ran.refines)
+    let device = device_lines world so_far.past so_far.losses event (step_of_event world so_far event) in
+    stays_ran world so_far event is there tt ran (not_honest (is_link world p) no_link)
+    (other_reset_stands world so_far.past device (ends_of so_far) ran.places p is (there_below world event there) no_link (device_quiet world so_far.past so_far.losses event (step_of_event world so_far event)) ran.refines)
 
 -- An event without a step.
-plain_stands : (world : World) (moment : HistoryState) (event : Event) (places : ℕ → Place) → Stands world moment.past (ends_of moment) places →
-    Stands world (reverse (device_lines world moment.past moment.losses event (step_of_event world moment event)) ++ moment.past) (ends_of moment) places
-plain_stands world moment event places s = quiet_stands world (device_lines world moment.past moment.losses event (step_of_event world moment event)) moment.past (ends_of moment) places (device_quiet world moment.past moment.losses event (step_of_event world moment event)) s
+plain_stands : (world : World) (so_far : HistoryState) (event : Event) (places : ℕ → Place) → Stands world so_far.past (ends_of so_far) places →
+    Stands world (reverse (device_lines world so_far.past so_far.losses event (step_of_event world so_far event)) ++ so_far.past) (ends_of so_far) places
+plain_stands world so_far event places s = quiet_stands world (device_lines world so_far.past so_far.losses event (step_of_event world so_far event)) so_far.past (ends_of so_far) places (device_quiet world so_far.past so_far.losses event (step_of_event world so_far event)) s
 
-pub ran_on : (world : World) (moment : HistoryState) (event : Event) → IsWorld world → IsPermittedEvent world event → IsProper world event → Ran world moment → Ran world (after_event world moment event)
-ran_on world moment (CallQueued p call) is there proper ran = stays_ran world moment (CallQueued p call) is there proper ran (λ _. asked_still (peer_at moment p) (peer_at moment p).driver call) (plain_stands world moment (CallQueued p call) ran.places ran.refines)
-ran_on world moment (AutoStarted p expected) is there proper ran = stays_ran world moment (AutoStarted p expected) is there proper ran (λ _. (refl, refl)) (plain_stands world moment (AutoStarted p expected) ran.places ran.refines)
-ran_on world moment (StormStarted p seed) is there proper ran = stays_ran world moment (StormStarted p seed) is there proper ran (λ _. (refl, refl)) (plain_stands world moment (StormStarted p seed) ran.places ran.refines)
-ran_on world moment (TurnTaken p) is there proper ran = turned_ran world moment p is there ran (decide (is_link world p))
-ran_on world moment (RegionAccessed p a) is there proper ran =
+pub ran_on : (world : World) (so_far : HistoryState) (event : Event) → IsWorld world → IsPermittedEvent world event → IsProper world event → Ran world so_far → Ran world (after_event world so_far event)
+ran_on world so_far (CallQueued p call) is there proper ran = stays_ran world so_far (CallQueued p call) is there proper ran (λ _. asked_still (peer_at so_far p) (peer_at so_far p).driver call) (plain_stands world so_far (CallQueued p call) ran.places ran.refines)
+ran_on world so_far (AutoStarted p expected) is there proper ran = stays_ran world so_far (AutoStarted p expected) is there proper ran (λ _. (refl, refl)) (plain_stands world so_far (AutoStarted p expected) ran.places ran.refines)
+ran_on world so_far (StormStarted p seed) is there proper ran = stays_ran world so_far (StormStarted p seed) is there proper ran (λ _. (refl, refl)) (plain_stands world so_far (StormStarted p seed) ran.places ran.refines)
+ran_on world so_far (TurnTaken p) is there proper ran = turned_ran world so_far p is there ran (decide (is_link world p))
+ran_on world so_far (RegionAccessed p a) is there proper ran =
     let event = RegionAccessed p a in
-    let device = device_lines world moment.past moment.losses event (step_of_event world moment event) in
-    stays_ran world moment event is there proper ran (λ _. (refl, refl))
-    (acted_stands world moment.past device (ends_of moment) ran.places p a is (there_below world event there) proper (device_quiet world moment.past moment.losses event (step_of_event world moment event)) (good_after world moment event is there proper ran).law ran.refines)
-ran_on world moment (DeviceReset p) is there proper ran = reset_ran world moment p is there ran (decide (is_link world p))
-ran_on world moment (DeviceAccessed p a) is there proper ran = stays_ran world moment (DeviceAccessed p a) is there proper ran (λ _. (refl, refl)) (plain_stands world moment (DeviceAccessed p a) ran.places ran.refines)
-ran_on world moment (InterruptDropped p) is there proper ran = stays_ran world moment (InterruptDropped p) is there proper ran (λ _. (refl, refl)) (plain_stands world moment (InterruptDropped p) ran.places ran.refines)
-ran_on world moment (InterruptRepeated p vector) is there proper ran = stays_ran world moment (InterruptRepeated p vector) is there proper ran (λ _. (refl, refl)) (plain_stands world moment (InterruptRepeated p vector) ran.places ran.refines)
+    let device = device_lines world so_far.past so_far.losses event (step_of_event world so_far event) in
+    stays_ran world so_far event is there proper ran (λ _. (refl, refl))
+    (acted_stands world so_far.past device (ends_of so_far) ran.places p a is (there_below world event there) proper (device_quiet world so_far.past so_far.losses event (step_of_event world so_far event)) (good_after world so_far event is there proper ran).law ran.refines)
+ran_on world so_far (DeviceReset p) is there proper ran = reset_ran world so_far p is there ran (decide (is_link world p))
+ran_on world so_far (DeviceAccessed p a) is there proper ran = stays_ran world so_far (DeviceAccessed p a) is there proper ran (λ _. (refl, refl)) (plain_stands world so_far (DeviceAccessed p a) ran.places ran.refines)
+ran_on world so_far (InterruptDropped p) is there proper ran = stays_ran world so_far (InterruptDropped p) is there proper ran (λ _. (refl, refl)) (plain_stands world so_far (InterruptDropped p) ran.places ran.refines)
+ran_on world so_far (InterruptRepeated p vector) is there proper ran = stays_ran world so_far (InterruptRepeated p vector) is there proper ran (λ _. (refl, refl)) (plain_stands world so_far (InterruptRepeated p vector) ran.places ran.refines)
 
 -- Along all events
 
-pub run_ran : (world : World) (events : List Event) (moment : HistoryState) → IsWorld world → AllByRecursion (IsPermittedEvent world) events → AllByRecursion (IsProper world) events → Ran world moment → Ran world (run world events moment)
-run_ran world [] moment is there proper ran = ran
-run_ran world (event ∷ events) moment is there proper ran = run_ran world events (after_event world moment event) is there.1 proper.1 (ran_on world moment event is there.0 proper.0 ran)
+pub run_ran : (world : World) (events : List Event) (so_far : HistoryState) → IsWorld world → AllByRecursion (IsPermittedEvent world) events → AllByRecursion (IsProper world) events → Ran world so_far → Ran world (run world events so_far)
+run_ran world [] so_far is there proper ran = ran
+run_ran world (event ∷ events) so_far is there proper ran = run_ran world events (after_event world so_far event) is there.1 proper.1 (ran_on world so_far event is there.0 proper.0 ran)
 
 pub ran_at_first : (world : World) → Ran world (initial_state world)
 ran_at_first world = record {
@@ -197,7 +197,7 @@ ran_at_first world = record {
   places = λ p. Closed;
   refines = record {
     holds = whole_kept.starts (link_config_of world) (is_link world) (λ at. 0) (ends_of (initial_state world)) (λ p. Closed) (λ w. refl) (λ p. ap (λ (x : Peer). x.end) (start p)) (λ p. refl);
-    sides = λ p below honest. subst (λ (x : Peer). SideIs x.end Closed initial_side) (sym (start p)) follow_lem.starts;
+    sides = λ p below honest. subst (λ (x : Peer). SideIs x.end Closed initial_side) (sym (start p)) steps_follow_rows.starts;
     states = λ p below. refl;
     reads = λ p below honest. refl;
     unrung = λ p below honest. λ unrung. unrung;
@@ -217,7 +217,7 @@ history_ran world is = run_ran world (schedule world.acts) (initial_state world)
 
 -- A property of the lines of the computed history is a property of every lawful one.
 pub lawful_past : (world : World) (lines : List Line) → IsWorld world → IsLawful world lines → reverse lines ≡ (run world (schedule world.acts) (initial_state world)).past
-lawful_past world lines is lawful = ap reverse (one_history_lem world lines (history world) lawful (history_lem reaching world is)) ∙ reverse-reverse (run world (schedule world.acts) (initial_state world)).past
+lawful_past world lines is lawful = ap reverse (has_one_history world lines (history world) lawful (history_is_lawful reaching world is)) ∙ reverse-reverse (run world (schedule world.acts) (initial_state world)).past
 
 pub all_fine : (world : World) (lines : List Line) → IsWorld world → IsLawful world lines → EachLine (Fine world) (reverse lines)
 all_fine world lines is lawful = subst (λ (past : List Line). EachLine (Fine world) past) (sym (lawful_past world lines is lawful)) (history_ran world is).refines.fine
@@ -229,5 +229,5 @@ rows_of : (world : World) (past : List Line) → EachLine (Fine world) past → 
 rows_of world [] fine = tt
 rows_of world (line ∷ past) fine = (fine.0.0, rows_of world past fine.1)
 
-pub rows_lem : HistoriesRunTheMachine
-rows_lem world lines is lawful = rows_of world (reverse lines) (all_fine world lines is lawful)
+pub histories_run_the_machine : HistoriesRunTheMachine
+histories_run_the_machine world lines is lawful = rows_of world (reverse lines) (all_fine world lines is lawful)

@@ -76,8 +76,8 @@ between_delivers p (l ∷ between) past all =
     let d2 = rest.delivered in
     subst (λ (ls : List Line). Delivers (side_of past p) (side_of ls p) (deliver_count p (l ∷ between))) (sym (first_after l between past)) (record { looked = rest.looked ∙ first.looked; delivered = omega arith })
 
-pub polls_lem : DonePollsDeliverAll
-polls_lem world before between after p count is lawful within =
+pub done_polls_deliver_all : DonePollsDeliverAll
+done_polls_deliver_all world before between after p count is lawful within =
     let look = line.Look p count in
     let done = (at_line (Fine world) (before ++ look ∷ between) after (line.Done p) (all_fine world ((before ++ look ∷ between) ++ line.Done p ∷ after) is lawful)).0.1.1.1 in
     let old = side_of (reverse before) p in

@@ -9,7 +9,7 @@ use Rattle.split_ring.specs.declared.steps.Access.TheVariants as access
 use Rattle.split_ring.specs.Layout.{has_events, limit_of, word_offset, DescAddress, DescLength, DescFlags, UsedIndex}
 use Rattle.split_ring.specs.Spelling.{low_half, high_half, entry_half, desc_flags}
 use Rattle.split_ring.specs.Ranges.{IsAvailEntry, IsDescAddress, IsDescLength, IsDescFlags, is_avail_entry, is_desc_address, is_desc_length, is_desc_flags, is_used_id, is_avail_index, is_used_index}
-use Rattle.split_ring.proofs.Tests.{entry_of_test, address_of_test, length_of_test}
+use Rattle.split_ring.proofs.TestsDecideRanges.{entry_of_test, address_of_test, length_of_test}
 use Rattle.link_handshake.specs.declared.Move.{Move}
 use Rattle.link_handshake.specs.declared.Move.TheVariants.{Stay, Set, ClearThenSet}
 use Rattle.link_handshake.specs.HandshakeState.{move_of}
@@ -106,17 +106,17 @@ by_test config taken true x y marks others px py = px refl
 by_test config taken false x y marks others px py = py refl
 
 -- One more word of a frame.
-word_last : (config : EndConfig) (address at value : ℕ) (words : List ℕ) → word_reads config address at (words ++ value ∷ []) ≡ word_reads config address at words ++ got (config.theirs + (address / 4 + (at + length words))) value ∷ []
-word_last config address at value [] = ap (λ (k : ℕ). got (config.theirs + (address / 4 + k)) value ∷ []) (let e : at ≡ at + 0 = omega arith in e)
+word_last : (config : EndConfig) (address at value : ℕ) (words : List ℕ) → word_reads config address at (words ++ value ∷ []) ≡ word_reads config address at words ++ got (config.other_start + (address / 4 + (at + length words))) value ∷ []
+word_last config address at value [] = ap (λ (k : ℕ). got (config.other_start + (address / 4 + k)) value ∷ []) (let e : at ≡ at + 0 = omega arith in e)
 word_last config address at value (word ∷ words) =
     let rest = word_last config address (at + 1) value words in
     let e : at + 1 + length words ≡ at + suc (length words) = omega arith in
-    ap (λ (r : List Got). got (config.theirs + (address / 4 + at)) word ∷ r) (rest ∙ ap (λ (k : ℕ). word_reads config address (at + 1) words ++ got (config.theirs + (address / 4 + k)) value ∷ []) e)
+    ap (λ (r : List Got). got (config.other_start + (address / 4 + at)) word ∷ r) (rest ∙ ap (λ (k : ℕ). word_reads config address (at + 1) words ++ got (config.other_start + (address / 4 + k)) value ∷ []) e)
 
-pub next_word : (config : EndConfig) (address value : ℕ) (words : List ℕ) → word_reads config address 0 words ++ got (config.theirs + (address / 4 + length words)) value ∷ [] ≡ word_reads config address 0 (words ++ value ∷ [])
+pub next_word : (config : EndConfig) (address value : ℕ) (words : List ℕ) → word_reads config address 0 words ++ got (config.other_start + (address / 4 + length words)) value ∷ [] ≡ word_reads config address 0 (words ++ value ∷ [])
 next_word config address value words =
     let e : length words ≡ 0 + length words = omega arith in
-    ap (λ (k : ℕ). word_reads config address 0 words ++ got (config.theirs + (address / 4 + k)) value ∷ []) e ∙ sym (word_last config address 0 value words)
+    ap (λ (k : ℕ). word_reads config address 0 words ++ got (config.other_start + (address / 4 + k)) value ∷ []) e ∙ sym (word_last config address 0 value words)
 
 -- The reads after each read of an item, as reads of an item with that value
 
@@ -125,39 +125,39 @@ with_entry_word value = record { entry_word = value; low = 0; high = 0; bytes = 
 
 module _ (config : EndConfig) (number : ℕ) (value : ℕ) (reads : List Got) (read : Item) where
   pub low_taken : (entry : ℕ) → reads ≡ entry_read config number read ∷ [] → entry ≡ item_entry config number read →
-      reads ++ got (config.theirs + word_offset config.sizes (DescAddress entry)) value ∷ [] ≡ entry_read config number (record read { low = value }) ∷ low_read config number (record read { low = value }) ∷ []
+      reads ++ got (config.other_start + word_offset config.sizes (DescAddress entry)) value ∷ [] ≡ entry_read config number (record read { low = value }) ∷ low_read config number (record read { low = value }) ∷ []
   low_taken entry is e =
-      ap (λ (r : List Got). r ++ got (config.theirs + word_offset config.sizes (DescAddress entry)) value ∷ []) is ∙ ap (λ (k : ℕ). entry_read config number read ∷ got (config.theirs + word_offset config.sizes (DescAddress k)) value ∷ []) e
+      ap (λ (r : List Got). r ++ got (config.other_start + word_offset config.sizes (DescAddress entry)) value ∷ []) is ∙ ap (λ (k : ℕ). entry_read config number read ∷ got (config.other_start + word_offset config.sizes (DescAddress k)) value ∷ []) e
 
   pub high_taken : (entry : ℕ) → reads ≡ entry_read config number read ∷ low_read config number read ∷ [] → entry ≡ item_entry config number read →
-      reads ++ got (config.theirs + word_offset config.sizes (DescAddress entry) + 1) value ∷ [] ≡ entry_read config number (record read { high = value }) ∷ low_read config number (record read { high = value }) ∷ high_read config number (record read { high = value }) ∷ []
+      reads ++ got (config.other_start + word_offset config.sizes (DescAddress entry) + 1) value ∷ [] ≡ entry_read config number (record read { high = value }) ∷ low_read config number (record read { high = value }) ∷ high_read config number (record read { high = value }) ∷ []
   high_taken entry is e =
-      ap (λ (r : List Got). r ++ got (config.theirs + word_offset config.sizes (DescAddress entry) + 1) value ∷ []) is ∙
-      ap (λ (k : ℕ). entry_read config number read ∷ low_read config number read ∷ got (config.theirs + word_offset config.sizes (DescAddress k) + 1) value ∷ []) e
+      ap (λ (r : List Got). r ++ got (config.other_start + word_offset config.sizes (DescAddress entry) + 1) value ∷ []) is ∙
+      ap (λ (k : ℕ). entry_read config number read ∷ low_read config number read ∷ got (config.other_start + word_offset config.sizes (DescAddress k) + 1) value ∷ []) e
 
   pub length_taken : (entry : ℕ) → reads ≡ entry_read config number read ∷ low_read config number read ∷ high_read config number read ∷ [] → entry ≡ item_entry config number read →
-      reads ++ got (config.theirs + word_offset config.sizes (DescLength entry)) value ∷ [] ≡
+      reads ++ got (config.other_start + word_offset config.sizes (DescLength entry)) value ∷ [] ≡
       entry_read config number (record read { bytes = value }) ∷ low_read config number (record read { bytes = value }) ∷ high_read config number (record read { bytes = value }) ∷ length_read config number (record read { bytes = value }) ∷ []
   length_taken entry is e =
-      ap (λ (r : List Got). r ++ got (config.theirs + word_offset config.sizes (DescLength entry)) value ∷ []) is ∙
-      ap (λ (k : ℕ). entry_read config number read ∷ low_read config number read ∷ high_read config number read ∷ got (config.theirs + word_offset config.sizes (DescLength k)) value ∷ []) e
+      ap (λ (r : List Got). r ++ got (config.other_start + word_offset config.sizes (DescLength entry)) value ∷ []) is ∙
+      ap (λ (k : ℕ). entry_read config number read ∷ low_read config number read ∷ high_read config number read ∷ got (config.other_start + word_offset config.sizes (DescLength k)) value ∷ []) e
 
   pub flags_taken : (entry : ℕ) → reads ≡ entry_read config number read ∷ low_read config number read ∷ high_read config number read ∷ length_read config number read ∷ [] → entry ≡ item_entry config number read →
-      reads ++ got (config.theirs + word_offset config.sizes (DescFlags entry)) value ∷ [] ≡
+      reads ++ got (config.other_start + word_offset config.sizes (DescFlags entry)) value ∷ [] ≡
       entry_read config number (record read { flags_word = value }) ∷ low_read config number (record read { flags_word = value }) ∷ high_read config number (record read { flags_word = value }) ∷
       length_read config number (record read { flags_word = value }) ∷ flags_read config number (record read { flags_word = value }) ∷ []
   flags_taken entry is e =
-      ap (λ (r : List Got). r ++ got (config.theirs + word_offset config.sizes (DescFlags entry)) value ∷ []) is ∙
-      ap (λ (k : ℕ). entry_read config number read ∷ low_read config number read ∷ high_read config number read ∷ length_read config number read ∷ got (config.theirs + word_offset config.sizes (DescFlags k)) value ∷ []) e
+      ap (λ (r : List Got). r ++ got (config.other_start + word_offset config.sizes (DescFlags entry)) value ∷ []) is ∙
+      ap (λ (k : ℕ). entry_read config number read ∷ low_read config number read ∷ high_read config number read ∷ length_read config number read ∷ got (config.other_start + word_offset config.sizes (DescFlags k)) value ∷ []) e
 
   pub word_taken : (address : ℕ) (words : List ℕ) →
       reads ≡ entry_read config number read ∷ low_read config number read ∷ high_read config number read ∷ length_read config number read ∷ flags_read config number read ∷ word_reads config (item_address read) 0 words → address ≡ item_address read →
-      reads ++ got (config.theirs + (address / 4 + length words)) value ∷ [] ≡
+      reads ++ got (config.other_start + (address / 4 + length words)) value ∷ [] ≡
       entry_read config number read ∷ low_read config number read ∷ high_read config number read ∷ length_read config number read ∷ flags_read config number read ∷ word_reads config (item_address read) 0 (words ++ value ∷ [])
   word_taken address words is e =
-      ap (λ (r : List Got). r ++ got (config.theirs + (address / 4 + length words)) value ∷ []) is ∙
+      ap (λ (r : List Got). r ++ got (config.other_start + (address / 4 + length words)) value ∷ []) is ∙
       ap (λ (r : List Got). entry_read config number read ∷ low_read config number read ∷ high_read config number read ∷ length_read config number read ∷ flags_read config number read ∷ r)
-      (ap (λ (a : ℕ). word_reads config (item_address read) 0 words ++ got (config.theirs + (a / 4 + length words)) value ∷ []) e ∙ next_word config (item_address read) value words)
+      (ap (λ (a : ℕ). word_reads config (item_address read) 0 words ++ got (config.other_start + (a / 4 + length words)) value ∷ []) e ∙ next_word config (item_address read) value words)
 
 words_reads : (config : EndConfig) (number more entry address bytes : ℕ) (words : List ℕ) (count : ℕ) (reads : List Got) → 0 < count →
     ((left : ℕ) → ReadsAre config (ReadingFrameWord number more entry address bytes words left) reads) → ReadsAre config (words_place number more entry address bytes words count) reads
@@ -190,7 +190,7 @@ reads_on config (ReadingUsedIndex pending freed) value reads is =
     by_test config _ (is_used_index (freed % 65536) (high_half value) (pending.number - freed)) (ids_place config pending freed count) Refusing (reclaim_marks config pending freed count) (refusal field_name.UsedIndex (high_half value))
     (λ _. subst (λ (r : List Got). ReadsAre config (ids_place config pending freed count) r) (sym (reclaimed (count == 0))) (ids_reads config pending freed count)) (λ _. refl)
   where
-    reclaimed : (b : Bool) → reads_marked (if b then Reclaim 0 ∷ full_marks config pending freed else Reclaim (returned_by freed value) ∷ []) (reads ++ got (config.theirs + word_offset config.sizes UsedIndex) value ∷ []) ≡ []
+    reclaimed : (b : Bool) → reads_marked (if b then Reclaim 0 ∷ full_marks config pending freed else Reclaim (returned_by freed value) ∷ []) (reads ++ got (config.other_start + word_offset config.sizes UsedIndex) value ∷ []) ≡ []
     reclaimed true = refl
     reclaimed false = refl
 reads_on config (ReadingUsedId pending freed more) value reads is =
@@ -234,7 +234,7 @@ reads_on config (ReadingFrameWord number more entry address bytes words zero) va
 reads_on config (ReadingFrameWord number more entry address bytes words (suc left)) value reads is =
     let none : (suc left == 0) ≡ false = ne_eqb (suc left) 0 (λ e. absurd (omega arith)) in
     let marks : (if suc left == 0 then Deliver (frame_in bytes (words ++ value ∷ [])) ∷ [] else []) ≡ [] = no (suc left == 0) (Deliver (frame_in bytes (words ++ value ∷ [])) ∷ []) [] none in
-    subst (λ (m : List Mark). ReadsAre config (ReadingFrameWord number more entry address bytes (words ++ value ∷ []) left) (reads_marked m (reads ++ got (config.theirs + (address / 4 + length words)) value ∷ []))) (sym marks)
+    subst (λ (m : List Mark). ReadsAre config (ReadingFrameWord number more entry address bytes (words ++ value ∷ []) left) (reads_marked m (reads ++ got (config.other_start + (address / 4 + length words)) value ∷ []))) (sym marks)
     (is.0, word_taken config number value reads is.0 address words is.1 is.4, is.2, is.3, is.4, is.5, is.6, is.7, is.8)
 reads_on config (WritingUsedId number more entry) value reads is = is
 reads_on config (WritingUsedLength number more) value reads is = is

@@ -20,16 +20,16 @@ use Rattle.history_laws.proofs.OtherLines.{here_is, there_is}
 use Rattle.history_laws.proofs.Lines.{at_beginning, at_line, middle}
 use Rattle.history_laws.proofs.PlacesAlong.{all_fine}
 
-pub refusal_lem : RefusesOutOfRange
-refusal_lem world before after p refused is lawful = let row = (at_line (Fine world) before after (line.Refuse p refused) (all_fine world (before ++ line.Refuse p refused ∷ after) is lawful)).0 in
+pub refuses_out_of_range : RefusesOutOfRange
+refuses_out_of_range world before after p refused is lawful = let row = (at_line (Fine world) before after (line.Refuse p refused) (all_fine world (before ++ line.Refuse p refused ∷ after) is lawful)).0 in
     record { honest = row.1.0; hostile = row.1.1.0; run = row.1.1.1; beyond = row.1.1.2 }
 
 below_of : (world : World) (before after : List Line) (p : ℕ) (refused : Refused) → IsWorld world → IsLawful world (before ++ line.Refuse p refused ∷ after) → p < 2
 below_of world before after p refused is lawful = (at_line (Fine world) before after (line.Refuse p refused) (all_fine world (before ++ line.Refuse p refused ∷ after) is lawful)).0.0
 
-pub never_lem : HonestPeersNeverRefuse
-never_lem world before after p refused is one other lawful =
-    let r = refusal_lem world before after p refused is lawful in
+pub honest_peers_never_refuse : HonestPeersNeverRefuse
+honest_peers_never_refuse world before after p refused is one other lawful =
+    let r = refuses_out_of_range world before after p refused is lawful in
     let below = below_of world before after p refused is lawful in
     dite (ℕ_discrete p 0)
     (λ e. let o : 1 - p ≡ 1 = omega arith in let f : true ≡ false = sym other ∙ (ap (is_link world) (sym o) ∙ r.hostile) in absurd (cc))
@@ -84,8 +84,8 @@ refused_on p (l ∷ between) past all is =
     let rest = refused_on p between (l ∷ past) all.1 (line_refused l p (side_of past p) all.0 is) in
     subst (λ (ls : List Line). (side_of ls p).refused ≡ true) (sym (first_after l between past)) rest
 
-pub rest_lem : RefusedPeersStayInReset
-rest_lem world before between after p value refused is lawful none =
+pub refused_peers_stay_in_reset : RefusedPeersStayInReset
+refused_peers_stay_in_reset world before between after p value refused is lawful none =
     let first = line.Refuse p refused in
     let all = all_fine world ((before ++ first ∷ between) ++ line.State p value ∷ after) is lawful in
     let refusal = (at_line (Fine world) before between first (at_beginning (Fine world) (before ++ first ∷ between) (line.State p value ∷ after) all)).0 in

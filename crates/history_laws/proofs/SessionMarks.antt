@@ -69,12 +69,12 @@ wrote_three older p q v below is three =
     let beside : (q == 1 - p) ≡ false = grind (arith, nat_tests) in
     let of_three : (v == 3) ≡ true = grind (arith, nat_tests) in
     let mine = log_of older p in
-    let theirs = log_of older (1 - p) in
+    let opposite = log_of older (1 - p) in
     record {
       run = ap (λ (s : Side). s.state) (yes (q == p) (side_with (side_of older p) v) (side_of older p) here) ∙ three;
-      carried = ap (λ (l : Log). l.carried) (yes (q == p) (log_after mine theirs (side_of older p) (Wrote v)) mine here)
-          ∙ (yes (v == 3) theirs.opened mine.carried of_three
-          ∙ ap (λ (l : Log). l.opened) (sym (no (q == 1 - p) (log_after theirs (log_of older (1 - (1 - p))) (side_of older (1 - p)) (Wrote v)) theirs beside)));
+      carried = ap (λ (l : Log). l.carried) (yes (q == p) (log_after mine opposite (side_of older p) (Wrote v)) mine here)
+          ∙ (yes (v == 3) opposite.opened mine.carried of_three
+          ∙ ap (λ (l : Log). l.opened) (sym (no (q == 1 - p) (log_after opposite (log_of older (1 - (1 - p))) (side_of older (1 - p)) (Wrote v)) opposite beside)));
     }
 
 entered : (past : List Line) (p : ℕ) → p < 2 → enters_run past p ≡ true → Entered past p
@@ -91,8 +91,8 @@ record Same (older side_event : List Line) : Type 0 where
   logs : (p : ℕ) → log_of side_event p ≡ log_of older p
 
 log_alike : (t : LineSideEvent) (p : ℕ) (s s' : Side) (l l' o o' : Log) → s ≡ s' → l ≡ l' → o ≡ o' → log_after_line t p s l o ≡ log_after_line t p s' l' o'
-log_alike t p s s' l l' o o' sides mine theirs =
-    ap (λ (x : Side). log_after_line t p x l o) sides ∙ (ap (λ (x : Log). log_after_line t p s' x o) mine ∙ ap (λ (x : Log). log_after_line t p s' l' x) theirs)
+log_alike t p s s' l l' o o' sides mine opposite =
+    ap (λ (x : Side). log_after_line t p x l o) sides ∙ (ap (λ (x : Log). log_after_line t p s' x o) mine ∙ ap (λ (x : Log). log_after_line t p s' l' x) opposite)
 
 same_more : (older side_event : List Line) (line : Line) → Same older side_event → Same (line ∷ older) (line ∷ side_event)
 same_more older side_event line same = record {
@@ -122,10 +122,10 @@ numbered world older side_event p same test =
     let below = two_links world p honest in
     let e = entered older p below enters in
     let other = partner_is p below in
-    let theirs : opened_in older (partner p) ≡ (log_of side_event (1 - p)).opened =
+    let opposite : opened_in older (partner p) ≡ (log_of side_event (1 - p)).opened =
     ap (opened_in older) other ∙ (sym (opened_is older (1 - p)) ∙ ap (λ (l : Log). l.opened) (sym (same.logs (1 - p)))) in
     let others : (if is_link world (partner p) then opened_in older (partner p) else 0) ≡ (if is_link world (1 - p) then (log_of side_event (1 - p)).opened else 0) =
-    ap (λ q. if is_link world q then opened_in older (partner p) else 0) other ∙ by_flag (is_link world (1 - p)) (opened_in older (partner p)) (log_of side_event (1 - p)).opened theirs in
+    ap (λ q. if is_link world q then opened_in older (partner p) else 0) other ∙ by_flag (is_link world (1 - p)) (opened_in older (partner p)) (log_of side_event (1 - p)).opened opposite in
     record {
       honest = honest;
       run = ap (λ (s : Side). s.state) (same.sides p) ∙ e.run;
@@ -185,8 +185,8 @@ all_marks world older side_event (line ∷ lines) plain same each =
           )
     ]
 
-pub numbered_lem : HasMarksInTwo → SessionsAreNumbered
-numbered_lem two world before after p opened other is lawful =
+pub sessions_are_numbered : HasMarksInTwo → SessionsAreNumbered
+sessions_are_numbered two world before after p opened other is lawful =
     let mark = line.Session p opened other in
     let lines = before ++ mark ∷ after in
     let plain = filter_passes (λ l. not (is_session l)) lines in

@@ -19,7 +19,7 @@ use Rattle.lawful_history.proofs.Exists.{has_sections}
 use Rattle.history_laws.specs.SideEvents.{side_of}
 use Rattle.history_laws.specs.Reads.{Got, got, reads_of, entry_read, low_read, high_read, length_read, flags_read, word_reads}
 use Rattle.history_laws.specs.Delivered.{words_read, IsSpelledByReads, DeliveredFramesAreSpelled}
-use Rattle.history_laws.proofs.AtMarks.{delivered_lem}
+use Rattle.history_laws.proofs.AtMarks.{delivered_frames_are_read}
 
 abbrev word_of : Got → ℕ
 word_of read = read.word
@@ -30,16 +30,16 @@ is_other : (word : ℕ) (read : Got) (before after : List Got) → IsNone word (
 is_other word read [] after none = none.0
 is_other word read (first ∷ before) after none = is_other word read before after none.1
 
-found : (config : EndConfig) (read : Got) (place : ℕ) (before after : List Got) → read.word ≡ config.theirs + place → AreDistinct (map word_of (before ++ read ∷ after)) → words_read config (before ++ read ∷ after) place ≡ read.value
-found config read place [] after is apart = yes (read.word == config.theirs + place) read.value (words_read config after place) (eq-eqb read.word (config.theirs + place) is)
+found : (config : EndConfig) (read : Got) (place : ℕ) (before after : List Got) → read.word ≡ config.other_start + place → AreDistinct (map word_of (before ++ read ∷ after)) → words_read config (before ++ read ∷ after) place ≡ read.value
+found config read place [] after is apart = yes (read.word == config.other_start + place) read.value (words_read config after place) (eq-eqb read.word (config.other_start + place) is)
 found config read place (first ∷ before) after is apart =
-    let differs : first.word ≢ config.theirs + place = λ same. is_other first.word read before after apart.0 (same ∙ sym is) in
-    no (first.word == config.theirs + place) first.value (words_read config (before ++ read ∷ after) place) (ne_eqb first.word (config.theirs + place) differs) ∙ found config read place before after is apart.1
+    let differs : first.word ≢ config.other_start + place = λ same. is_other first.word read before after apart.0 (same ∙ sym is) in
+    no (first.word == config.other_start + place) first.value (words_read config (before ++ read ∷ after) place) (ne_eqb first.word (config.other_start + place) differs) ∙ found config read place before after is apart.1
 
 -- So the step that read it met that word.
-meets : (config : EndConfig) (read : Got) (place : ℕ) (before after : List Got) → read.word ≡ config.theirs + place → AreDistinct (map word_of (before ++ read ∷ after)) → read.value ≡ words_read config (before ++ read ∷ after) (read.word - config.theirs)
+meets : (config : EndConfig) (read : Got) (place : ℕ) (before after : List Got) → read.word ≡ config.other_start + place → AreDistinct (map word_of (before ++ read ∷ after)) → read.value ≡ words_read config (before ++ read ∷ after) (read.word - config.other_start)
 meets config read place before after is apart =
-    let at : read.word - config.theirs ≡ place = omega arith in sym (ap (words_read config (before ++ read ∷ after)) at ∙ found config read place before after is apart)
+    let at : read.word - config.other_start ≡ place = omega arith in sym (ap (words_read config (before ++ read ∷ after)) at ∙ found config read place before after is apart)
 
 -- The words of the frame
 
@@ -48,7 +48,7 @@ module _ (config : EndConfig) (number entry address : ℕ) (marks : List Mark) w
       AllMatchWords config (words_read config (before ++ word_reads config address at words)) (word_steps config address at words marks ++ return_steps config number entry)
   words_match before at [] apart = (tt, (tt, (tt, tt)))
   words_match before at (word ∷ words) apart =
-      let read = got (config.theirs + (address / 4 + at)) word in
+      let read = got (config.other_start + (address / 4 + at)) word in
       let rest = word_reads config address (at + 1) words in
       let joined : (before ++ read ∷ []) ++ rest ≡ before ++ read ∷ rest = append_assoc before (read ∷ []) rest in (
         meets config read (address / 4 + at) before rest refl apart,
@@ -58,7 +58,7 @@ module _ (config : EndConfig) (number entry address : ℕ) (marks : List Mark) w
 
   words_are : (at : ℕ) (words : List ℕ) → once.reads_of (word_steps config address at words marks ++ return_steps config number entry) ≡ map word_of (word_reads config address at words)
   words_are at [] = refl
-  words_are at (word ∷ words) = ap (λ (rest : List ℕ). (config.theirs + (address / 4 + at)) ∷ rest) (words_are (at + 1) words)
+  words_are at (word ∷ words) = ap (λ (rest : List ℕ). (config.other_start + (address / 4 + at)) ∷ rest) (words_are (at + 1) words)
 
 -- The reads of an item
 
@@ -72,7 +72,7 @@ module _ (config : EndConfig) (number : ℕ) (read : Item) where
   are_distinct : HasSections config → IsValidItem config number read → AreDistinct (map word_of (item_reads config number read))
   are_distinct has good =
       let e = item_entry config number read in
-      let t = config.theirs in
+      let t = config.other_start in
       subst (λ (rest : List ℕ). AreDistinct ((t + word_offset config.sizes (AvailEntry (avail_entry_of config number))) ∷ (t + word_offset config.sizes (DescAddress e)) ∷ (t + word_offset config.sizes (DescAddress e) + 1) ∷ (t + word_offset config.sizes (DescLength e)) ∷ (t + word_offset config.sizes (DescFlags e)) ∷ rest))
       (words_are config number e (item_address read) delivers 0 read.words) (distinct.taken config number read has good)
 
@@ -110,10 +110,10 @@ module _ (config : EndConfig) (number : ℕ) (read : Item) where
         spelled = items.spelled config number read (words_read config (item_reads config number read)) good (match apart);
       }
 
-pub spelled_lem : DeliveredFramesAreSpelled
-spelled_lem world before after p frame is lawful =
+pub delivered_frames_are_spelled : DeliveredFramesAreSpelled
+delivered_frames_are_spelled world before after p frame is lawful =
     let config = config_of world p in
     let number = length (side_of (reverse before) p).delivered in
-    let by = delivered_lem world before after p frame is lawful in
+    let by = delivered_frames_are_read world before after p frame is lawful in
     subst (λ (reads : List Got). IsSpelledByReads config number reads frame) (sym by.reads_are)
     (subst (λ (f : List ℕ). IsSpelledByReads config number (item_reads config number by.read) f) (sym by.frame_is) (spelled_item config number by.read (has_sections world p is) by.good))

@@ -39,11 +39,11 @@ mark_new sizes honest side other Down new row = row.1
 mark_new sizes honest side other (Refuse refused) new row = row.3
 mark_new sizes honest side other Over new row = row
 
-pub row_new : (sizes : Sizes) (mine theirs : Bool) (side other : Side) (side_event : SideEvent) (new : Side) → Row sizes mine theirs side other side_event new → new ≡ side_after side_event side
-row_new sizes mine theirs side other (Gave value) new row = row
-row_new sizes mine theirs side other (Wrote state) new row = row.1
-row_new sizes mine theirs side other (Marked mark) new row = mark_new sizes theirs side other mark new row.1
-row_new sizes mine theirs side other WasReset new row = row
+pub row_new : (sizes : Sizes) (mine other_honest : Bool) (side other : Side) (side_event : SideEvent) (new : Side) → Row sizes mine other_honest side other side_event new → new ≡ side_after side_event side
+row_new sizes mine other_honest side other (Gave value) new row = row
+row_new sizes mine other_honest side other (Wrote state) new row = row.1
+row_new sizes mine other_honest side other (Marked mark) new row = mark_new sizes other_honest side other mark new row.1
+row_new sizes mine other_honest side other WasReset new row = row
 
 -- A line of an honest link peer with a side event, and its row
 
@@ -63,21 +63,21 @@ is_row world past p WasReset new below row = λ _. row
 
 pub one_side_event : (world : World) (past : List Line) (line : Line) (p : ℕ) (side_event : SideEvent) (new : Side) → p < 2 → is_link world p ≡ true → line_side_event_of line ≡ HasEvent p side_event →
     Row world.queue true (is_link world (1 - p)) (side_of past p) (side_of past (1 - p)) side_event new → Rests world past (HasEvent p side_event) → AnswersTo world past line → OneSideEvent world past line p new (side_of past (1 - p))
-one_side_event world past line p side_event new below honest tells row rests answered =
-    let now : side_of (line ∷ past) p ≡ side_after side_event (side_of past p) = ap (λ (t : LineSideEvent). side_after_line t p (side_of past p)) tells ∙ here_is p (side_after side_event (side_of past p)) (side_of past p) in
+one_side_event world past line p side_event new below honest has_event row rests answered =
+    let now : side_of (line ∷ past) p ≡ side_after side_event (side_of past p) = ap (λ (t : LineSideEvent). side_after_line t p (side_of past p)) has_event ∙ here_is p (side_after side_event (side_of past p)) (side_of past p) in
     let is : side_of (line ∷ past) p ≡ new = now ∙ sym (row_new world.queue true (is_link world (1 - p)) (side_of past p) (side_of past (1 - p)) side_event new row) in
     let row_here : Row world.queue (is_link world p) (is_link world (1 - p)) (side_of past p) (side_of past (1 - p)) side_event (side_of (line ∷ past) p) =
     subst (λ (b : Bool). Row world.queue b (is_link world (1 - p)) (side_of past p) (side_of past (1 - p)) side_event (side_of (line ∷ past) p)) (sym honest)
     (subst (λ (x : Side). Row world.queue true (is_link world (1 - p)) (side_of past p) (side_of past (1 - p)) side_event x) (sym is) row) in
     record {
       fine = (
-        subst (λ (t : LineSideEvent). HasRow world past line t) (sym tells) (is_row world past p side_event (side_of (line ∷ past) p) below row_here),
-        subst (λ (t : LineSideEvent). Rests world past t) (sym tells) rests,
+        subst (λ (t : LineSideEvent). HasRow world past line t) (sym has_event) (is_row world past p side_event (side_of (line ∷ past) p) below row_here),
+        subst (λ (t : LineSideEvent). Rests world past t) (sym has_event) rests,
         answered,
-        writes_side_event world past line p side_event tells,
+        writes_side_event world past line p side_event has_event,
       );
       here = is;
-      neighbour_word = ap (λ (t : LineSideEvent). side_after_line t (1 - p) (side_of past (1 - p))) tells ∙ there_is p (1 - p) (side_after side_event (side_of past (1 - p))) (side_of past (1 - p)) (other_of p below);
+      neighbour_word = ap (λ (t : LineSideEvent). side_after_line t (1 - p) (side_of past (1 - p))) has_event ∙ there_is p (1 - p) (side_after side_event (side_of past (1 - p))) (side_of past (1 - p)) (other_of p below);
     }
 
 pub broken_here : (line : Line) (past : List Line) (p : ℕ) → reading_of line ≡ Breaks p → reads_of (line ∷ past) p ≡ []

@@ -84,8 +84,8 @@ pub silent_none : (p : ℕ) (l : Line) → line_side_event_of l ≡ HasNoEvent �
 silent_none p l silent accept = let e : line_side_event_of l ≡ HasEvent p (Marked (Accept accept.0)) = ap line_side_event_of accept.1 in cc
 
 pub side_event_none : (p peer : ℕ) (l : Line) (mark : Mark) → line_side_event_of l ≡ HasEvent peer (Marked mark) → ((frame : List ℕ) → mark ≢ Accept frame) ⊎ (peer ≢ p) → IsAccept p l → ⊥
-side_event_none p peer l mark tells (inl none) accept = let e : line_side_event_of l ≡ HasEvent p (Marked (Accept accept.0)) = ap line_side_event_of accept.1 in none accept.0 (cc)
-side_event_none p peer l mark tells (inr ne) accept = let e : line_side_event_of l ≡ HasEvent p (Marked (Accept accept.0)) = ap line_side_event_of accept.1 in ne (cc)
+side_event_none p peer l mark has_event (inl none) accept = let e : line_side_event_of l ≡ HasEvent p (Marked (Accept accept.0)) = ap line_side_event_of accept.1 in none accept.0 (cc)
+side_event_none p peer l mark has_event (inr ne) accept = let e : line_side_event_of l ≡ HasEvent p (Marked (Accept accept.0)) = ap line_side_event_of accept.1 in ne (cc)
 
 pub marked_ends : (world : World) (p : ℕ) (l : Line) (older : List Line) → reading_of l ≡ Breaks p → (IsAccept p l → ⊥) → ¬ Unrung world p (l ∷ older)
 marked_ends world p l older breaks none (inl accept) = none accept
@@ -95,8 +95,8 @@ marked_ends world p l older breaks none (inr stays) =
 -- The lines of a step
 
 both : (p : ℕ) (lines others : List Line) → NoAccepts p lines → NoAccepts p others → NoAccepts p (lines ++ others)
-both p [] others mine theirs = theirs
-both p (l ∷ lines) others mine theirs = (mine.0, both p lines others mine.1 theirs)
+both p [] others mine opposite = opposite
+both p (l ∷ lines) others mine opposite = (mine.0, both p lines others mine.1 opposite)
 
 abbrev pub AreSilent : List Line → Type 0
 AreSilent lines = AllByRecursion (λ l. line_side_event_of l ≡ HasNoEvent) lines
@@ -143,13 +143,13 @@ module _ (world : World) (p : ℕ) (past device : List Line) (value : ℕ) (sile
   side_event_is true number after = tt
   side_event_is false number after = tt
 
-  heard_is : (b : Bool) (first : Line) → UnrungIs world p (if b then RingingOffer else Closed) (reverse (first ∷ (device ++ map (mark_line p) (if b then [] else Over ∷ []))) ++ past)
-  heard_is true first = tt
-  heard_is false first = over_last world p (first ∷ device) past
+  event_read_is : (b : Bool) (first : Line) → UnrungIs world p (if b then RingingOffer else Closed) (reverse (first ∷ (device ++ map (mark_line p) (if b then [] else Over ∷ []))) ++ past)
+  event_read_is true first = tt
+  event_read_is false first = over_last world p (first ∷ device) past
 
   pub step_is : (place : Place) → UnrungIs world p place past → UnrungIs world p (next_place (pair.config_of (link_config_of world) p) place value) (reverse (step_lines p (step_at (pair.config_of (link_config_of world) p) place value) device) ++ past)
   step_is (WritingAvailIndex pending) is = side_event_is (has_events world.queue) pending.number _
-  step_is (ReadingAvailEvent number) is = heard_is (wants_doorbell (low_half value) number) _
+  step_is (ReadingAvailEvent number) is = event_read_is (wants_doorbell (low_half value) number) _
   step_is RingingOffer is = over_last world p (doorbell_of world p ∷ device) past
   step_is place is =
       let config = pair.config_of (link_config_of world) p in

@@ -16,7 +16,7 @@ use Rattle.history_laws.specs.Reads.{Got, reads_of}
 -- start. A word that wasn't read counts as 0.
 abbrev pub words_read : EndConfig → List Got → ℕ → ℕ
 words_read config [] word = 0
-words_read config (read ∷ reads) word = if read.word == config.theirs + word then read.value else words_read config reads word
+words_read config (read ∷ reads) word = if read.word == config.other_start + word then read.value else words_read config reads word
 
 -- No word was read twice, and the values read hold the frame at this position of the other's
 -- section.

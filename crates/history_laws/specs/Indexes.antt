@@ -19,7 +19,7 @@ use Rattle.history_laws.specs.Reads.{reads_of}
 -- value. Peer p has read nothing else since its last mark or reset.
 abbrev pub IsLoneRead : EndConfig → ℕ → List Line → Field → ℕ → Type 0
 IsLoneRead config p past field index =
-    (word : ℕ) × (older : List Line) × (past ≡ line.Read p (config.theirs + word_offset config.sizes field) word ∷ older) × (reads_of older p ≡ []) × (index ≡ high_half word)
+    (word : ℕ) × (older : List Line) × (past ≡ line.Read p (config.other_start + word_offset config.sizes field) word ∷ older) × (reads_of older p ≡ []) × (index ≡ high_half word)
 
 -- `count` is the distance from the peer's own count to the index read.
 abbrev pub IsIndexRead : EndConfig → ℕ → List Line → Field → (own count : ℕ) → Type 0

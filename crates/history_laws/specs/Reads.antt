@@ -64,24 +64,24 @@ reads_of (line ∷ older) p = reads_with (reading_of line) p (reads_of older p)
 -- The reads of an item of a poll, in the order of the call grammar
 
 abbrev pub entry_read : EndConfig → ℕ → Item → Got
-entry_read config number read = got (config.theirs + word_offset config.sizes (AvailEntry (avail_entry_of config number))) read.entry_word
+entry_read config number read = got (config.other_start + word_offset config.sizes (AvailEntry (avail_entry_of config number))) read.entry_word
 
 abbrev pub low_read : EndConfig → ℕ → Item → Got
-low_read config number read = got (config.theirs + word_offset config.sizes (DescAddress (item_entry config number read))) read.low
+low_read config number read = got (config.other_start + word_offset config.sizes (DescAddress (item_entry config number read))) read.low
 
 abbrev pub high_read : EndConfig → ℕ → Item → Got
-high_read config number read = got (config.theirs + word_offset config.sizes (DescAddress (item_entry config number read)) + 1) read.high
+high_read config number read = got (config.other_start + word_offset config.sizes (DescAddress (item_entry config number read)) + 1) read.high
 
 abbrev pub length_read : EndConfig → ℕ → Item → Got
-length_read config number read = got (config.theirs + word_offset config.sizes (DescLength (item_entry config number read))) read.bytes
+length_read config number read = got (config.other_start + word_offset config.sizes (DescLength (item_entry config number read))) read.bytes
 
 abbrev pub flags_read : EndConfig → ℕ → Item → Got
-flags_read config number read = got (config.theirs + word_offset config.sizes (DescFlags (item_entry config number read))) read.flags_word
+flags_read config number read = got (config.other_start + word_offset config.sizes (DescFlags (item_entry config number read))) read.flags_word
 
 -- The reads of these words of a frame from word `at` on.
 abbrev pub word_reads : EndConfig → (address at : ℕ) → List ℕ → List Got
 word_reads config address at [] = []
-word_reads config address at (word ∷ words) = got (config.theirs + (address / 4 + at)) word ∷ word_reads config address (at + 1) words
+word_reads config address at (word ∷ words) = got (config.other_start + (address / 4 + at)) word ∷ word_reads config address (at + 1) words
 
 -- These are the reads of a valid item, each field read once and in range, and the frame is the
 -- bytes of the words read.
@@ -97,7 +97,7 @@ pub record IsReadFrame (config : EndConfig) (number : ℕ) (reads : List Got) (f
 -- tests. An id is the id of a frame that the side counts as freed.
 abbrev pub IsReadBeyond : EndConfig → Side → List Got → FieldName → ℕ → Type 0
 IsReadBeyond config side reads field_name.AvailIndex value =
-    (earlier : List Got) × (word : ℕ) × (reads ≡ earlier ++ got (config.theirs + word_offset config.sizes AvailIndex) word ∷ []) × (value ≡ high_half word) ×
+    (earlier : List Got) × (word : ℕ) × (reads ≡ earlier ++ got (config.other_start + word_offset config.sizes AvailIndex) word ∷ []) × (value ≡ high_half word) ×
     (¬ IsAvailIndex config.sizes (length side.delivered % 65536) value)
 IsReadBeyond config side reads field_name.AvailEntry value =
     (read : Item) × (reads ≡ entry_read config (length side.delivered) read ∷ []) × (value ≡ item_entry config (length side.delivered) read) ×
@@ -118,11 +118,11 @@ IsReadBeyond config side reads field_name.DescFlags value =
     IsAvailEntry config.sizes (item_entry config (length side.delivered) read) × IsDescAddress config.sizes (item_address read) ×
     IsDescLength config.sizes (item_address read) read.bytes × (value ≡ desc_flags read.flags_word) × (¬ IsDescFlags value)
 IsReadBeyond config side reads field_name.UsedIndex value =
-    (earlier : List Got) × (word : ℕ) × (reads ≡ earlier ++ got (config.theirs + word_offset config.sizes UsedIndex) word ∷ []) × (value ≡ high_half word) ×
+    (earlier : List Got) × (word : ℕ) × (reads ≡ earlier ++ got (config.other_start + word_offset config.sizes UsedIndex) word ∷ []) × (value ≡ high_half word) ×
     (¬ IsUsedIndex (side.freed % 65536) value (length side.accepted - side.freed))
 IsReadBeyond config side reads field_name.UsedId value =
     (earlier : List Got) × (number : ℕ) × (number < side.freed) × (side.freed ≤ number + limit_of config.sizes) ×
-    (reads ≡ earlier ++ got (config.theirs + word_offset config.sizes (UsedId (avail_entry_of config number))) value ∷ []) ×
+    (reads ≡ earlier ++ got (config.other_start + word_offset config.sizes (UsedId (avail_entry_of config number))) value ∷ []) ×
     (¬ IsUsedId (number % limit_of config.sizes) value)
 
 -- A delivered frame is the frame that was read for its item, for all writes of the other side in

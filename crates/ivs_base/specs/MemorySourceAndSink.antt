@@ -45,8 +45,8 @@ input_of source = record {
 }
 
 -- The number of bytes that a call reads into `room` bytes.
-abbrev pub given_count : MemoryInput → ℕ → ℕ
-given_count source room = min (min (length source.left) source.piece) room
+abbrev pub read_count : MemoryInput → ℕ → ℕ
+read_count source room = min (min (length source.left) source.piece) room
 
 -- The source after a call that gave `count` bytes.
 abbrev pub source_after : MemoryInput → ℕ → MemoryInput
@@ -66,8 +66,8 @@ abbrev pub output_of : MemoryOutput → Output
 output_of sink = record { written = Some sink.written; failed = sink.failed; faults = sink.faults; room = room_of sink }
 
 -- The number of these bytes that a call writes.
-abbrev pub taken_count : MemoryOutput → List ℕ → ℕ
-taken_count sink bytes = min (length bytes) sink.piece
+abbrev pub written_count : MemoryOutput → List ℕ → ℕ
+written_count sink bytes = min (length bytes) sink.piece
 
 -- The sink after a call that wrote these bytes.
 abbrev pub sink_after : MemoryOutput → List ℕ → MemoryOutput

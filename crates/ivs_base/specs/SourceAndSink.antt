@@ -26,8 +26,8 @@ abbrev pub Gave : Input → List ℕ → Input → Type 0
 Gave before bytes now = Consumes before.left now.left bytes
 
 -- The source gave `count` bytes.
-abbrev pub GaveMany : Input → ℕ → Input → Type 0
-GaveMany before count now = (bytes : List ℕ) × Gave before bytes now × (length bytes ≡ count)
+abbrev pub GaveCount : Input → ℕ → Input → Type 0
+GaveCount before count now = (bytes : List ℕ) × Gave before bytes now × (length bytes ≡ count)
 
 -- The source gave at most `count` bytes.
 abbrev pub GaveAtMost : Input → ℕ → Input → Type 0
@@ -38,8 +38,8 @@ abbrev pub HasEnded : Input → Type 0
 HasEnded now = IsTrue now.ended × IsAtEnd now.left
 
 -- The bytes left of the source are known: they are `bytes`.
-abbrev pub Tells : Input → List ℕ → Type 0
-Tells now bytes = now.left ≡ Some bytes
+abbrev pub HasLeft : Input → List ℕ → Type 0
+HasLeft now bytes = now.left ≡ Some bytes
 
 -- The sink wrote these bytes.
 abbrev pub Took : Output → List ℕ → Output → Type 0

@@ -1,7 +1,7 @@
 //! Sources and sinks of bytes. A call may read or write fewer bytes than it was passed, and may
 //! fail. So `read_all` and `write_whole` are loops over calls.
 ghost use Rattle.std.specs.Prelude.{◌≡◌, ◌≢◌, ℕ, ◌+◌, ◌-◌, ◌<◌, ◌≤◌, ◌^◌, [], IfOk, IsOk, IsTrue, OnOk, OnErr, IsErrOf, length, take};
-ghost use Rattle.ivs_base.specs.SourceAndSink.{Input, Output, Gave, GaveMany, GaveAtMost, HasEnded, Took, SourceFailed, SinkFailed, LastReadFailed, LastWriteFailed};
+ghost use Rattle.ivs_base.specs.SourceAndSink.{Input, Output, Gave, GaveCount, GaveAtMost, HasEnded, Took, SourceFailed, SinkFailed, LastReadFailed, LastWriteFailed};
 ghost use Rattle.ivs_base.specs.declared.ends.ReadEnd.TheVariants.{ReadFault as SourceFault, NoMemory as OutOfMemory};
 
 use std::alloc::{AllocError, Global};
@@ -116,7 +116,7 @@ pub fn read_all<S: Source>(alloc: Global, source: &mut S, limit: u64) -> Result<
     ensures within { IfOk result (λ v. length v.items ≤ limit) }
 
     // The byte after the limit shows that there are too many; no byte after it is consumed.
-    ensures too_long { IsErrOf result ReadEnd.TooLong → GaveMany (S.input source.old) (limit + 1) (S.input source.new) }
+    ensures too_long { IsErrOf result ReadEnd.TooLong → GaveCount (S.input source.old) (limit + 1) (S.input source.new) }
     ensures fault { IsErrOf result ReadEnd.ReadFault → SourceFailed (S.input source.old) (S.input source.new) }
     ensures last { IsErrOf result ReadEnd.ReadFault → LastReadFailed (S.input source.old) (S.input source.new) }
     ensures front { IsErrOf result ReadEnd.ReadFault → GaveAtMost (S.input source.old) limit (S.input source.new) }

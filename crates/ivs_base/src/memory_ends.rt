@@ -2,7 +2,7 @@
 //! so that a test can follow the effect of a fault on its caller.
 ghost use Rattle.std.specs.Prelude.{◌≡◌, ◌<◌, ◌≤◌, ◌+◌, ◌↔◌, ◌⊎◌, [], IfOk, IsOk, IsTrue, OnOk, OnErr, IsErr, Contains, length, take};
 ghost use Rattle.ivs_base.specs.SourceAndSink.{counted, Gave, HasEnded, Took, SourceFailed, SinkFailed, LastReadFailed, LastWriteFailed};
-ghost use Rattle.ivs_base.specs.MemorySourceAndSink.{source_at_start, sink_at_start, input_of, given_count, source_after, source_failed, output_of, taken_count, sink_after, sink_failed};
+ghost use Rattle.ivs_base.specs.MemorySourceAndSink.{source_at_start, sink_at_start, input_of, read_count, source_after, source_failed, output_of, written_count, sink_after, sink_failed};
 
 use super::ends::{Failed, Sink, Source};
 use super::frames::NoMemory;
@@ -81,7 +81,7 @@ impl Source for MemorySource {
     fn read(&mut self, into: &mut [u8]) -> Result<usize, Failed>
         requires { 0 < length into.old }
         ensures fails { IsErr result ↔ Contains self.old.fails (counted self.old.calls) }
-        ensures given { IfOk result (λ k. k ≡ given_count self.old (length into.old)) }
+        ensures given { IfOk result (λ k. k ≡ read_count self.old (length into.old)) }
         ensures bytes { IfOk result (λ k. take k into.new ≡ take k self.old.left) }
         ensures after { IfOk result (λ k. self.new ≡ source_after self.old k) }
         ensures failed { OnErr result (self.new ≡ source_failed self.old) }
@@ -184,8 +184,8 @@ impl Sink for MemorySink {
     fn write(&mut self, bytes: &[u8]) -> Result<usize, Failed>
         requires { 0 < length bytes.now }
         ensures fails { IsErr result ↔ (Contains self.old.fails (counted self.old.calls)
-            ⊎ (self.old.room < length self.old.written + taken_count self.old bytes.now)) }
-        ensures taken { IfOk result (λ k. k ≡ taken_count self.old bytes.now) }
+            ⊎ (self.old.room < length self.old.written + written_count self.old bytes.now)) }
+        ensures taken { IfOk result (λ k. k ≡ written_count self.old bytes.now) }
         ensures after { IfOk result (λ k. self.new ≡ sink_after self.old (take k bytes.now)) }
         ensures failed { OnErr result (self.new ≡ sink_failed self.old) }
 

@@ -3,7 +3,7 @@ use Rattle.std.proofs.Common.{ℕ, zero, suc, ◌≡◌, ◌≢◌, List, refl, 
 use Rattle.link_handshake.specs.declared.Phase.{Phase}
 use Rattle.link_handshake.specs.declared.Phase.TheVariants.{Ready}
 use Rattle.link_handshake.specs.HandshakeState.{HandshakeState}
-use Rattle.link_handshake.specs.PhaseTable.{phase_at}
+use Rattle.link_handshake.specs.PhaseTable.{phase_of_state}
 use Rattle.split_ring.specs.declared.steps.Access.{Access}
 use Rattle.split_ring.specs.declared.steps.Access.TheVariants as access
 use Rattle.split_ring.specs.declared.steps.Note.{Note}
@@ -15,7 +15,7 @@ use Rattle.link_endpoint.specs.Engine.{Engine}
 use Rattle.link_endpoint.specs.Refinement.{RefinesAt, Takes}
 use Rattle.ivshm_c.specs.Sessions.{SessionsFollowState}
 
-ready_is_two : (state : ℕ) → phase_at state ≡ Ready → access.State state ≡ access.State 2
+ready_is_two : (state : ℕ) → phase_of_state state ≡ Ready → access.State state ≡ access.State 2
 ready_is_two zero is = absurd cc
 ready_is_two (suc zero) is = absurd cc
 ready_is_two (suc (suc zero)) is = refl

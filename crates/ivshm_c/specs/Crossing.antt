@@ -147,13 +147,13 @@ value_of (Some refused) = refused.value
 -- The numbers of an end's state: its refusal, its last delivered frame, its phase, and its open
 -- call. The last two are the outcome of its last offer, and the length of the longest frame.
 abbrev pub view_of : EndState → View
-view_of port = let end = port.endpoint in record {
+view_of end_state = let end = end_state.endpoint in record {
   refused_value = value_of end.refused;
   delivered = length (delivered end);
   refused_field = field_of end.refused;
   state = state_of end.phase;
   busy = from_bool (is_busy end);
-  outcome = outcome_number port.outcome;
+  outcome = outcome_number end_state.outcome;
   longest = end.config.sizes.mtu + FRAME_OVERHEAD;
 }
 

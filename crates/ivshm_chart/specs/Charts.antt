@@ -1,6 +1,6 @@
 -- The obligations of the top call: the cause of each status, and the text written.
 use Rattle.std.specs.Prelude.{ℕ, ◌≡◌, ◌+◌, ◌⊎◌, List, codes, Option, Some, None, Err}
-use Rattle.ivs_base.specs.SourceAndSink.{Input, Output, Gave, GaveMany, HasEnded, Took, SourceFailed, SinkFailed}
+use Rattle.ivs_base.specs.SourceAndSink.{Input, Output, Gave, GaveCount, HasEnded, Took, SourceFailed, SinkFailed}
 use Rattle.record_text.specs.declared.faults.RecordFault.{RecordFault}
 use Rattle.record_text.specs.Spelling.{Record, IsSpelling}
 use Rattle.record_text.specs.Judge.{answer}
@@ -56,7 +56,7 @@ pub record Charts (span : Span) (before now : Input) (before' now' : Output) (dr
 
 -- The text is the line for an input that is longer than the limit, or spells no record.
 abbrev pub IsWhy : (before now : Input) → (text : List ℕ) → Type 0
-IsWhy before now text = ((text ≡ codes "refused 0 TooLong\n") × GaveMany before (RECORD_LIMIT + 1) now) ⊎
+IsWhy before now text = ((text ≡ codes "refused 0 TooLong\n") × GaveCount before (RECORD_LIMIT + 1) now) ⊎
     ((bytes : List ℕ) × Gave before bytes now × HasEnded now × IsRefusal bytes text)
 
 -- The line of `IsWhy` was written.

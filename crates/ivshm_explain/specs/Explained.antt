@@ -1,6 +1,6 @@
 -- The proved part of an explanation. The words after that are free.
 use Rattle.std.specs.Prelude.{ℕ, ◌≡◌, ◌+◌, ◌⊎◌, List, [], ◌++◌, codes, Option, Some, None}
-use Rattle.ivs_base.specs.SourceAndSink.{Input, Output, Gave, GaveMany, HasEnded, Took, SourceFailed, SinkFailed}
+use Rattle.ivs_base.specs.SourceAndSink.{Input, Output, Gave, GaveCount, HasEnded, Took, SourceFailed, SinkFailed}
 use Rattle.ivshm_explain.specs.declared.differences.Difference.{Difference}
 use Rattle.ivshm_explain.specs.DifferenceText.{IsDifferenceText}
 use Rattle.program_edge.specs.declared.words.Command.{Command}
@@ -41,7 +41,7 @@ IsRead form before now = IsReadTo (limit_of form) before now
 
 -- one byte more was read than the command reads
 abbrev pub IsTooLong : Command → (before now : Input) → Type 0
-IsTooLong form before now = (most : ℕ) × (limit_of form ≡ Some most) × GaveMany before (most + 1) now
+IsTooLong form before now = (most : ℕ) × (limit_of form ≡ Some most) × GaveCount before (most + 1) now
 
 -- bytes were read to their end, or none for `load`, and the whole reply to them was written
 pub record Replies (form : Command) (before now : Input) (before' now' : Output) (status : Status) : Type 0 where

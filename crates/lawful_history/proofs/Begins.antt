@@ -11,24 +11,24 @@ use Rattle.lawful_history.specs.Lawful.{HasOneHistory}
 use Rattle.lawful_history.specs.History.{HistoryState, entry_of, after_event, run, initial_state, history, HistoryIsLawful, CutHistoriesBegin}
 
 -- The effect of events doesn't depend on the acts to come.
-run_same : (world : World) (acts : List Act) (events : List Event) (moment : HistoryState) → run (record world { acts = acts }) events moment ≡ run world events moment
-run_same world acts [] moment = refl
-run_same world acts (event ∷ events) moment = run_same world acts events (after_event world moment event)
+run_same : (world : World) (acts : List Act) (events : List Event) (so_far : HistoryState) → run (record world { acts = acts }) events so_far ≡ run world events so_far
+run_same world acts [] so_far = refl
+run_same world acts (event ∷ events) so_far = run_same world acts events (after_event world so_far event)
 
-pub run_on : (world : World) (events more : List Event) (moment : HistoryState) → run world (events ++ more) moment ≡ run world more (run world events moment)
-run_on world [] more moment = refl
-run_on world (event ∷ events) more moment = run_on world events more (after_event world moment event)
+pub run_on : (world : World) (events more : List Event) (so_far : HistoryState) → run world (events ++ more) so_far ≡ run world more (run world events so_far)
+run_on world [] more so_far = refl
+run_on world (event ∷ events) more so_far = run_on world events more (after_event world so_far event)
 
 -- The lines only grow.
-pub grows : (world : World) (events : List Event) (moment : HistoryState) → (new : List Line) × ((run world events moment).past ≡ new ++ moment.past)
-grows world [] moment = ([], refl)
-grows world (event ∷ events) moment =
-    let rest = grows world events (after_event world moment event) in
-    let lines = reverse (lines_of (entry_of world moment event)) in
-    (rest.0 ++ lines, rest.1 ∙ sym (append_assoc rest.0 lines moment.past))
+pub grows : (world : World) (events : List Event) (so_far : HistoryState) → (new : List Line) × ((run world events so_far).past ≡ new ++ so_far.past)
+grows world [] so_far = ([], refl)
+grows world (event ∷ events) so_far =
+    let rest = grows world events (after_event world so_far event) in
+    let lines = reverse (lines_of (entry_of world so_far event)) in
+    (rest.0 ++ lines, rest.1 ∙ sym (append_assoc rest.0 lines so_far.past))
 
-pub begins_lem : HasOneHistory → HistoryIsLawful → CutHistoriesBegin
-begins_lem one exists world acts more lines others is longer_is scheduled lawful longer_lawful =
+pub cut_histories_begin : HasOneHistory → HistoryIsLawful → CutHistoriesBegin
+cut_histories_begin one exists world acts more lines others is longer_is scheduled lawful longer_lawful =
     let longer : World = record world { acts = acts } in
     let short = run world (schedule world.acts) (initial_state world) in
     let new = grows world more short in

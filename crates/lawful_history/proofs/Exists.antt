@@ -11,7 +11,7 @@ use Rattle.section_map.specs.MayWrite.{may_write}
 use Rattle.split_ring.specs.declared.steps.Access.{Access}
 use Rattle.split_ring.specs.declared.steps.Access.TheVariants as access
 use Rattle.split_ring.specs.Layout.{Sizes, IsQueue, data_area_start}
-use Rattle.split_ring.proofs.Bounds.{bounds}
+use Rattle.split_ring.proofs.QueueHasBounds.{bounds}
 use Rattle.scenario_text.specs.Scenario.{World, IsWorld}
 use Rattle.doorbell_irq.specs.declared.effect.Delivery.{Delivery}
 use Rattle.doorbell_irq.specs.Events as device
@@ -38,7 +38,7 @@ use Rattle.lawful_history.proofs.Owners.{is_same, is_other, not_below}
 use Rattle.lawful_history.proofs.MemoryLawLine.{Harmless, harmless_law, marks_harmless}
 use Rattle.lawful_history.specs.Permitted.{IsPermittedEvent}
 use Rattle.lawful_history.proofs.EventsArePermitted.{there_below, all_there}
-use Rattle.section_map.proofs.Tests.{may_of_test, may_denies}
+use Rattle.section_map.proofs.TestDecidesWrites.{may_of_test, may_denies}
 
 abbrev AllHarmless : Shape → List Line → Type 0
 AllHarmless g lines = AllByRecursion (λ line. Harmless g (memory_effect_of line)) lines
@@ -253,17 +253,17 @@ cut_given config (Chooses auto) given = given
 cut_given config (Storms x) given = tt
 
 -- The invariant of a moment.
-pub record Good (world : World) (moment : HistoryState) : Type 0 where
-  pub law : MemoryLaw world.geometry moment.past
-  pub fits : (p : ℕ) → IsFit (config_of world p) (peer_at moment p)
-  pub count : length moment.peers ≡ world.geometry.peers
+pub record Good (world : World) (so_far : HistoryState) : Type 0 where
+  pub law : MemoryLaw world.geometry so_far.past
+  pub fits : (p : ℕ) → IsFit (config_of world p) (peer_at so_far p)
+  pub count : length so_far.peers ≡ world.geometry.peers
 
 -- The peer of an event after it, and the others.
-pub peer_same : (world : World) (moment : HistoryState) (event : Event) → event_peer event < length moment.peers → peer_at (after_event world moment event) (event_peer event) ≡ peer_after world moment event
-peer_same world moment event below = get_or-set_same moment.peers (event_peer event) (peer_after world moment event) at_start below
+pub peer_same : (world : World) (so_far : HistoryState) (event : Event) → event_peer event < length so_far.peers → peer_at (after_event world so_far event) (event_peer event) ≡ peer_after world so_far event
+peer_same world so_far event below = get_or-set_same so_far.peers (event_peer event) (peer_after world so_far event) at_start below
 
-pub peer_other : (world : World) (moment : HistoryState) (event : Event) (q : ℕ) → q ≢ event_peer event → peer_at (after_event world moment event) q ≡ peer_at moment q
-peer_other world moment event q other = get_or-set_other moment.peers (event_peer event) q (peer_after world moment event) at_start other
+pub peer_other : (world : World) (so_far : HistoryState) (event : Event) (q : ℕ) → q ≢ event_peer event → peer_at (after_event world so_far event) q ≡ peer_at so_far q
+peer_other world so_far event q other = get_or-set_other so_far.peers (event_peer event) q (peer_after world so_far event) at_start other
 
 lines_law : CallsArePermitted → (world : World) (peer : Peer) (past dev : List Line) (event : Event) → IsWorld world → IsFit (config_of world (event_peer event)) peer → AllHarmless world.geometry dev → MemoryLaw world.geometry past →
     MemoryLaw world.geometry (reverse (lines_by event (step_in world peer past event) dev) ++ past)
@@ -278,9 +278,9 @@ lines_law reach world peer past dev (DeviceAccessed p a) is fit harmless law = h
 lines_law reach world peer past dev (InterruptDropped p) is fit harmless law = harmless_law world.geometry dev past harmless law
 lines_law reach world peer past dev (InterruptRepeated p vector) is fit harmless law = harmless_law world.geometry dev past harmless law
 
-event_law : CallsArePermitted → (world : World) (moment : HistoryState) (event : Event) → IsWorld world → Good world moment → MemoryLaw world.geometry (after_event world moment event).past
-event_law reach world moment event is good =
-    lines_law reach world (peer_at moment (event_peer event)) moment.past _ event is (good.fits (event_peer event)) (device_harmless world moment.past moment.losses event (step_of_event world moment event)) good.law
+event_law : CallsArePermitted → (world : World) (so_far : HistoryState) (event : Event) → IsWorld world → Good world so_far → MemoryLaw world.geometry (after_event world so_far event).past
+event_law reach world so_far event is good =
+    lines_law reach world (peer_at so_far (event_peer event)) so_far.past _ event is (good.fits (event_peer event)) (device_harmless world so_far.past so_far.losses event (step_of_event world so_far event)) good.law
 
 peer_fits : CallsArePermitted → (world : World) (peer : Peer) (past : List Line) (event : Event) → IsWorld world → IsPermittedEvent world event → IsFit (config_of world (event_peer event)) peer →
     IsFit (config_of world (event_peer event)) (peer_in world peer past event)
@@ -297,87 +297,87 @@ peer_fits reach world peer past (InterruptDropped p) is there fit = fit
 peer_fits reach world peer past (InterruptRepeated p vector) is there fit = fit
 
 -- A property of each peer is a property after an event.
-pub stays_on : (P : ℕ → Peer → Type 0) (world : World) (moment : HistoryState) (event : Event) → event_peer event < length moment.peers → P (event_peer event) (peer_after world moment event) →
-    (q : ℕ) (b : Bool) → (event_peer event == q) ≡ b → P q (peer_at moment q) → P q (peer_at (after_event world moment event) q)
-stays_on P world moment event below here q true is there =
-    let now : P (event_peer event) (peer_at (after_event world moment event) (event_peer event)) = subst (λ (x : Peer). P (event_peer event) x) (sym (peer_same world moment event below)) here in
-    subst (λ (k : ℕ). P k (peer_at (after_event world moment event) k)) (is_same (event_peer event) q is) now
-stays_on P world moment event below here q false is there = subst (λ (x : Peer). P q x) (sym (peer_other world moment event q (is_other (event_peer event) q is))) there
+pub stays_on : (P : ℕ → Peer → Type 0) (world : World) (so_far : HistoryState) (event : Event) → event_peer event < length so_far.peers → P (event_peer event) (peer_after world so_far event) →
+    (q : ℕ) (b : Bool) → (event_peer event == q) ≡ b → P q (peer_at so_far q) → P q (peer_at (after_event world so_far event) q)
+stays_on P world so_far event below here q true is there =
+    let now : P (event_peer event) (peer_at (after_event world so_far event) (event_peer event)) = subst (λ (x : Peer). P (event_peer event) x) (sym (peer_same world so_far event below)) here in
+    subst (λ (k : ℕ). P k (peer_at (after_event world so_far event) k)) (is_same (event_peer event) q is) now
+stays_on P world so_far event below here q false is there = subst (λ (x : Peer). P q x) (sym (peer_other world so_far event q (is_other (event_peer event) q is))) there
 
-pub good_on : CallsArePermitted → (world : World) (moment : HistoryState) (event : Event) → IsWorld world → IsPermittedEvent world event → Good world moment → Good world (after_event world moment event)
-good_on reach world moment event is there good =
-    let below : event_peer event < length moment.peers = omega (arith, good.count, there_below world event there) in
+pub good_on : CallsArePermitted → (world : World) (so_far : HistoryState) (event : Event) → IsWorld world → IsPermittedEvent world event → Good world so_far → Good world (after_event world so_far event)
+good_on reach world so_far event is there good =
+    let below : event_peer event < length so_far.peers = omega (arith, good.count, there_below world event there) in
     record {
-      law = event_law reach world moment event is good;
+      law = event_law reach world so_far event is good;
       fits = λ q.
-          stays_on (λ k x. IsFit (config_of world k) x) world moment event below (peer_fits reach world (peer_at moment (event_peer event)) moment.past event is there (good.fits (event_peer event))) q (event_peer event == q) refl (good.fits q);
-      count = length-set moment.peers (event_peer event) (peer_after world moment event) ∙ good.count;
+          stays_on (λ k x. IsFit (config_of world k) x) world so_far event below (peer_fits reach world (peer_at so_far (event_peer event)) so_far.past event is there (good.fits (event_peer event))) q (event_peer event == q) refl (good.fits q);
+      count = length-set so_far.peers (event_peer event) (peer_after world so_far event) ∙ good.count;
     }
 
 -- The event records of events from a moment on.
 abbrev entries_of : World → List Event → HistoryState → List EventRecord
-entries_of world [] moment = []
-entries_of world (event ∷ events) moment = entry_of world moment event ∷ entries_of world events (after_event world moment event)
+entries_of world [] so_far = []
+entries_of world (event ∷ events) so_far = entry_of world so_far event ∷ entries_of world events (after_event world so_far event)
 
 -- The facts of these event records.
-record Found (world : World) (events : List Event) (moment : HistoryState) : Type 0 where
-  scheduled : map event_of (entries_of world events moment) ≡ events
-  owners : AllByRecursion (λ entry. owner entry < world.geometry.peers) (entries_of world events moment)
-  lines : reverse (flat_map lines_of (entries_of world events moment)) ++ moment.past ≡ (run world events moment).past
-  law : MemoryLaw world.geometry (run world events moment).past
-  device : DeviceRules world moment.past moment.losses (entries_of world events moment)
+record Found (world : World) (events : List Event) (so_far : HistoryState) : Type 0 where
+  scheduled : map event_of (entries_of world events so_far) ≡ events
+  owners : AllByRecursion (λ entry. owner entry < world.geometry.peers) (entries_of world events so_far)
+  lines : reverse (flat_map lines_of (entries_of world events so_far)) ++ so_far.past ≡ (run world events so_far).past
+  law : MemoryLaw world.geometry (run world events so_far).past
+  device : DeviceRules world so_far.past so_far.losses (entries_of world events so_far)
 
 lines_go : (s new : List Line) (past all : List Line) → reverse new ++ (reverse s ++ past) ≡ all → reverse (s ++ new) ++ past ≡ all
 lines_go s new past all is = ap (λ r. r ++ past) (reverse-append s new) ∙ append_assoc (reverse new) (reverse s) past ∙ is
 
 -- The peer of a moment, and its stored state.
-record Keeps (moment : HistoryState) (q : ℕ) (peer : Progress) : Type 0 where
-  is : peer_at moment q ≡ peer_of_progress peer
+record Keeps (so_far : HistoryState) (q : ℕ) (peer : Progress) : Type 0 where
+  is : peer_at so_far q ≡ peer_of_progress peer
   within : IsWithin peer
 
 -- The event record of an event of the peer itself.
-own_event : (world : World) (moment : HistoryState) (event : Event) (peer : Progress) → event_peer event < length moment.peers → Keeps moment (event_peer event) peer →
-    (mid : Progress) × EventStep world (event_peer event) peer event (step_of_event world moment event) mid
-    × Keeps (after_event world moment event) (event_peer event) (noted mid (entry_of world moment event))
-own_event world moment event peer below keeps =
+own_event : (world : World) (so_far : HistoryState) (event : Event) (peer : Progress) → event_peer event < length so_far.peers → Keeps so_far (event_peer event) peer →
+    (mid : Progress) × EventStep world (event_peer event) peer event (step_of_event world so_far event) mid
+    × Keeps (after_event world so_far event) (event_peer event) (noted mid (entry_of world so_far event))
+own_event world so_far event peer below keeps =
     let p = event_peer event in
-    let on = keeps_order world peer moment.past event (device_lines world moment.past moment.losses event (step_in world (peer_of_progress peer) moment.past event)) keeps.within in
+    let on = keeps_order world peer so_far.past event (device_lines world so_far.past so_far.losses event (step_in world (peer_of_progress peer) so_far.past event)) keeps.within in
     let here = subst (λ (x : Peer).
-    (mid : Progress) × EventStep world p peer event (step_in world x moment.past event) mid
-    × (peer_in world x moment.past event ≡ peer_of_progress (noted mid (record { event = event; went = step_in world x moment.past event; device = device_lines world moment.past moment.losses event (step_in world x moment.past event) })))
-    × IsWithin (noted mid (record { event = event; went = step_in world x moment.past event; device = device_lines world moment.past moment.losses event (step_in world x moment.past event) }))) (sym keeps.is) on in
-    (here.0, here.1, record { is = peer_same world moment event below ∙ here.2; within = here.3 })
+    (mid : Progress) × EventStep world p peer event (step_in world x so_far.past event) mid
+    × (peer_in world x so_far.past event ≡ peer_of_progress (noted mid (record { event = event; went = step_in world x so_far.past event; device = device_lines world so_far.past so_far.losses event (step_in world x so_far.past event) })))
+    × IsWithin (noted mid (record { event = event; went = step_in world x so_far.past event; device = device_lines world so_far.past so_far.losses event (step_in world x so_far.past event) }))) (sym keeps.is) on in
+    (here.0, here.1, record { is = peer_same world so_far event below ∙ here.2; within = here.3 })
 
 -- The event record of an event and those after it, for a peer.
-serves_from : (world : World) (moment : HistoryState) (event : Event) (others : List EventRecord) (q : ℕ) (peer : Progress) → event_peer event < length moment.peers → Keeps moment q peer →
-    ((next : Progress) → Keeps (after_event world moment event) q next → (end : Progress) × IsCallSequence world q next (own q others) end) → (b : Bool) → (event_peer event == q) ≡ b →
-    (end : Progress) × IsCallSequence world q peer (if b then entry_of world moment event ∷ own q others else own q others) end
-serves_from world moment event others q peer below keeps rest true is =
+serves_from : (world : World) (so_far : HistoryState) (event : Event) (others : List EventRecord) (q : ℕ) (peer : Progress) → event_peer event < length so_far.peers → Keeps so_far q peer →
+    ((next : Progress) → Keeps (after_event world so_far event) q next → (end : Progress) × IsCallSequence world q next (own q others) end) → (b : Bool) → (event_peer event == q) ≡ b →
+    (end : Progress) × IsCallSequence world q peer (if b then entry_of world so_far event ∷ own q others else own q others) end
+serves_from world so_far event others q peer below keeps rest true is =
     let same : event_peer event ≡ q = is_same (event_peer event) q is in
-    let on = subst (λ (k : ℕ). (mid : Progress) × EventStep world k peer event (step_of_event world moment event) mid × Keeps (after_event world moment event) k (noted mid (entry_of world moment event))) same
-    (own_event world moment event peer below (subst (λ (k : ℕ). Keeps moment k peer) (sym same) keeps)) in
-    let others_served = rest (noted on.0 (entry_of world moment event)) on.2 in
+    let on = subst (λ (k : ℕ). (mid : Progress) × EventStep world k peer event (step_of_event world so_far event) mid × Keeps (after_event world so_far event) k (noted mid (entry_of world so_far event))) same
+    (own_event world so_far event peer below (subst (λ (k : ℕ). Keeps so_far k peer) (sym same) keeps)) in
+    let others_served = rest (noted on.0 (entry_of world so_far event)) on.2 in
     (others_served.0, (on.0, on.1, others_served.1))
-serves_from world moment event others q peer below keeps rest false is =
-    rest peer (record { is = peer_other world moment event q (is_other (event_peer event) q is) ∙ keeps.is; within = keeps.within })
+serves_from world so_far event others q peer below keeps rest false is =
+    rest peer (record { is = peer_other world so_far event q (is_other (event_peer event) q is) ∙ keeps.is; within = keeps.within })
 
 -- The event records of events from a moment on are a peer's calls in order.
-served : (world : World) (events : List Event) (moment : HistoryState) (q : ℕ) (peer : Progress) → AllByRecursion (IsPermittedEvent world) events → length moment.peers ≡ world.geometry.peers → Keeps moment q peer →
-    (end : Progress) × IsCallSequence world q peer (own q (entries_of world events moment)) end
-served world [] moment q peer there count keeps = (peer, refl)
-served world (event ∷ events) moment q peer there count keeps =
-    serves_from world moment event (entries_of world events (after_event world moment event)) q peer (omega (arith, count, there_below world event there.0)) keeps
-    (λ next kept. served world events (after_event world moment event) q next there.1 (length-set moment.peers (event_peer event) (peer_after world moment event) ∙ count) kept) (event_peer event == q) refl
+served : (world : World) (events : List Event) (so_far : HistoryState) (q : ℕ) (peer : Progress) → AllByRecursion (IsPermittedEvent world) events → length so_far.peers ≡ world.geometry.peers → Keeps so_far q peer →
+    (end : Progress) × IsCallSequence world q peer (own q (entries_of world events so_far)) end
+served world [] so_far q peer there count keeps = (peer, refl)
+served world (event ∷ events) so_far q peer there count keeps =
+    serves_from world so_far event (entries_of world events (after_event world so_far event)) q peer (omega (arith, count, there_below world event there.0)) keeps
+    (λ next kept. served world events (after_event world so_far event) q next there.1 (length-set so_far.peers (event_peer event) (peer_after world so_far event) ∙ count) kept) (event_peer event == q) refl
 
-found : CallsArePermitted → (world : World) (events : List Event) (moment : HistoryState) → IsWorld world → AllByRecursion (IsPermittedEvent world) events → Good world moment → Found world events moment
-found reach world [] moment is there good = record { scheduled = refl; owners = tt; lines = refl; law = good.law; device = tt }
-found reach world (event ∷ events) moment is there good =
-    let rest = found reach world events (after_event world moment event) is there.1 (good_on reach world moment event is there.0 good) in
+found : CallsArePermitted → (world : World) (events : List Event) (so_far : HistoryState) → IsWorld world → AllByRecursion (IsPermittedEvent world) events → Good world so_far → Found world events so_far
+found reach world [] so_far is there good = record { scheduled = refl; owners = tt; lines = refl; law = good.law; device = tt }
+found reach world (event ∷ events) so_far is there good =
+    let rest = found reach world events (after_event world so_far event) is there.1 (good_on reach world so_far event is there.0 good) in
     let here : event_peer event < world.geometry.peers = there_below world event there.0 in
     record {
       scheduled = ap (λ es. event ∷ es) rest.scheduled;
       owners = (here, rest.owners);
-      lines = lines_go (lines_of (entry_of world moment event)) (flat_map lines_of (entries_of world events (after_event world moment event))) moment.past _ rest.lines;
+      lines = lines_go (lines_of (entry_of world so_far event)) (flat_map lines_of (entries_of world events (after_event world so_far event))) so_far.past _ rest.lines;
       law = rest.law;
       device = (refl, rest.device);
     }
@@ -393,8 +393,8 @@ good_at_first world = record {
   count = length-replicate world.geometry.peers at_start;
 }
 
-pub history_lem : CallsArePermitted → HistoryIsLawful
-history_lem reach world is =
+pub history_is_lawful : CallsArePermitted → HistoryIsLawful
+history_is_lawful reach world is =
     let events = schedule world.acts in
     let f = found reach world events (initial_state world) is (all_there world is) (good_at_first world) in
     let entries = entries_of world events (initial_state world) in (

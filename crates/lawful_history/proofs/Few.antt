@@ -153,20 +153,20 @@ one_by p (DeviceAccessed q a) went dev none = omega arith
 one_by p (InterruptDropped q) went dev none = omega arith
 one_by p (InterruptRepeated q vector) went dev none = omega arith
 
-one_event : (p : ℕ) (world : World) (moment : HistoryState) (event : Event) → opened_in (after_event world moment event).past p ≤ opened_in moment.past p + 1
-one_event p world moment event =
-    let lines = lines_of (entry_of world moment event) in
-    let whole = opened_append p (reverse lines) moment.past in
+one_event : (p : ℕ) (world : World) (so_far : HistoryState) (event : Event) → opened_in (after_event world so_far event).past p ≤ opened_in so_far.past p + 1
+one_event p world so_far event =
+    let lines = lines_of (entry_of world so_far event) in
+    let whole = opened_append p (reverse lines) so_far.past in
     let back = opened_reverse p lines in
-    let one = one_by p event (step_of_event world moment event) (entry_of world moment event).device
-    (none_device p world moment.past moment.losses event (step_of_event world moment event)) in omega arith
+    let one = one_by p event (step_of_event world so_far event) (entry_of world so_far event).device
+    (none_device p world so_far.past so_far.losses event (step_of_event world so_far event)) in omega arith
 
 -- The number of sessions opened is at most the number of events.
-pub opened_run : (p : ℕ) (world : World) (events : List Event) (moment : HistoryState) → opened_in (run world events moment).past p ≤ opened_in moment.past p + length events
-opened_run p world [] moment = omega arith
-opened_run p world (event ∷ events) moment =
-    let first = one_event p world moment event in
-    let rest = opened_run p world events (after_event world moment event) in omega arith
+pub opened_run : (p : ℕ) (world : World) (events : List Event) (so_far : HistoryState) → opened_in (run world events so_far).past p ≤ opened_in so_far.past p + length events
+opened_run p world [] so_far = omega arith
+opened_run p world (event ∷ events) so_far =
+    let first = one_event p world so_far event in
+    let rest = opened_run p world events (after_event world so_far event) in omega arith
 
 -- The events of a scenario
 

@@ -12,7 +12,7 @@ use Rattle.call_grammar.specs.Trees.{CallTree, Ended, Does, Reads}
 use Rattle.call_grammar.specs.Ends.{after_reset, end_after}
 use Rattle.call_grammar.specs.Calls.{EndConfig, Call, Tick, Stop, Offer, Poll, in_run, tree_of}
 use Rattle.call_grammar.specs.Automatic.{Chosen, Choice, ChoosesTick, ChoosesOffer, ChoosesPoll, IsFinished, Round, Anew, AfterOffer, AfterPoll, is_anew, was_offer, is_empty, first_or_poll, choice_by_rule, round_since}
-use Rattle.call_grammar.proofs.AutomaticRounds.{rounds_lem}
+use Rattle.call_grammar.proofs.AutomaticRounds.{rounds_keep_the_rule}
 use Rattle.lawful_history.specs.declared.line.Line.{Line}
 use Rattle.lawful_history.specs.Memory.{last_write}
 use Rattle.lawful_history.specs.Schedule.{CallQueued, AutoStarted, StormStarted, TurnTaken, RegionAccessed, DeviceReset, DeviceAccessed, InterruptDropped, InterruptRepeated}
@@ -91,7 +91,7 @@ opens_chosen : (config : EndConfig) (peer : Progress) (c : Chooser) → chooser 
 opens_chosen config peer Nobody is = refl
 opens_chosen config peer (TheRule expected) is =
     ap (λ (choice : Choice). with_choice config (peer_of_progress peer) (record { frames = frames_left peer.past; expected = expected; delivered = delivered_in peer.past; round = round_since peer.before }) choice)
-    (rounds_lem peer.end.handshake.phase peer.before (frames_left peer.past) (delivered_in peer.past) expected)
+    (rounds_keep_the_rule peer.end.handshake.phase peer.before (frames_left peer.past) (delivered_in peer.past) expected)
     ∙ opens_choice config peer expected _ is refl
 opens_chosen config peer TheStorm is = refl
 

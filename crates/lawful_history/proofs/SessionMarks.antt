@@ -181,20 +181,20 @@ lawful_is_bare world lines lawful = subst IsBare lawful.1.recorded (bare_entries
 
 -- The laws
 
-pub one_in_lem : HasOneHistory → HasOneHistoryIn
-one_in_lem one world version lines others first second =
+pub has_one_history_in : HasOneHistory → HasOneHistoryIn
+has_one_history_in one world version lines others first second =
     first.2 ∙ ap (recorded_in world version) (one world first.0 second.0 first.1 second.1) ∙ sym second.2
 
-pub lawful_in_lem : HistoryIsLawful → HistoryIsLawfulIn
-lawful_in_lem exists world version is = (history world, exists world is, refl)
+pub history_is_lawful_in : HistoryIsLawful → HistoryIsLawfulIn
+history_is_lawful_in exists world version is = (history world, exists world is, refl)
 
-pub one_lem : HasNoMarksInOne
-one_lem world lines = ((λ is. subst (IsLawful world) (sym is.2) is.1, λ lawful. (lines, lawful, refl)), lawful_is_bare world lines)
+pub has_no_marks_in_one : HasNoMarksInOne
+has_no_marks_in_one world lines = ((λ is. subst (IsLawful world) (sym is.2) is.1, λ lawful. (lines, lawful, refl)), lawful_is_bare world lines)
 
-pub two_lem : HasMarksInTwo
-two_lem world lines is =
+pub has_marks_in_two : HasMarksInTwo
+has_marks_in_two world lines is =
     let bare : without_sessions lines ≡ is.0 = ap without_sessions is.2 ∙ without_with world [] is.0 ∙ lawful_is_bare world is.0 is.1 in
     (subst (IsLawful world) (sym bare) is.1, is.2 ∙ ap (with_sessions world []) (sym bare))
 
-pub recorded_lem : HasRecordInTwo
-recorded_lem world lines lawful = ((lines, lawful, refl), without_with world [] lines ∙ lawful_is_bare world lines lawful)
+pub has_record_in_two : HasRecordInTwo
+has_record_in_two world lines lawful = ((lines, lawful, refl), without_with world [] lines ∙ lawful_is_bare world lines lawful)

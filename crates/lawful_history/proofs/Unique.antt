@@ -162,8 +162,8 @@ serves_on : (world : World) (peers : ℕ → Progress) (p q : ℕ) (next : Progr
     ((end : Progress) × IsCallSequence world p next (own p entries) end) →
     ((end : Progress) × IsCallSequence world q (peers q) (if b then entry ∷ own q entries else own q entries) end) →
     (end : Progress) × IsCallSequence world q (if b then next else peers q) (own q entries) end
-serves_on world peers p q next entry entries true is mine theirs = subst (λ (k : ℕ). (end : Progress) × IsCallSequence world k next (own k entries) end) (is_same p q is) mine
-serves_on world peers p q next entry entries false is mine theirs = theirs
+serves_on world peers p q next entry entries true is mine other_start = subst (λ (k : ℕ). (end : Progress) × IsCallSequence world k next (own k entries) end) (is_same p q is) mine
+serves_on world peers p q next entry entries false is mine other_start = other_start
 
 first_of_all : (world : World) (past : List Line) (losses : ℕ → ℕ) (peers : ℕ → Progress) (entry : EventRecord) (entries : List EventRecord) → Follows world past losses peers (entry ∷ entries) → First world past losses peers entry entries
 first_of_all world past losses peers entry entries f =
@@ -225,7 +225,7 @@ follows world lines entries by = record {
   calls = by.calls;
 }
 
-pub one_history_lem : HasOneHistory
-one_history_lem world lines others lawful lawful' =
+pub has_one_history : HasOneHistory
+has_one_history world lines others lawful lawful' =
     let same = same_entries world [] (λ p. 0) (λ p. initial_progress) lawful.0 lawful'.0 (lawful.1.events ∙ sym lawful'.1.events) (follows world lines lawful.0 lawful.1) (follows world others lawful'.0 lawful'.1) in
     sym lawful.1.recorded ∙ ap (λ (entries : List EventRecord). flat_map lines_of entries) same ∙ lawful'.1.recorded

@@ -61,11 +61,11 @@ written_last : (past : List Line) (word : ℕ) → WasWrittenLast (reverse past)
 written_last [] word = inr (All-nil (DoesNotWrite word), refl)
 written_last (line ∷ older) word = last_by older line word (leaves_or_spares line word (last_write older word) (memory_effect_of line) refl) (written_last older word)
 
-pub reads_lem : ReadsWhatWasWritten
-reads_lem world before after peer word value lawful =
+pub reads_what_was_written : ReadsWhatWasWritten
+reads_what_was_written world before after peer word value lawful =
     let is : value ≡ last_write (reverse before) word = at_line world.geometry before after (Read peer word value) lawful.1.memory in
     let last : WasWrittenLast before word (last_write (reverse before) word) = subst (λ (b : List Line). WasWrittenLast b word (last_write (reverse before) word)) (reverse-reverse before) (written_last (reverse before) word) in
     subst (λ (v : ℕ). WasWrittenLast before word v) (sym is) last
 
-pub writes_lem : WritesWhereItMay
-writes_lem world before after peer word value lawful = at_line world.geometry before after (Write peer word value) lawful.1.memory
+pub writes_where_it_may : WritesWhereItMay
+writes_where_it_may world before after peer word value lawful = at_line world.geometry before after (Write peer word value) lawful.1.memory

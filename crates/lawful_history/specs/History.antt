@@ -88,32 +88,32 @@ peer_in world peer past (DeviceReset p) = was_reset peer
 peer_in world peer past _ = peer
 
 abbrev pub peer_at : HistoryState → ℕ → Peer
-peer_at moment peer = slice_index_or moment.peers peer at_start
+peer_at so_far peer = slice_index_or so_far.peers peer at_start
 
 -- The step of an event, its event record, and its peer after it.
 abbrev pub step_of_event : World → HistoryState → Event → Option Step
-step_of_event world moment event = step_in world (peer_at moment (event_peer event)) moment.past event
+step_of_event world so_far event = step_in world (peer_at so_far (event_peer event)) so_far.past event
 
 abbrev pub entry_of : World → HistoryState → Event → EventRecord
-entry_of world moment event = record {
+entry_of world so_far event = record {
   event = event;
-  went = step_of_event world moment event;
-  device = device_lines world moment.past moment.losses event (step_of_event world moment event);
+  went = step_of_event world so_far event;
+  device = device_lines world so_far.past so_far.losses event (step_of_event world so_far event);
 }
 
 abbrev pub peer_after : World → HistoryState → Event → Peer
-peer_after world moment event = peer_in world (peer_at moment (event_peer event)) moment.past event
+peer_after world so_far event = peer_in world (peer_at so_far (event_peer event)) so_far.past event
 
 abbrev pub after_event : World → HistoryState → Event → HistoryState
-after_event world moment event = record {
-  past = reverse (lines_of (entry_of world moment event)) ++ moment.past;
-  losses = losses_with event moment.losses;
-  peers = slice_set moment.peers (event_peer event) (peer_after world moment event);
+after_event world so_far event = record {
+  past = reverse (lines_of (entry_of world so_far event)) ++ so_far.past;
+  losses = losses_with event so_far.losses;
+  peers = slice_set so_far.peers (event_peer event) (peer_after world so_far event);
 }
 
 abbrev pub run : World → List Event → HistoryState → HistoryState
-run world [] moment = moment
-run world (event ∷ events) moment = run world events (after_event world moment event)
+run world [] so_far = so_far
+run world (event ∷ events) so_far = run world events (after_event world so_far event)
 
 abbrev pub initial_state : World → HistoryState
 initial_state world = record { past = []; losses = λ peer. 0; peers = replicate world.geometry.peers at_start }

@@ -80,7 +80,7 @@ pub trait TakeLines {
 /// Takes each line of a text, up to its end. After an error the draft has the lines before the
 /// faulty one.
 // claim with TakeLines::take, TakeLines::has_ended: Each line of a text is taken up to its end. The
-//    first wrong line is named by its number from 1, bytes after the end by theirs, and a text
+//    first wrong line is named by its number from 1, bytes after the end by other_start, and a text
 //    without an end is refused.
 pub fn read_text<D: TakeLines>(
     alloc: Global,

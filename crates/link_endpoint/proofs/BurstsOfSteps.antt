@@ -87,15 +87,15 @@ offers_on old (value ∷ other ∷ values) next config end place offers (between
 -- The sender's parameters are unchanged.
 pub keeps_one : (old new : Sender) (value : ℕ) (notes : List Note) → tx.StaysOpen old value notes new → KeepsNumbers old new
 keeps_one old new value notes takes = let kept = takes.takes.kept in
-    record { sizes = ap (λ s. s.sizes) kept; own = ap (λ s. s.own) kept; theirs = ap (λ s. s.theirs) kept; target = ap (λ s. s.target) kept; vector = ap (λ s. s.vector) kept }
+    record { sizes = ap (λ s. s.sizes) kept; own = ap (λ s. s.own) kept; other_start = ap (λ s. s.other_start) kept; target = ap (λ s. s.target) kept; vector = ap (λ s. s.vector) kept }
 
 pub keeps_all : (old new : Sender) (values : List ℕ) (notes : List Note) → StepsThrough tx.StaysOpen old values notes new → KeepsNumbers old new
-keeps_all old new [] notes each = subst (KeepsNumbers old) (sym each.1) (record { sizes = refl; own = refl; theirs = refl; target = refl; vector = refl })
+keeps_all old new [] notes each = subst (KeepsNumbers old) (sym each.1) (record { sizes = refl; own = refl; other_start = refl; target = refl; vector = refl })
 keeps_all old new (value ∷ []) notes each = keeps_one old new value notes each
 keeps_all old new (value ∷ other ∷ values) notes (between, first, rest) =
     let one = keeps_one old between value [] first in
     let more = keeps_all between new (other ∷ values) notes rest in
-    record { sizes = more.sizes ∙ one.sizes; own = more.own ∙ one.own; theirs = more.theirs ∙ one.theirs; target = more.target ∙ one.target; vector = more.vector ∙ one.vector }
+    record { sizes = more.sizes ∙ one.sizes; own = more.own ∙ one.own; other_start = more.other_start ∙ one.other_start; target = more.target ∙ one.target; vector = more.vector ∙ one.vector }
 
 -- The endpoint refines an end after these steps.
 pub record StandsFor (e : Engine) (config : EndConfig) : Type 0 where
@@ -118,7 +118,7 @@ kept_received i next kept keeps later = record {
   receiver = record {
     sizes = kept.receiver.sizes ∙ sym keeps.sizes;
     own = kept.receiver.own ∙ sym keeps.own;
-    theirs = kept.receiver.theirs ∙ sym keeps.theirs;
+    other_start = kept.receiver.other_start ∙ sym keeps.other_start;
     target = kept.receiver.target ∙ sym keeps.target;
     vector = kept.receiver.vector ∙ sym keeps.vector;
   };
@@ -140,8 +140,8 @@ kept_sent i next kept keeps later =
     record {
       sections = subst HasSections (config_stays i next keeps) kept.sections;
       own_room = rw keeps.sizes kept.own_room;
-      their_room = rw (keeps.sizes, keeps.theirs) kept.their_room;
-      sender = record { sizes = refl; own = kept.sender.own ∙ sym keeps.own; theirs = refl; target = kept.sender.target ∙ sym keeps.target; vector = refl };
+      their_room = rw (keeps.sizes, keeps.other_start) kept.their_room;
+      sender = record { sizes = refl; own = kept.sender.own ∙ sym keeps.own; other_start = refl; target = kept.sender.target ∙ sym keeps.target; vector = refl };
       receiver = subst (rx.IsMadeFor i.rx) (config_stays i next keeps) kept.receiver;
       mark = kept.mark;
       left = kept.left;

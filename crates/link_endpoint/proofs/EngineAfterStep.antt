@@ -24,7 +24,7 @@ use Rattle.link_endpoint.specs.Refusal.{IsAfterRefusal}
 pub record KeepsNumbers (old new : Sender) : Type 0 where
   pub sizes : new.sizes ≡ old.sizes
   pub own : new.own ≡ old.own
-  pub theirs : new.theirs ≡ old.theirs
+  pub other_start : new.other_start ≡ old.other_start
   pub target : new.target ≡ old.target
   pub vector : new.vector ≡ old.vector
 
@@ -46,8 +46,8 @@ kept_sent i next refused place value notes kept keeps mark left takes =
     record {
       sections = subst HasSections (config_stays i next keeps) kept.sections;
       own_room = rw keeps.sizes kept.own_room;
-      their_room = rw (keeps.sizes, keeps.theirs) kept.their_room;
-      sender = record { sizes = refl; own = kept.sender.own ∙ sym keeps.own; theirs = refl; target = kept.sender.target ∙ sym keeps.target; vector = refl };
+      their_room = rw (keeps.sizes, keeps.other_start) kept.their_room;
+      sender = record { sizes = refl; own = kept.sender.own ∙ sym keeps.own; other_start = refl; target = kept.sender.target ∙ sym keeps.target; vector = refl };
       receiver = subst (rx.IsMadeFor i.rx) (config_stays i next keeps) kept.receiver;
       mark = mark;
       left = left;
@@ -67,7 +67,7 @@ kept_received i next refused place value notes kept keeps mark left takes = reco
   receiver = record {
     sizes = kept.receiver.sizes ∙ sym keeps.sizes;
     own = kept.receiver.own ∙ sym keeps.own;
-    theirs = kept.receiver.theirs ∙ sym keeps.theirs;
+    other_start = kept.receiver.other_start ∙ sym keeps.other_start;
     target = kept.receiver.target ∙ sym keeps.target;
     vector = kept.receiver.vector ∙ sym keeps.vector;
   };

@@ -15,9 +15,9 @@ fresh_stands config = record {
   at = (
     refl,
     record {
-      sender = record { made = record { sizes = refl; own = refl; theirs = refl; target = refl; vector = refl }; at = (refl, λ session. absurd (cc)) };
+      sender = record { made = record { sizes = refl; own = refl; other_start = refl; target = refl; vector = refl }; at = (refl, λ session. absurd (cc)) };
       receiver = record {
-        made = record { sizes = refl; own = refl; theirs = refl; target = refl; vector = refl };
+        made = record { sizes = refl; own = refl; other_start = refl; target = refl; vector = refl };
         busy = λ busy. absurd (cc);
         session = λ session. absurd (cc);
         read = [];

@@ -106,18 +106,18 @@ offer_few config end _ value is quiet few = absurd (cc)
 
 -- The place of a sender after it published its frame: before the read of avail_event in a link with
 -- events, else before the doorbell.
-abbrev told : Bool → ℕ → places.Place
-told events number = if events then places.ReadingAvailEvent number else places.RingingOffer
+abbrev notify_place_by : Bool → ℕ → places.Place
+notify_place_by events number = if events then places.ReadingAvailEvent number else places.RingingOffer
 
-telling_at : (p : tx_places.Place) (sender : Sender) (config : EndConfig) (end : End) (events : Bool) (number : ℕ) → tx.IsAt p sender config end (told events number) → tx.CountsMatch sender config end end.freed
-telling_at tx_place.ReadingAvailEvent sender config end events number at = at.3
-telling_at tx_place.Ringing sender config end events number at = at.1
-telling_at _ sender config end true number at = absurd (grind (arith, common_steps))
-telling_at _ sender config end false number at = absurd (grind (arith, common_steps))
+notify_is_at : (p : tx_places.Place) (sender : Sender) (config : EndConfig) (end : End) (events : Bool) (number : ℕ) → tx.IsAt p sender config end (notify_place_by events number) → tx.CountsMatch sender config end end.freed
+notify_is_at tx_place.ReadingAvailEvent sender config end events number at = at.3
+notify_is_at tx_place.Ringing sender config end events number at = at.1
+notify_is_at _ sender config end true number at = absurd (grind (arith, common_steps))
+notify_is_at _ sender config end false number at = absurd (grind (arith, common_steps))
 
-telling_few : (sender : Sender) (config : EndConfig) (end : End) (number : ℕ) → IsSender sender → tx.RefinesAt sender config end (places.notify_place config number) → HasFewInFlight config end
-telling_few sender config end number is refines =
-    let counts = telling_at sender.place sender config end (has_events config.sizes) number refines.at in
+notify_has_few : (sender : Sender) (config : EndConfig) (end : End) (number : ℕ) → IsSender sender → tx.RefinesAt sender config end (places.notify_place config number) → HasFewInFlight config end
+notify_has_few sender config end number is refines =
+    let counts = notify_is_at sender.place sender config end (has_events config.sizes) number refines.at in
     let few = is.in_flight in
     let limit = ap limit_of refines.made.sizes in
     let all = counts.flight.refines.in_flight in
@@ -127,17 +127,17 @@ publishing_next : (config : EndConfig) (place : places.Place) (value : ℕ) → 
 publishing_next config (places.WritingAvailIndex pending) value is = (pending.number, refl)
 publishing_next config _ value is = absurd (cc)
 
-telling_on : (events : Bool) (number : ℕ) → told events number ≢ places.Refusing
-telling_on true number is = absurd (cc)
-telling_on false number is = absurd (cc)
+notify_goes_on : (events : Bool) (number : ℕ) → notify_place_by events number ≢ places.Refusing
+notify_goes_on true number is = absurd (cc)
+notify_goes_on false number is = absurd (cc)
 
 by_publishing : (config : EndConfig) (end : End) (place : places.Place) (value : ℕ) (b : Bool) → is_publishing place ≡ b → in_offer place ≡ true → HasFewInFlight config end → (next : Sender) → IsSender next →
     tx.RefinesAt next config (end_after end (places.step_at config place value)) (places.next_place config place value) → HasFewInFlight config (end_after end (places.step_at config place value))
 by_publishing config end place value false is offers few next sender refines = offer_few config end place value offers is few
 by_publishing config end place value true is offers few next sender refines =
-    let tells = publishing_next config place value is in
-    telling_few next config (end_after end (places.step_at config place value)) tells.0 sender
-    (subst (λ p. tx.RefinesAt next config (end_after end (places.step_at config place value)) p) tells.1 refines)
+    let published = publishing_next config place value is in
+    notify_has_few next config (end_after end (places.step_at config place value)) published.0 sender
+    (subst (λ p. tx.RefinesAt next config (end_after end (places.step_at config place value)) p) published.1 refines)
 
 -- After each step of an offer the number of frames in flight is at most the limit.
 pub sent_few : (config : EndConfig) (end : End) (place : places.Place) (value : ℕ) (next : Sender) → in_offer place ≡ true → HasFewInFlight config end → IsSender next →
@@ -147,7 +147,7 @@ sent_few config end place value next offers few sender refines = by_publishing c
 -- The limit also holds if the step refuses a value.
 publishing_on : (place : places.Place) (config : EndConfig) (value : ℕ) (b : Bool) → is_publishing place ≡ b → places.next_place config place value ≡ places.Refusing → is_publishing place ≡ false
 publishing_on place config value false is refusing = is
-publishing_on place config value true is refusing = let tells = publishing_next config place value is in absurd (telling_on (has_events config.sizes) tells.0 (sym tells.1 ∙ refusing))
+publishing_on place config value true is refusing = let published = publishing_next config place value is in absurd (notify_goes_on (has_events config.sizes) published.0 (sym published.1 ∙ refusing))
 
 pub refused_few : (config : EndConfig) (end : End) (place : places.Place) (value : ℕ) → in_offer place ≡ true → HasFewInFlight config end → places.next_place config place value ≡ places.Refusing →
     HasFewInFlight config (end_after end (places.step_at config place value))

@@ -56,7 +56,7 @@ publishing_keeps old next tail made all =
     let some = some_values (words_of (Some made.bursts)) in
     let one = keeps_all old all.written some.0 [] (all.writes some.0 some.1) in
     let more = keeps_one all.written next 0 (note.Accept ∷ []) (all.accepts 0) in
-    record { sizes = more.sizes ∙ one.sizes; own = more.own ∙ one.own; theirs = more.theirs ∙ one.theirs; target = more.target ∙ one.target; vector = more.vector ∙ one.vector }
+    record { sizes = more.sizes ∙ one.sizes; own = more.own ∙ one.own; other_start = more.other_start ∙ one.other_start; target = more.target ∙ one.target; vector = more.vector ∙ one.vector }
 
 -- The endpoint after the sender published a frame.
 pub sent : (i : Inside) (next : Sender) (tail : List ℕ) (made : Publication) → IsWellFormed i → i.place ≡ Offering → sender.Publishes i.tx tail made next →

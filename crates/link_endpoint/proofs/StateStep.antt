@@ -3,8 +3,8 @@ use Rattle.std.proofs.Common.{◌≡◌, ◌≢◌, ℕ, ◌+◌, ◌<◌, [], �
 use Rattle.std.proofs.lemmas.Grind.{common_steps}
 use Rattle.split_ring.specs.Layout.{size_of, word_offset, AvailEntry}
 use Rattle.split_ring.specs.declared.steps.Note.TheVariants as note
-use Rattle.split_ring.proofs.Places.{places_lem}
-use Rattle.link_handshake.specs.PhaseTable.{phase_at}
+use Rattle.split_ring.proofs.QueuesAreLaidOut.{queues_are_laid_out}
+use Rattle.link_handshake.specs.PhaseTable.{phase_of_state}
 use Rattle.link_handshake.specs.declared.Phase.TheVariants.{Ready}
 use Rattle.call_grammar.specs.Ends.{End, end_after}
 use Rattle.call_grammar.specs.Calls.{EndConfig}
@@ -19,7 +19,7 @@ use Rattle.link_endpoint.proofs.EndByPlace.{at_place}
 
 -- The words of the available entries are inside the section.
 entry_inside : (config : EndConfig) → HasSections config → (k : ℕ) → k < size_of config.sizes → word_offset config.sizes (AvailEntry k) < config.words
-entry_inside config has k below = let inside = (places_lem config.sizes has.queue).inside (AvailEntry k) below in let words = has.words in omega arith
+entry_inside config has k below = let inside = (queues_are_laid_out config.sizes has.queue).inside (AvailEntry k) below in let words = has.words in omega arith
 
 -- A session opens over a section whose words are all 0.
 fresh_after : (config : EndConfig) (end : End) (value : ℕ) → HasSections config → IsClearBefore config end (config.own + config.words) → tx.IsFreshSession config (end_after end (places.step_at config (places.WritingState 2) value))
@@ -67,6 +67,6 @@ opens_session old new value has sets new_is sender receiver frame kept = record 
 -- A State step opens no session.
 pub sets_other : (old new : Engine) (state value : ℕ) →
     old.place ≡ WritingState state → state ≢ 2 →
-    new ≡ record old { phase = phase_at state; place = Closed } →
+    new ≡ record old { phase = phase_of_state state; place = Closed } →
     Takes old value (note.Over ∷ []) new
 sets_other old new state value sets other new_is = grind (arith, common_steps)

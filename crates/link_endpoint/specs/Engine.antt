@@ -32,7 +32,7 @@ config_of shape sizes me traffic = record {
   me = me;
   other = partner me;
   own = section_start shape me;
-  theirs = section_start shape (partner me);
+  other_start = section_start shape (partner me);
   words = shape.out;
   sizes = sizes;
   vector = traffic;
@@ -55,8 +55,8 @@ fresh_engine config = record {
   phase = Reset;
   refused = None;
   place = Closed;
-  sender = fresh_sender config.sizes config.own config.theirs config.other config.vector;
-  receiver = fresh_receiver config.sizes config.own config.theirs config.other config.vector;
+  sender = fresh_sender config.sizes config.own config.other_start config.other config.vector;
+  receiver = fresh_receiver config.sizes config.own config.other_start config.other config.vector;
 }
 
 -- An endpoint after a reset of its device: the frame offered last and the frame delivered last

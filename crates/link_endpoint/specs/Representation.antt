@@ -14,7 +14,7 @@ use Rattle.link_endpoint.specs.Refusal.{IsAfterRefusal}
 
 abbrev pub engine_of : endpoint.Inside → Engine
 engine_of i = record {
-  config = record { me = partner i.other; other = i.other; own = i.own; theirs = i.tx.theirs; words = i.words; sizes = i.tx.sizes; vector = i.tx.vector };
+  config = record { me = partner i.other; other = i.other; own = i.own; other_start = i.tx.other_start; words = i.words; sizes = i.tx.sizes; vector = i.tx.vector };
   phase = i.handshake.phase;
   refused = i.refused;
   place = i.place;
@@ -32,7 +32,7 @@ engine_of i = record {
 pub record IsWellFormed (i : endpoint.Inside) : Type 0 where
   pub sections : HasSections (engine_of i).config
   pub own_room : 4 * i.own + i.tx.sizes.out ≤ LARGEST_REGION
-  pub their_room : 4 * i.tx.theirs + i.tx.sizes.out ≤ LARGEST_REGION
+  pub their_room : 4 * i.tx.other_start + i.tx.sizes.out ≤ LARGEST_REGION
   pub sender : tx.IsMadeFor i.tx (engine_of i).config
   pub receiver : rx.IsMadeFor i.rx (engine_of i).config
   pub mark : i.place ≢ Refusing → i.handshake.mark ≡ is_some i.refused

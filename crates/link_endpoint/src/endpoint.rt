@@ -83,7 +83,7 @@ impl Endpoint {
         prove!(queue.out() == 4 * words);
         let other = if me == 0 { 1 } else { 0 };
         let own = geometry.section_start(me);
-        let theirs = geometry.section_start(other);
+        let other_start = geometry.section_start(other);
         Ok(Endpoint {
             other,
             own,
@@ -91,8 +91,8 @@ impl Endpoint {
             handshake: Handshake::new(),
             refused: None,
             place: Place::Closed,
-            tx: Tx::new(alloc, queue, own, theirs, other, traffic)?,
-            rx: Rx::new(alloc, queue, own, theirs, other, traffic)?,
+            tx: Tx::new(alloc, queue, own, other_start, other, traffic)?,
+            rx: Rx::new(alloc, queue, own, other_start, other, traffic)?,
         })
     }
 

@@ -3,7 +3,7 @@ use Rattle.std.specs.Prelude.{ℕ, Bool, if◌then◌else◌}
 use Rattle.link_handshake.specs.declared.Phase.{Phase}
 use Rattle.link_handshake.specs.declared.Move.{Move}
 use Rattle.link_handshake.specs.declared.Move.TheVariants.{Stay}
-use Rattle.link_handshake.specs.PhaseTable.{move_on}
+use Rattle.link_handshake.specs.PhaseTable.{phase_move}
 
 -- A phase, and the mark of an end that refused the link.
 pub record HandshakeState : Type 0 where
@@ -12,4 +12,4 @@ pub record HandshakeState : Type 0 where
 
 -- The move of an end that reads `seen` as the other's State: none if it has the mark.
 abbrev pub move_of : HandshakeState → ℕ → Move
-move_of end seen = if end.mark then Stay else move_on end.phase seen
+move_of end seen = if end.mark then Stay else phase_move end.phase seen

@@ -8,24 +8,24 @@ use Rattle.link_handshake.specs.declared.Move.{Move}
 use Rattle.link_handshake.specs.declared.Move.TheVariants.{Stay, Set, ClearThenSet}
 
 -- The move of an end in phase `phase` that reads the other's State.
-abbrev pub move_on : Phase → ℕ → Move
-move_on Reset zero = Set 1
-move_on Reset (suc zero) = Set 1
-move_on Reset (suc (suc more)) = Stay
-move_on Init zero = Stay
-move_on Init (suc more) = ClearThenSet 2
-move_on Ready zero = Set 0
-move_on Ready (suc zero) = Stay
-move_on Ready (suc (suc more)) = Set 3
-move_on Run zero = Set 0
-move_on Run (suc more) = Stay
+abbrev pub phase_move : Phase → ℕ → Move
+phase_move Reset zero = Set 1
+phase_move Reset (suc zero) = Set 1
+phase_move Reset (suc (suc more)) = Stay
+phase_move Init zero = Stay
+phase_move Init (suc more) = ClearThenSet 2
+phase_move Ready zero = Set 0
+phase_move Ready (suc zero) = Stay
+phase_move Ready (suc (suc more)) = Set 3
+phase_move Run zero = Set 0
+phase_move Run (suc more) = Stay
 
 -- The phase of a State value, 3 and above as RUN.
-abbrev pub phase_at : ℕ → Phase
-phase_at zero = Reset
-phase_at (suc zero) = Init
-phase_at (suc (suc zero)) = Ready
-phase_at (suc (suc (suc more))) = Run
+abbrev pub phase_of_state : ℕ → Phase
+phase_of_state zero = Reset
+phase_of_state (suc zero) = Init
+phase_of_state (suc (suc zero)) = Ready
+phase_of_state (suc (suc (suc more))) = Run
 
 -- The State value of a phase.
 abbrev pub state_of : Phase → ℕ

@@ -9,14 +9,14 @@
 //!
 //! # Design
 //!
-//! - The table is a definition by cases, `move_on` of `specs/PhaseTable`, with a line for each
+//! - The table is a definition by cases, `phase_move` of `specs/PhaseTable`, with a line for each
 //!   arm of `saw`. The laws of `phases_in_step` follow from it, but they don't determine each arm.
 //!   A must-fail edit does that for each arm.
 #![tactic(auto)]
 
 ghost use Rattle.std.specs.Prelude.{◌≡◌, true, false};
 ghost use Rattle.link_handshake.specs.Laws.{SkipsNone, WaitsForInit, WaitsForReady, FollowsReset, StartsAfresh};
-ghost use Rattle.link_handshake.specs.PhaseTable.{phase_at};
+ghost use Rattle.link_handshake.specs.PhaseTable.{phase_of_state};
 ghost use Rattle.link_handshake.specs.HandshakeState.{move_of};
 
 use std::marker::Model;
@@ -37,7 +37,7 @@ pub enum Phase {
 
 /// Returns the phase of a State value. 3 and above are RUN.
 pub fn phase_of(state: u32) -> Phase
-    ensures { result ≡ phase_at state }
+    ensures { result ≡ phase_of_state state }
 {
     match state {
         0 => Phase::Reset,

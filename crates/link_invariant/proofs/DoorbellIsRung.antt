@@ -28,7 +28,7 @@ use Rattle.link_invariant.specs.EndInvariant.{PlaceInvariant}
 use Rattle.link_invariant.specs.Pair.{Pair}
 use Rattle.link_invariant.specs.Wake.{EventIndexIs, Asks, WritesEvent, AskedDoorbellIsRung}
 use Rattle.link_invariant.proofs.Fields.{field_read, fields_same}
-use Rattle.link_invariant.proofs.WriteSteps.{puts_lem}
+use Rattle.link_invariant.proofs.WriteSteps.{place_puts}
 use Rattle.link_invariant.proofs.PairObligations.{Before}
 use Rattle.link_invariant.proofs.PairKept.{untouched, before}
 use Rattle.link_invariant.proofs.PollsOfPair.{published_is}
@@ -46,8 +46,8 @@ noted_same end (Accept frame ∷ marks) none = absurd none
 noted_same end (mark ∷ marks) none = noted_same (with_mark end mark) marks none
 
 by_bool : (b : Bool) (m n : List Mark) → AcceptsNone m → AcceptsNone n → AcceptsNone (if b then m else n)
-by_bool true m n mine theirs = mine
-by_bool false m n mine theirs = theirs
+by_bool true m n mine opposite = mine
+by_bool false m n mine opposite = opposite
 
 tick_none : (value : ℕ) (move : Move) → AcceptsNone (tick_marks value move)
 tick_none value Stay = tt
@@ -111,16 +111,16 @@ event_stays link_config is p p2 memory after end place quiet left h = by_place p
     by_place (WritingAvailEvent taken) quiet left h = absurd (quiet tt)
     by_place (WritingState state) quiet left h = stored state left
     by_place Refusing quiet left h = stored 0 left
-    by_place (WritingFrameWord pending at more) quiet left h = (puts_lem link_config is p p2 memory after end (WritingFrameWord pending at more) left h).neighbour_word field.AvailEvent (λ e. cc)
-    by_place (WritingDescAddressLow pending) quiet left h = (puts_lem link_config is p p2 memory after end (WritingDescAddressLow pending) left h).neighbour_word field.AvailEvent (λ e. cc)
-    by_place (WritingDescAddressHigh pending) quiet left h = (puts_lem link_config is p p2 memory after end (WritingDescAddressHigh pending) left h).neighbour_word field.AvailEvent (λ e. cc)
-    by_place (WritingDescLength pending) quiet left h = (puts_lem link_config is p p2 memory after end (WritingDescLength pending) left h).neighbour_word field.AvailEvent (λ e. cc)
-    by_place (WritingDescFlags pending) quiet left h = (puts_lem link_config is p p2 memory after end (WritingDescFlags pending) left h).neighbour_word field.AvailEvent (λ e. cc)
-    by_place (WritingAvailEntry pending) quiet left h = (puts_lem link_config is p p2 memory after end (WritingAvailEntry pending) left h).neighbour_word field.AvailEvent (λ e. cc)
-    by_place (WritingAvailIndex pending) quiet left h = (puts_lem link_config is p p2 memory after end (WritingAvailIndex pending) left h).neighbour_word field.AvailEvent (λ e. cc)
-    by_place (WritingUsedId number more entry) quiet left h = (puts_lem link_config is p p2 memory after end (WritingUsedId number more entry) left h).neighbour_word field.AvailEvent (λ e. cc)
-    by_place (WritingUsedLength number more) quiet left h = (puts_lem link_config is p p2 memory after end (WritingUsedLength number more) left h).neighbour_word field.AvailEvent (λ e. cc)
-    by_place (WritingUsedIndex number more) quiet left h = (puts_lem link_config is p p2 memory after end (WritingUsedIndex number more) left h).neighbour_word field.AvailEvent (λ e. cc)
+    by_place (WritingFrameWord pending at more) quiet left h = (place_puts link_config is p p2 memory after end (WritingFrameWord pending at more) left h).neighbour_word field.AvailEvent (λ e. cc)
+    by_place (WritingDescAddressLow pending) quiet left h = (place_puts link_config is p p2 memory after end (WritingDescAddressLow pending) left h).neighbour_word field.AvailEvent (λ e. cc)
+    by_place (WritingDescAddressHigh pending) quiet left h = (place_puts link_config is p p2 memory after end (WritingDescAddressHigh pending) left h).neighbour_word field.AvailEvent (λ e. cc)
+    by_place (WritingDescLength pending) quiet left h = (place_puts link_config is p p2 memory after end (WritingDescLength pending) left h).neighbour_word field.AvailEvent (λ e. cc)
+    by_place (WritingDescFlags pending) quiet left h = (place_puts link_config is p p2 memory after end (WritingDescFlags pending) left h).neighbour_word field.AvailEvent (λ e. cc)
+    by_place (WritingAvailEntry pending) quiet left h = (place_puts link_config is p p2 memory after end (WritingAvailEntry pending) left h).neighbour_word field.AvailEvent (λ e. cc)
+    by_place (WritingAvailIndex pending) quiet left h = (place_puts link_config is p p2 memory after end (WritingAvailIndex pending) left h).neighbour_word field.AvailEvent (λ e. cc)
+    by_place (WritingUsedId number more entry) quiet left h = (place_puts link_config is p p2 memory after end (WritingUsedId number more entry) left h).neighbour_word field.AvailEvent (λ e. cc)
+    by_place (WritingUsedLength number more) quiet left h = (place_puts link_config is p p2 memory after end (WritingUsedLength number more) left h).neighbour_word field.AvailEvent (λ e. cc)
+    by_place (WritingUsedIndex number more) quiet left h = (place_puts link_config is p p2 memory after end (WritingUsedIndex number more) left h).neighbour_word field.AvailEvent (λ e. cc)
     by_place place quiet left h = ap (λ (m : ℕ → ℕ). fields link_config m p field.AvailEvent) left
 
 -- The other's step
@@ -145,9 +145,9 @@ module _ (link_config : LinkConfig) (is : IsLinkConfig link_config) (q : ℕ) (m
       side_event false e = inr refl
 
   -- The read of avail_event.
-  heard : (number value : ℕ) → value ≡ memory (section_of link_config (1 - q) + word_offset link_config.sizes AvailEvent) → Ahead end (ReadingAvailEvent number) k → LeavesAhead (ReadingAvailEvent number) value
-  heard number value met (inl few) = let most = accepted_most (config_of link_config q) end (ReadingAvailEvent number) value (λ pending e. cc) in inl (inl (omega arith))
-  heard number value met (inr e) = let same : number ≡ k = number_is e in
+  event_read_leaves : (number value : ℕ) → value ≡ memory (section_of link_config (1 - q) + word_offset link_config.sizes AvailEvent) → Ahead end (ReadingAvailEvent number) k → LeavesAhead (ReadingAvailEvent number) value
+  event_read_leaves number value met (inl few) = let most = accepted_most (config_of link_config q) end (ReadingAvailEvent number) value (λ pending e. cc) in inl (inl (omega arith))
+  event_read_leaves number value met (inr e) = let same : number ≡ k = number_is e in
       let low : low_half value ≡ k % 65536 = field_read link_config memory (1 - q) field.AvailEvent value refl met ∙ event in
       let asks : wants_doorbell (low_half value) number ≡ true = ap (λ n. wants_doorbell n number) low ∙ (ap (wants_doorbell (k % 65536)) same ∙ asks_there k) in
       inr (yes_place (wants_doorbell (low_half value) number) asks)
@@ -166,29 +166,29 @@ module _ (link_config : LinkConfig) (is : IsLinkConfig link_config) (q : ℕ) (m
 
   leaves_ahead : (place : Place) (value : ℕ) → PlaceInvariant link_config memory q end place → ReadsMemory memory (access_at (config_of link_config q) place) value → Ahead end place k → LeavesAhead place value
   leaves_ahead (WritingAvailIndex pending) value h met ahead = published pending value h ahead
-  leaves_ahead (ReadingAvailEvent number) value h met ahead = heard number value met ahead
+  leaves_ahead (ReadingAvailEvent number) value h met ahead = event_read_leaves number value met ahead
   leaves_ahead place value h met ahead = passes place value (λ pending e. cc) (λ number e. cc) ahead
 
 -- The rule
 
-arms_lem : (link_config : LinkConfig) (memory after : ℕ → ℕ) (ends next : ℕ → End) (places goes : ℕ → Place) (p taken value : ℕ) → IsLinkConfig link_config → p < 2 → Pair link_config memory ends places → TakesStep link_config memory after ends next places goes p value → places p ≡ WritingAvailEvent taken → EventIndexIs link_config after p taken
-arms_lem link_config memory after ends next places goes p taken value is p2 m step at =
-    (puts_lem link_config is p p2 memory after (ends p) (WritingAvailEvent taken) (subst (λ x. MemoryAfter p memory (access_at (config_of link_config p) x) after) at step.leaves) (subst (PlaceInvariant link_config memory p (ends p)) at (m.alone p p2).holds)).here
+write_sets_event : (link_config : LinkConfig) (memory after : ℕ → ℕ) (ends next : ℕ → End) (places goes : ℕ → Place) (p taken value : ℕ) → IsLinkConfig link_config → p < 2 → Pair link_config memory ends places → TakesStep link_config memory after ends next places goes p value → places p ≡ WritingAvailEvent taken → EventIndexIs link_config after p taken
+write_sets_event link_config memory after ends next places goes p taken value is p2 m step at =
+    (place_puts link_config is p p2 memory after (ends p) (WritingAvailEvent taken) (subst (λ x. MemoryAfter p memory (access_at (config_of link_config p) x) after) at step.leaves) (subst (PlaceInvariant link_config memory p (ends p)) at (m.alone p p2).holds)).here
 
-looks_lem : (link_config : LinkConfig) (memory : ℕ → ℕ) (ends : ℕ → End) (places : ℕ → Place) (p taken value : ℕ) (last : Bool) → IsLinkConfig link_config → p < 2 → Pair link_config memory ends places → places p ≡ ReadingAvailIndex taken last → ReadsMemory memory (access_at (config_of link_config p) (places p)) value → published_by taken value ≡ 0 → EventIndexIs link_config memory p taken → Asks link_config memory ends places p taken
-looks_lem link_config memory ends places p taken value last is p2 m at met none event =
+read_asks : (link_config : LinkConfig) (memory : ℕ → ℕ) (ends : ℕ → End) (places : ℕ → Place) (p taken value : ℕ) (last : Bool) → IsLinkConfig link_config → p < 2 → Pair link_config memory ends places → places p ≡ ReadingAvailIndex taken last → ReadsMemory memory (access_at (config_of link_config p) (places p)) value → published_by taken value ≡ 0 → EventIndexIs link_config memory p taken → Asks link_config memory ends places p taken
+read_asks link_config memory ends places p taken value last is p2 m at met none event =
     let b = subst (λ x. Before link_config memory p (ends p) x (ends (1 - p)) (places (1 - p))) at (before link_config memory ends places p p2 m) in
-    let exact = published_is link_config is p memory (ends p) (ends (1 - p)) (places (1 - p)) b.mark taken last value (subst (λ x. ReadsMemory memory (access_at (config_of link_config p) x) value) at met) b.theirs b.mine (b.faces (inl (inl b.mine.holds.0))) in
+    let exact = published_is link_config is p memory (ends p) (ends (1 - p)) (places (1 - p)) b.mark taken last value (subst (λ x. ReadsMemory memory (access_at (config_of link_config p) x) value) at met) b.opposite b.mine (b.faces (inl (inl b.mine.holds.0))) in
     record { event = event; ahead = inl (omega arith) }
 
-stays_lem : (link_config : LinkConfig) (memory after : ℕ → ℕ) (ends next : ℕ → End) (places goes : ℕ → Place) (p k value : ℕ) → IsLinkConfig link_config → p < 2 → Pair link_config memory ends places → TakesStep link_config memory after ends next places goes p value → ¬ WritesEvent (places p) → Asks link_config memory ends places p k → Asks link_config after next goes p k
-stays_lem link_config memory after ends next places goes p k value is p2 m step quiet asks = let ne : 1 - p ≢ p = λ e. omega arith in record {
+own_step_keeps_asking : (link_config : LinkConfig) (memory after : ℕ → ℕ) (ends next : ℕ → End) (places goes : ℕ → Place) (p k value : ℕ) → IsLinkConfig link_config → p < 2 → Pair link_config memory ends places → TakesStep link_config memory after ends next places goes p value → ¬ WritesEvent (places p) → Asks link_config memory ends places p k → Asks link_config after next goes p k
+own_step_keeps_asking link_config memory after ends next places goes p k value is p2 m step quiet asks = let ne : 1 - p ≢ p = λ e. omega arith in record {
   event = event_stays link_config is p p2 memory after (ends p) (places p) quiet step.leaves (m.alone p p2).holds ∙ asks.event;
   ahead = subst (λ (e : End). Ahead e (goes (1 - p)) k) (sym (step.comes.ends_stay (1 - p) ne)) (subst (λ (x : Place). Ahead (ends (1 - p)) x k) (sym (step.comes.places_stay (1 - p) ne)) asks.ahead);
 }
 
-others_lem : (link_config : LinkConfig) (memory after : ℕ → ℕ) (ends next : ℕ → End) (places goes : ℕ → Place) (p k value : ℕ) → IsLinkConfig link_config → p < 2 → Pair link_config memory ends places → TakesStep link_config memory after ends next places goes (1 - p) value → Asks link_config memory ends places p k → Asks link_config after next goes p k ⊎ (goes (1 - p) ≡ RingingOffer)
-others_lem link_config memory after ends next places goes p k value is p2 m step asks = let q = 1 - p in let q2 : q < 2 = omega arith in let back : 1 - q ≡ p = omega arith in let a = m.alone q q2 in
+other_step_keeps_or_rings : (link_config : LinkConfig) (memory after : ℕ → ℕ) (ends next : ℕ → End) (places goes : ℕ → Place) (p k value : ℕ) → IsLinkConfig link_config → p < 2 → Pair link_config memory ends places → TakesStep link_config memory after ends next places goes (1 - p) value → Asks link_config memory ends places p k → Asks link_config after next goes p k ⊎ (goes (1 - p) ≡ RingingOffer)
+other_step_keeps_or_rings link_config memory after ends next places goes p k value is p2 m step asks = let q = 1 - p in let q2 : q < 2 = omega arith in let back : 1 - q ≡ p = omega arith in let a = m.alone q q2 in
     let keep : IsUntouched link_config memory after p = subst (IsUntouched link_config memory after) back (untouched link_config is q q2 memory after (ends q) (places q) a step.leaves) in
     let event : EventIndexIs link_config after p k = fields_same link_config memory after p is keep.section field.AvailEvent ∙ asks.event in
     stepped event (leaves_ahead link_config is q memory (ends q) k (subst (λ r. EventIndexIs link_config memory r k) (sym back) asks.event) (places q) value a.holds step.meets asks.ahead)
@@ -198,5 +198,5 @@ others_lem link_config memory after ends next places goes p k value is p2 m step
     stepped event (inl ahead) = inl record { event = event; ahead = subst (λ (e : End). Ahead e (goes (1 - p)) k) (sym step.comes.end_is) (subst (λ (x : Place). Ahead (end_after (ends (1 - p)) (step_at (config_of link_config (1 - p)) (places (1 - p)) value)) x k) (sym step.comes.place_is) ahead) }
     stepped event (inr rings) = inr (step.comes.place_is ∙ rings)
 
-pub wake_lem : AskedDoorbellIsRung
-wake_lem = record { arms = arms_lem; looks = looks_lem; stays = stays_lem; others = others_lem }
+pub asked_doorbell_is_rung : AskedDoorbellIsRung
+asked_doorbell_is_rung = record { arms = write_sets_event; looks = read_asks; stays = own_step_keeps_asking; others = other_step_keeps_or_rings }

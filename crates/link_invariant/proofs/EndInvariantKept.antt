@@ -19,43 +19,43 @@ use Rattle.link_invariant.specs.EndInvariant.{IsNext, MaySet, PlaceInvariant, Re
 use Rattle.link_invariant.specs.Laws.{EndInvariantIsKept}
 use Rattle.link_invariant.proofs.Fields.{numbers, one_test, inside, field_read, fields_same}
 use Rattle.link_invariant.proofs.EndObligations.{comes, moves, spelled_same, sent_same, next_kept, filled_kept}
-use Rattle.link_invariant.proofs.ReadSteps.{StepsTo, reads_used_index, reads_id, hears_event, reads_avail_index, reads_entry, reads_low, reads_high, reads_length, reads_flags, reads_word}
-use Rattle.link_invariant.proofs.WriteSteps.{puts_lem, fills, lowers, heightens, measures, unflags, enters, publishes, arms, gives_id, gives_length, gives_index}
+use Rattle.link_invariant.proofs.ReadSteps.{StepsTo, reads_used_index, reads_id, event_read_step, reads_avail_index, reads_entry, reads_low, reads_high, reads_length, reads_flags, reads_word}
+use Rattle.link_invariant.proofs.WriteSteps.{place_puts, fills, lowers, heightens, measures, unflags, enters, publishes, arms, gives_id, gives_length, gives_index}
 use Rattle.link_invariant.proofs.TickSteps.{not_phase, reads_state, clears, falls, sets}
 
 still : (link_config : LinkConfig) (p : ℕ) (memory after : ℕ → ℕ) (end : End) (place : Place) (value : ℕ) → after ≡ memory → StepsTo link_config p memory end place value → StepsTo link_config p after end place value
 still link_config p memory after end place value e h = subst (λ (k : ℕ → ℕ). StepsTo link_config p k end place value) (sym e) h
 
-steps_lem : (link_config : LinkConfig) (p : ℕ) (memory after : ℕ → ℕ) (end : End) (place : Place) (value : ℕ) → IsLinkConfig link_config → p < 2 → is_open place ≡ true → MemoryAfter p memory (access_at (config_of link_config p) place) after → EndInvariant link_config memory p end place → StepsTo link_config p after end place value
-steps_lem link_config p memory after end Closed value is p2 opened left a = let f : false ≡ true = opened in absurd (let g : ⊥ = cc in g)
-steps_lem link_config p memory after end (ReadingOtherState handshake) value is p2 opened left a = still link_config p memory after end (ReadingOtherState handshake) value left (reads_state link_config p memory after end handshake value a)
-steps_lem link_config p memory after end (Clearing at more state) value is p2 opened left a = clears link_config p memory after end at more state value is p2 left a
-steps_lem link_config p memory after end (WritingState state) value is p2 opened left a = sets link_config p memory after end state value is p2 left a
-steps_lem link_config p memory after end Refusing value is p2 opened left a = falls link_config p memory after end Refusing end.handshake.mark is p2 left a
-steps_lem link_config p memory after end NotInRun value is p2 opened left a = still link_config p memory after end NotInRun value left (comes Closed tt refl a.rests a)
-steps_lem link_config p memory after end (ReadingUsedIndex pending freed) value is p2 opened left a = still link_config p memory after end (ReadingUsedIndex pending freed) value left (reads_used_index link_config p memory end pending freed value a)
-steps_lem link_config p memory after end (ReadingUsedId pending freed more) value is p2 opened left a = still link_config p memory after end (ReadingUsedId pending freed more) value left (reads_id link_config p memory end pending freed more value a)
-steps_lem link_config p memory after end (WritingFrameWord pending at more) value is p2 opened left a = fills link_config is p p2 memory after end pending at more value left a
-steps_lem link_config p memory after end (WritingDescAddressLow pending) value is p2 opened left a = lowers link_config is p p2 memory after end pending value left a
-steps_lem link_config p memory after end (WritingDescAddressHigh pending) value is p2 opened left a = heightens link_config is p p2 memory after end pending value left a
-steps_lem link_config p memory after end (WritingDescLength pending) value is p2 opened left a = measures link_config is p p2 memory after end pending value left a
-steps_lem link_config p memory after end (WritingDescFlags pending) value is p2 opened left a = unflags link_config is p p2 memory after end pending value left a
-steps_lem link_config p memory after end (WritingAvailEntry pending) value is p2 opened left a = enters link_config is p p2 memory after end pending value left a
-steps_lem link_config p memory after end (WritingAvailIndex pending) value is p2 opened left a = publishes link_config is p p2 memory after end pending value left a
-steps_lem link_config p memory after end (ReadingAvailEvent number) value is p2 opened left a = still link_config p memory after end (ReadingAvailEvent number) value left (hears_event link_config p memory end number value a)
-steps_lem link_config p memory after end RingingOffer value is p2 opened left a = still link_config p memory after end RingingOffer value left (moves Closed tt refl a.rests a)
-steps_lem link_config p memory after end (ReadingAvailIndex taken last) value is p2 opened left a = still link_config p memory after end (ReadingAvailIndex taken last) value left (reads_avail_index link_config p memory end taken last value a)
-steps_lem link_config p memory after end (WritingAvailEvent taken) value is p2 opened left a = arms link_config is p p2 memory after end taken value left a
-steps_lem link_config p memory after end (ReadingAvailEntry number more) value is p2 opened left a = still link_config p memory after end (ReadingAvailEntry number more) value left (reads_entry link_config p memory end number more value a)
-steps_lem link_config p memory after end (ReadingDescAddressLow number more entry) value is p2 opened left a = still link_config p memory after end (ReadingDescAddressLow number more entry) value left (reads_low link_config p memory end number more entry value a)
-steps_lem link_config p memory after end (ReadingDescAddressHigh number more entry low) value is p2 opened left a = still link_config p memory after end (ReadingDescAddressHigh number more entry low) value left (reads_high link_config p memory end number more entry low value a)
-steps_lem link_config p memory after end (ReadingDescLength number more entry address) value is p2 opened left a = still link_config p memory after end (ReadingDescLength number more entry address) value left (reads_length link_config p memory end number more entry address value a)
-steps_lem link_config p memory after end (ReadingDescFlags number more entry address bytes) value is p2 opened left a = still link_config p memory after end (ReadingDescFlags number more entry address bytes) value left (reads_flags link_config p memory end number more entry address bytes value a)
-steps_lem link_config p memory after end (ReadingFrameWord number more entry address bytes read words) value is p2 opened left a = still link_config p memory after end (ReadingFrameWord number more entry address bytes read words) value left (reads_word link_config p memory end number more entry address bytes read words value a)
-steps_lem link_config p memory after end (WritingUsedId number more entry) value is p2 opened left a = gives_id link_config is p p2 memory after end number more entry value left a
-steps_lem link_config p memory after end (WritingUsedLength number more) value is p2 opened left a = gives_length link_config is p p2 memory after end number more value left a
-steps_lem link_config p memory after end (WritingUsedIndex number more) value is p2 opened left a = gives_index link_config is p p2 memory after end number more value left a
-steps_lem link_config p memory after end RingingPoll value is p2 opened left a = still link_config p memory after end RingingPoll value left (moves Closed tt refl a.rests a)
+step_keeps_end : (link_config : LinkConfig) (p : ℕ) (memory after : ℕ → ℕ) (end : End) (place : Place) (value : ℕ) → IsLinkConfig link_config → p < 2 → is_open place ≡ true → MemoryAfter p memory (access_at (config_of link_config p) place) after → EndInvariant link_config memory p end place → StepsTo link_config p after end place value
+step_keeps_end link_config p memory after end Closed value is p2 opened left a = let f : false ≡ true = opened in absurd (let g : ⊥ = cc in g)
+step_keeps_end link_config p memory after end (ReadingOtherState handshake) value is p2 opened left a = still link_config p memory after end (ReadingOtherState handshake) value left (reads_state link_config p memory after end handshake value a)
+step_keeps_end link_config p memory after end (Clearing at more state) value is p2 opened left a = clears link_config p memory after end at more state value is p2 left a
+step_keeps_end link_config p memory after end (WritingState state) value is p2 opened left a = sets link_config p memory after end state value is p2 left a
+step_keeps_end link_config p memory after end Refusing value is p2 opened left a = falls link_config p memory after end Refusing end.handshake.mark is p2 left a
+step_keeps_end link_config p memory after end NotInRun value is p2 opened left a = still link_config p memory after end NotInRun value left (comes Closed tt refl a.rests a)
+step_keeps_end link_config p memory after end (ReadingUsedIndex pending freed) value is p2 opened left a = still link_config p memory after end (ReadingUsedIndex pending freed) value left (reads_used_index link_config p memory end pending freed value a)
+step_keeps_end link_config p memory after end (ReadingUsedId pending freed more) value is p2 opened left a = still link_config p memory after end (ReadingUsedId pending freed more) value left (reads_id link_config p memory end pending freed more value a)
+step_keeps_end link_config p memory after end (WritingFrameWord pending at more) value is p2 opened left a = fills link_config is p p2 memory after end pending at more value left a
+step_keeps_end link_config p memory after end (WritingDescAddressLow pending) value is p2 opened left a = lowers link_config is p p2 memory after end pending value left a
+step_keeps_end link_config p memory after end (WritingDescAddressHigh pending) value is p2 opened left a = heightens link_config is p p2 memory after end pending value left a
+step_keeps_end link_config p memory after end (WritingDescLength pending) value is p2 opened left a = measures link_config is p p2 memory after end pending value left a
+step_keeps_end link_config p memory after end (WritingDescFlags pending) value is p2 opened left a = unflags link_config is p p2 memory after end pending value left a
+step_keeps_end link_config p memory after end (WritingAvailEntry pending) value is p2 opened left a = enters link_config is p p2 memory after end pending value left a
+step_keeps_end link_config p memory after end (WritingAvailIndex pending) value is p2 opened left a = publishes link_config is p p2 memory after end pending value left a
+step_keeps_end link_config p memory after end (ReadingAvailEvent number) value is p2 opened left a = still link_config p memory after end (ReadingAvailEvent number) value left (event_read_step link_config p memory end number value a)
+step_keeps_end link_config p memory after end RingingOffer value is p2 opened left a = still link_config p memory after end RingingOffer value left (moves Closed tt refl a.rests a)
+step_keeps_end link_config p memory after end (ReadingAvailIndex taken last) value is p2 opened left a = still link_config p memory after end (ReadingAvailIndex taken last) value left (reads_avail_index link_config p memory end taken last value a)
+step_keeps_end link_config p memory after end (WritingAvailEvent taken) value is p2 opened left a = arms link_config is p p2 memory after end taken value left a
+step_keeps_end link_config p memory after end (ReadingAvailEntry number more) value is p2 opened left a = still link_config p memory after end (ReadingAvailEntry number more) value left (reads_entry link_config p memory end number more value a)
+step_keeps_end link_config p memory after end (ReadingDescAddressLow number more entry) value is p2 opened left a = still link_config p memory after end (ReadingDescAddressLow number more entry) value left (reads_low link_config p memory end number more entry value a)
+step_keeps_end link_config p memory after end (ReadingDescAddressHigh number more entry low) value is p2 opened left a = still link_config p memory after end (ReadingDescAddressHigh number more entry low) value left (reads_high link_config p memory end number more entry low value a)
+step_keeps_end link_config p memory after end (ReadingDescLength number more entry address) value is p2 opened left a = still link_config p memory after end (ReadingDescLength number more entry address) value left (reads_length link_config p memory end number more entry address value a)
+step_keeps_end link_config p memory after end (ReadingDescFlags number more entry address bytes) value is p2 opened left a = still link_config p memory after end (ReadingDescFlags number more entry address bytes) value left (reads_flags link_config p memory end number more entry address bytes value a)
+step_keeps_end link_config p memory after end (ReadingFrameWord number more entry address bytes read words) value is p2 opened left a = still link_config p memory after end (ReadingFrameWord number more entry address bytes read words) value left (reads_word link_config p memory end number more entry address bytes read words value a)
+step_keeps_end link_config p memory after end (WritingUsedId number more entry) value is p2 opened left a = gives_id link_config is p p2 memory after end number more entry value left a
+step_keeps_end link_config p memory after end (WritingUsedLength number more) value is p2 opened left a = gives_length link_config is p p2 memory after end number more value left a
+step_keeps_end link_config p memory after end (WritingUsedIndex number more) value is p2 opened left a = gives_index link_config is p p2 memory after end number more value left a
+step_keeps_end link_config p memory after end RingingPoll value is p2 opened left a = still link_config p memory after end RingingPoll value left (moves Closed tt refl a.rests a)
 
 -- A call begins
 
@@ -78,8 +78,8 @@ either true x e h a = h refl
 either false x e h a = comes NotInRun (λ run. let f : true ≡ false = sym (ap in_run run) ∙ e in cc) refl a.rests a
 
 -- The neighbouring entry is in the last value that the end wrote to that word.
-job_next : (link_config : LinkConfig) (memory : ℕ → ℕ) (p : ℕ) (end : End) (frame : List ℕ) → IsLinkConfig link_config → IsOffered link_config frame → EndInvariant link_config memory p end Closed → IsNext link_config (fields link_config memory p) end.accepted (pending_of (config_of link_config p) end frame)
-job_next link_config memory p end frame is given a = let n = size_of link_config.sizes in let k = length end.accepted % n in let b = numbers link_config is in let least = b.size_least in let whole = b.size_whole in let below : k < n = mod_below (length end.accepted) n (omega arith) in record {
+pending_is_next : (link_config : LinkConfig) (memory : ℕ → ℕ) (p : ℕ) (end : End) (frame : List ℕ) → IsLinkConfig link_config → IsOffered link_config frame → EndInvariant link_config memory p end Closed → IsNext link_config (fields link_config memory p) end.accepted (pending_of (config_of link_config p) end frame)
+pending_is_next link_config memory p end frame is given a = let n = size_of link_config.sizes in let k = length end.accepted % n in let b = numbers link_config is in let least = b.size_least in let whole = b.size_whole in let below : k < n = mod_below (length end.accepted) n (omega arith) in record {
   frame = given;
   number = refl;
   lengths = refl;
@@ -89,11 +89,11 @@ job_next link_config memory p end frame is given a = let n = size_of link_config
       field_read link_config memory p (field.AvailEntry e) _ spot (sym (a.written _ low) ∙ ap (λ w. memory (section_of link_config p + w)) place);
 }
 
-begins_lem : (link_config : LinkConfig) (p : ℕ) (memory : ℕ → ℕ) (end : End) (call : Call) → IsLinkConfig link_config → IsGivenTo link_config call → EndInvariant link_config memory p end Closed → EndInvariant link_config memory p end (first_place (config_of link_config p) end call)
-begins_lem link_config p memory end Tick is given a = comes (ReadingOtherState end.handshake) refl refl a.rests a
-begins_lem link_config p memory end Stop is given a = comes (WritingState 0) tt refl a.rests a
-begins_lem link_config p memory end (Offer frame) is given a = either (in_run end.handshake.phase) (ReadingUsedIndex (pending_of (config_of link_config p) end frame) end.freed) refl (λ t. moves (ReadingUsedIndex (pending_of (config_of link_config p) end frame) end.freed) (run_is _ t, job_next link_config memory p end frame is given a, refl) refl (unmarked end a.rests (run_is _ t)) a) a
-begins_lem link_config p memory end Poll is given a = either (in_run end.handshake.phase) (ReadingAvailIndex (length end.delivered) (is_last (config_of link_config p) end.found_none)) refl (λ t. moves (ReadingAvailIndex (length end.delivered) (is_last (config_of link_config p) end.found_none)) (run_is _ t, refl) refl (unmarked end a.rests (run_is _ t)) a) a
+begin_keeps_end : (link_config : LinkConfig) (p : ℕ) (memory : ℕ → ℕ) (end : End) (call : Call) → IsLinkConfig link_config → IsGivenTo link_config call → EndInvariant link_config memory p end Closed → EndInvariant link_config memory p end (first_place (config_of link_config p) end call)
+begin_keeps_end link_config p memory end Tick is given a = comes (ReadingOtherState end.handshake) refl refl a.rests a
+begin_keeps_end link_config p memory end Stop is given a = comes (WritingState 0) tt refl a.rests a
+begin_keeps_end link_config p memory end (Offer frame) is given a = either (in_run end.handshake.phase) (ReadingUsedIndex (pending_of (config_of link_config p) end frame) end.freed) refl (λ t. moves (ReadingUsedIndex (pending_of (config_of link_config p) end frame) end.freed) (run_is _ t, pending_is_next link_config memory p end frame is given a, refl) refl (unmarked end a.rests (run_is _ t)) a) a
+begin_keeps_end link_config p memory end Poll is given a = either (in_run end.handshake.phase) (ReadingAvailIndex (length end.delivered) (is_last (config_of link_config p) end.found_none)) refl (λ t. moves (ReadingAvailIndex (length end.delivered) (is_last (config_of link_config p) end.found_none)) (run_is _ t, refl) refl (unmarked end a.rests (run_is _ t)) a) a
 
 -- Other words change
 
@@ -115,8 +115,8 @@ holds_kept link_config memory after p end (WritingAvailEntry pending) keep same 
 holds_kept link_config memory after p end (WritingAvailIndex pending) keep same h = (h.0, h.1, h.2, h.3, spelled_same same h.4)
 holds_kept link_config memory after p end place keep same h = h
 
-others_lem : (link_config : LinkConfig) (p : ℕ) (memory after : ℕ → ℕ) (end : End) (place : Place) → IsLinkConfig link_config → IsUntouched link_config memory after p → EndInvariant link_config memory p end place → EndInvariant link_config after p end place
-others_lem link_config p memory after end place is keep a = let same = fields_same link_config memory after p is keep.section in record {
+other_writes_keep_end : (link_config : LinkConfig) (p : ℕ) (memory after : ℕ → ℕ) (end : End) (place : Place) → IsLinkConfig link_config → IsUntouched link_config memory after p → EndInvariant link_config memory p end place → EndInvariant link_config after p end place
+other_writes_keep_end link_config p memory after end place is keep a = let same = fields_same link_config memory after p is keep.section in record {
   state = keep.state ∙ a.state;
   written = λ j lt. keep.section j lt ∙ a.written j lt;
   holds = holds_kept link_config memory after p end place keep.section same a.holds;
@@ -130,8 +130,8 @@ others_lem link_config p memory after end place is keep a = let same = fields_sa
 
 -- Own words
 
-own_lem : (link_config : LinkConfig) (p : ℕ) (memory after : ℕ → ℕ) (end : End) (place : Place) → IsLinkConfig link_config → p < 2 → MemoryAfter p memory (access_at (config_of link_config p) place) after → EndInvariant link_config memory p end place → OnlyOwnChange link_config memory after p
-own_lem link_config p memory after end place is p2 left a = by_place place left a.holds
+own_writes_keep_section : (link_config : LinkConfig) (p : ℕ) (memory after : ℕ → ℕ) (end : End) (place : Place) → IsLinkConfig link_config → p < 2 → MemoryAfter p memory (access_at (config_of link_config p) place) after → EndInvariant link_config memory p end place → OnlyOwnChange link_config memory after p
+own_writes_keep_section link_config p memory after end place is p2 left a = by_place place left a.holds
   where
     none : after ≡ memory → OnlyOwnChange link_config memory after p
     none e w ne apart = ap (λ (m : ℕ → ℕ). m w) e
@@ -140,22 +140,22 @@ own_lem link_config p memory after end place is p2 left a = by_place place left 
     by_place (Clearing at more state) left h = λ w ne apart. let clear = h.2 in let all = clear.2 in left.neighbour_word w (λ e. apart clear.0 (omega arith) (e ∙ clear.1))
     by_place (WritingState state) left h = λ w ne apart. left.neighbour_word w ne
     by_place Refusing left h = λ w ne apart. left.neighbour_word w ne
-    by_place (WritingFrameWord pending at more) left h = (puts_lem link_config is p p2 memory after end (WritingFrameWord pending at more) left h).only
-    by_place (WritingDescAddressLow pending) left h = (puts_lem link_config is p p2 memory after end (WritingDescAddressLow pending) left h).only
-    by_place (WritingDescAddressHigh pending) left h = (puts_lem link_config is p p2 memory after end (WritingDescAddressHigh pending) left h).only
-    by_place (WritingDescLength pending) left h = (puts_lem link_config is p p2 memory after end (WritingDescLength pending) left h).only
-    by_place (WritingDescFlags pending) left h = (puts_lem link_config is p p2 memory after end (WritingDescFlags pending) left h).only
-    by_place (WritingAvailEntry pending) left h = (puts_lem link_config is p p2 memory after end (WritingAvailEntry pending) left h).only
-    by_place (WritingAvailIndex pending) left h = (puts_lem link_config is p p2 memory after end (WritingAvailIndex pending) left h).only
-    by_place (WritingAvailEvent taken) left h = (puts_lem link_config is p p2 memory after end (WritingAvailEvent taken) left h).only
-    by_place (WritingUsedId number more entry) left h = (puts_lem link_config is p p2 memory after end (WritingUsedId number more entry) left h).only
-    by_place (WritingUsedLength number more) left h = (puts_lem link_config is p p2 memory after end (WritingUsedLength number more) left h).only
-    by_place (WritingUsedIndex number more) left h = (puts_lem link_config is p p2 memory after end (WritingUsedIndex number more) left h).only
+    by_place (WritingFrameWord pending at more) left h = (place_puts link_config is p p2 memory after end (WritingFrameWord pending at more) left h).only
+    by_place (WritingDescAddressLow pending) left h = (place_puts link_config is p p2 memory after end (WritingDescAddressLow pending) left h).only
+    by_place (WritingDescAddressHigh pending) left h = (place_puts link_config is p p2 memory after end (WritingDescAddressHigh pending) left h).only
+    by_place (WritingDescLength pending) left h = (place_puts link_config is p p2 memory after end (WritingDescLength pending) left h).only
+    by_place (WritingDescFlags pending) left h = (place_puts link_config is p p2 memory after end (WritingDescFlags pending) left h).only
+    by_place (WritingAvailEntry pending) left h = (place_puts link_config is p p2 memory after end (WritingAvailEntry pending) left h).only
+    by_place (WritingAvailIndex pending) left h = (place_puts link_config is p p2 memory after end (WritingAvailIndex pending) left h).only
+    by_place (WritingAvailEvent taken) left h = (place_puts link_config is p p2 memory after end (WritingAvailEvent taken) left h).only
+    by_place (WritingUsedId number more entry) left h = (place_puts link_config is p p2 memory after end (WritingUsedId number more entry) left h).only
+    by_place (WritingUsedLength number more) left h = (place_puts link_config is p p2 memory after end (WritingUsedLength number more) left h).only
+    by_place (WritingUsedIndex number more) left h = (place_puts link_config is p p2 memory after end (WritingUsedIndex number more) left h).only
     by_place place left h = none left
 
 -- In RESET an end writes no word.
-quiet_lem : (link_config : LinkConfig) (p : ℕ) (memory : ℕ → ℕ) (end : End) (place : Place) (word value : ℕ) → EndInvariant link_config memory p end place → end.handshake.phase ≡ Reset → access_at (config_of link_config p) place ≢ access.Write word value
-quiet_lem link_config p memory end place word value a reset e = by_place place e a.holds reset
+quiet_place_is_kept : (link_config : LinkConfig) (p : ℕ) (memory : ℕ → ℕ) (end : End) (place : Place) (word value : ℕ) → EndInvariant link_config memory p end place → end.handshake.phase ≡ Reset → access_at (config_of link_config p) place ≢ access.Write word value
+quiet_place_is_kept link_config p memory end place word value a reset e = by_place place e a.holds reset
   where
     by_place : (place : Place) → access_at (config_of link_config p) place ≡ access.Write word value → PlaceInvariant link_config memory p end place → end.handshake.phase ≡ Reset → ⊥
     by_place Closed e h = absurd (cc)
@@ -189,4 +189,4 @@ quiet_lem link_config p memory end place word value a reset e = by_place place e
     by_place RingingPoll e h = absurd (cc)
 
 pub alone_kept : EndInvariantIsKept
-alone_kept = record { begins = begins_lem; steps = steps_lem; own = own_lem; quiet = quiet_lem; resets = λ link_config p memory after end place is p2 stored a. falls link_config p memory after end place false is p2 stored a; others = others_lem }
+alone_kept = record { begins = begin_keeps_end; steps = step_keeps_end; own = own_writes_keep_section; quiet = quiet_place_is_kept; resets = λ link_config p memory after end place is p2 stored a. falls link_config p memory after end place false is p2 stored a; others = other_writes_keep_end }

@@ -4,7 +4,7 @@ use Rattle.std.specs.Prelude.{◌==◌, if◌then◌else◌}
 use Rattle.split_ring.specs.declared.sizes.TheConstants.{FRAME_OVERHEAD}
 use Rattle.split_ring.specs.Layout.{size_of, limit_of}
 use Rattle.split_ring.specs.Frames.{footprint_of, start_of, AreApart}
-use Rattle.split_ring.proofs.Frames.{frames_lem}
+use Rattle.split_ring.proofs.FramesAreLaidOut.{frames_are_laid_out}
 use Rattle.link_handshake.specs.declared.Phase.{Phase}
 use Rattle.link_handshake.specs.declared.Phase.TheVariants.{Ready, Run}
 use Rattle.link_handshake.specs.PhaseTable.{state_of}
@@ -87,7 +87,7 @@ sent_kept {link_config} {field} {now} {accepted} {freed} {returned} is same h = 
   used = same UsedIndex tt ∙ h.used;
   spelled = λ k from below.
       let s = h.spelled k from below in
-      let placed = frames_lem.placed link_config.sizes (lengths_of accepted) k is.queue in
+      let placed = frames_are_laid_out.placed link_config.sizes (lengths_of accepted) k is.queue in
       spelled_kept placed.even (λ f live na nu. same f (live_of link_config freed accepted k (4 * words_for (length (frame_at accepted k))) f from below (placed.holds s.offered.most) live)) s;
 }
 
@@ -102,21 +102,21 @@ sent_same same h = record { available = same AvailIndex ∙ h.available; used = 
 long_of : (accepted : List (List ℕ)) (pending : PendingOffer) → pending.number ≡ length accepted → pending.lengths ≡ lengths_of (accepted ++ pending.frame ∷ []) → pending.lengths pending.number ≡ length pending.frame
 long_of accepted pending number lengths = ap (λ (l : ℕ → ℕ). l pending.number) lengths ∙ (ap (lengths_of (accepted ++ pending.frame ∷ [])) number ∙ last_length accepted pending.frame)
 
-job_length : {link_config : LinkConfig} {field : Field → ℕ} {accepted : List (List ℕ)} {pending : PendingOffer} → IsNext link_config field accepted pending → pending.lengths pending.number ≡ length pending.frame
-job_length {link_config} {field} {accepted} {pending} next = long_of accepted pending next.number next.lengths
+pending_length : {link_config : LinkConfig} {field : Field → ℕ} {accepted : List (List ℕ)} {pending : PendingOffer} → IsNext link_config field accepted pending → pending.lengths pending.number ≡ length pending.frame
+pending_length {link_config} {field} {accepted} {pending} next = long_of accepted pending next.number next.lengths
 
-pub job_good_at : (link_config : LinkConfig) → IsLinkConfig link_config → (accepted : List (List ℕ)) (pending : PendingOffer) → pending.number ≡ length accepted → pending.lengths ≡ lengths_of (accepted ++ pending.frame ∷ []) → length pending.frame ≤ link_config.sizes.mtu + FRAME_OVERHEAD →
+pub pending_is_good_at : (link_config : LinkConfig) → IsLinkConfig link_config → (accepted : List (List ℕ)) (pending : PendingOffer) → pending.number ≡ length accepted → pending.lengths ≡ lengths_of (accepted ++ pending.frame ∷ []) → length pending.frame ≤ link_config.sizes.mtu + FRAME_OVERHEAD →
     IsGood link_config (start_for link_config pending) (length pending.frame)
-job_good_at link_config is accepted pending number lengths most =
+pending_is_good_at link_config is accepted pending number lengths most =
     let long : pending.lengths pending.number ≡ length pending.frame = long_of accepted pending number lengths in
     subst (IsGood link_config (start_for link_config pending)) long (start_good link_config is pending.lengths pending.number (omega arith))
 
-pub job_good : {link_config : LinkConfig} {field : Field → ℕ} {accepted : List (List ℕ)} {pending : PendingOffer} → IsLinkConfig link_config → IsNext link_config field accepted pending → IsGood link_config (start_for link_config pending) (length pending.frame)
-job_good {link_config} {field} {accepted} {pending} is next = job_good_at link_config is accepted pending next.number next.lengths next.frame.most
+pub pending_is_good : {link_config : LinkConfig} {field : Field → ℕ} {accepted : List (List ℕ)} {pending : PendingOffer} → IsLinkConfig link_config → IsNext link_config field accepted pending → IsGood link_config (start_for link_config pending) (length pending.frame)
+pending_is_good {link_config} {field} {accepted} {pending} is next = pending_is_good_at link_config is accepted pending next.number next.lengths next.frame.most
 
 -- A frame stays at its place when one more is accepted.
 pub start_before : (link_config : LinkConfig) (frames : List (List ℕ)) (g : List ℕ) (k : ℕ) → k < length frames → start_in link_config (frames ++ g ∷ []) k ≡ start_in link_config frames k
-start_before link_config frames g k low = frames_lem.by_prefix link_config.sizes (lengths_of (frames ++ g ∷ [])) (lengths_of frames) k (λ j le. length_before frames g j (omega arith))
+start_before link_config frames g k low = frames_are_laid_out.by_prefix link_config.sizes (lengths_of (frames ++ g ∷ [])) (lengths_of frames) k (λ j le. length_before frames g j (omega arith))
 
 pub next_kept : {link_config : LinkConfig} {field now : Field → ℕ} {accepted : List (List ℕ)} {pending : PendingOffer} → ((e : ℕ) → e ≢ pending.number % size_of link_config.sizes → now (AvailEntry e) ≡ field (AvailEntry e)) → IsNext link_config field accepted pending → IsNext link_config now accepted pending
 next_kept same h = record { frame = h.frame; number = h.number; lengths = h.lengths; neighbour_word = λ e ne half. h.neighbour_word e ne half ∙ sym (same e ne) }
@@ -137,14 +137,14 @@ pub free_word : {link_config : LinkConfig} {field : Field → ℕ} {accepted : L
     Live link_config freed accepted (DataWord (start_for link_config pending / 4 + at)) → ⊥
 free_word {link_config} {field} {accepted} {pending} freed at is next room below live =
     let k = live.0 in let from = live.1 in let in_flight = live.2 in let low = live.3.0 in let high = live.3.1 in
-    let number = next.number in let long = job_length next in let most = next.frame.most in
-    let placed = frames_lem.placed link_config.sizes pending.lengths pending.number is.queue in
+    let number = next.number in let long = pending_length next in let most = next.frame.most in
+    let placed = frames_are_laid_out.placed link_config.sizes pending.lengths pending.number is.queue in
     let holds = placed.holds (omega arith) in let even = placed.even in
     let same : (j : ℕ) → j < length accepted → pending.lengths j ≡ lengths_of accepted j =
     λ j lt. ap (λ (l : ℕ → ℕ). l j) next.lengths ∙ length_before accepted pending.frame j lt in
-    let start : start_of link_config.sizes pending.lengths k ≡ start_in link_config accepted k = frames_lem.by_prefix link_config.sizes pending.lengths (lengths_of accepted) k (λ j le. same j (omega arith)) in
+    let start : start_of link_config.sizes pending.lengths k ≡ start_in link_config accepted k = frames_are_laid_out.by_prefix link_config.sizes pending.lengths (lengths_of accepted) k (λ j le. same j (omega arith)) in
     let bytes : footprint_of link_config.sizes (pending.lengths k) ≡ footprint_of link_config.sizes (lengths_of accepted k) = ap (footprint_of link_config.sizes) (same k in_flight) in
-    meets_none _ _ _ _ (4 * (start_for link_config pending / 4 + at)) (frames_lem.apart link_config.sizes pending.lengths freed pending.number k is.queue room from (omega arith)) (omega arith) (omega arith) (omega arith) (omega arith)
+    meets_none _ _ _ _ (4 * (start_for link_config pending / 4 + at)) (frames_are_laid_out.apart link_config.sizes pending.lengths freed pending.number k is.queue room from (omega arith)) (omega arith) (omega arith) (omega arith) (omega arith)
   where
     meets_none : (from bytes other others word : ℕ) → AreApart from bytes other others → from ≤ word → word < from + bytes → other ≤ word → word < other + others → ⊥
     meets_none from bytes other others word (inl h) a b c d = omega arith

@@ -8,8 +8,8 @@ use Rattle.std.proofs.Math.Nat.{mul-le-mul_left}
 use Rattle.split_ring.specs.declared.sizes.TheConstants.{FRAME_OVERHEAD}
 use Rattle.split_ring.specs.Layout.{Sizes, HasBounds, size_of, limit_of, data_area_start}
 use Rattle.split_ring.specs.Frames.{start_of}
-use Rattle.split_ring.proofs.Bounds.{bounds}
-use Rattle.split_ring.proofs.Frames.{frames_lem}
+use Rattle.split_ring.proofs.QueueHasBounds.{bounds}
+use Rattle.split_ring.proofs.FramesAreLaidOut.{frames_are_laid_out}
 use Rattle.call_grammar.specs.Words.{words_for}
 use Rattle.call_grammar.proofs.OfferLists.{yes, no}
 use Rattle.link_invariant.specs.Fields.{Field, AvailIndex, UsedIndex, AvailEvent, AvailEntry, UsedId, UsedLength, AddressLow, AddressHigh, DescLength, DescFlags, DataWord, is_field, field_word, part_of}
@@ -40,11 +40,11 @@ Lies q (DescLength i) = i < size_of q
 Lies q (DescFlags i) = i < size_of q
 Lies q (DataWord w) = (data_area_start q / 4 ≤ w) × (w < q.out / 4)
 
-one_tells : (k n : ℕ) → nat_lt k n ≡ true → k < n
-one_tells k n h = grind (arith, nat_tests)
+less_of_test : (k n : ℕ) → nat_lt k n ≡ true → k < n
+less_of_test k n h = grind (arith, nat_tests)
 
-both_tell : (i m n : ℕ) → (nat_le m i && nat_lt i n) ≡ true → (m ≤ i) × (i < n)
-both_tell i m n h = (grind (arith, nat_tests), grind (arith, nat_tests))
+range_of_tests : (i m n : ℕ) → (nat_le m i && nat_lt i n) ≡ true → (m ≤ i) × (i < n)
+range_of_tests i m n h = (grind (arith, nat_tests), grind (arith, nat_tests))
 
 pub one_test : (i m : ℕ) → i < m → nat_lt i m ≡ true
 one_test i m a = grind (arith, nat_tests)
@@ -56,14 +56,14 @@ lies : (q : Sizes) (f : Field) → is_field q f ≡ true → Lies q f
 lies q AvailIndex h = tt
 lies q UsedIndex h = tt
 lies q AvailEvent h = tt
-lies q (DataWord w) h = both_tell w (data_area_start q / 4) (q.out / 4) h
-lies q (AvailEntry k) h = one_tells k (size_of q) h
-lies q (UsedId k) h = one_tells k (size_of q) h
-lies q (UsedLength k) h = one_tells k (size_of q) h
-lies q (AddressLow k) h = one_tells k (size_of q) h
-lies q (AddressHigh k) h = one_tells k (size_of q) h
-lies q (DescLength k) h = one_tells k (size_of q) h
-lies q (DescFlags k) h = one_tells k (size_of q) h
+lies q (DataWord w) h = range_of_tests w (data_area_start q / 4) (q.out / 4) h
+lies q (AvailEntry k) h = less_of_test k (size_of q) h
+lies q (UsedId k) h = less_of_test k (size_of q) h
+lies q (UsedLength k) h = less_of_test k (size_of q) h
+lies q (AddressLow k) h = less_of_test k (size_of q) h
+lies q (AddressHigh k) h = less_of_test k (size_of q) h
+lies q (DescLength k) h = less_of_test k (size_of q) h
+lies q (DescFlags k) h = less_of_test k (size_of q) h
 
 -- Frames
 
@@ -77,7 +77,7 @@ pub record IsGood (link_config : LinkConfig) (start bytes : ℕ) : Type 0 where
 -- Each frame of a session is in range.
 pub start_good : (link_config : LinkConfig) → IsLinkConfig link_config → (length_of : ℕ → ℕ) (k : ℕ) → length_of k ≤ link_config.sizes.mtu + FRAME_OVERHEAD → IsGood link_config (start_of link_config.sizes length_of k) (length_of k)
 start_good link_config is length_of k short =
-    let placed = frames_lem.placed link_config.sizes length_of k is.queue in
+    let placed = frames_are_laid_out.placed link_config.sizes length_of k is.queue in
     let holds = placed.holds short in
     let inside = placed.inside short in
     record { even = placed.even; after = placed.after; inside = omega arith }

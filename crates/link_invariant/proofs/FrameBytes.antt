@@ -33,27 +33,27 @@ rest_words words at a b c d rest has j low =
 first_word : (words : ℕ → ℕ) (at : ℕ) (frame : List ℕ) → 0 < length frame → HasFrame words at frame → words at ≡ frame_word frame 0
 first_word words at frame some has = let here : at ≡ at + 0 = omega arith in ap words here ∙ has 0 (omega arith)
 
-pub bytes_lem : (words : ℕ → ℕ) (place at : ℕ) (frame : List ℕ) → place ≡ 4 * at → HasFrame words at frame → All IsByte frame → frame ≡ bytes_from words place (length frame)
-bytes_lem words place at [] is has all = refl
-bytes_lem words place at (a ∷ []) is has all =
+pub frame_is_bytes : (words : ℕ → ℕ) (place at : ℕ) (frame : List ℕ) → place ≡ 4 * at → HasFrame words at frame → All IsByte frame → frame ≡ bytes_from words place (length frame)
+frame_is_bytes words place at [] is has all = refl
+frame_is_bytes words place at (a ∷ []) is has all =
     let x = byte_head a [] all in
     let w = first_word words at (a ∷ []) (omega arith) has in
     let p = word_parts a 0 0 0 (words at) x (omega arith) (omega arith) (omega arith) (w ∙ omega arith) in
     let e = byte_of words place at 0 (omega arith) (omega arith) ∙ p.0 in cc
-bytes_lem words place at (a ∷ (b ∷ [])) is has all =
+frame_is_bytes words place at (a ∷ (b ∷ [])) is has all =
     let x = byte_head a (b ∷ []) all in let t = byte_tail a (b ∷ []) all in let y = byte_head b [] t in
     let w = first_word words at (a ∷ (b ∷ [])) (omega arith) has in
     let p = word_parts a b 0 0 (words at) x y (omega arith) (omega arith) (w ∙ omega arith) in
     let e = byte_of words place at 0 (omega arith) (omega arith) ∙ p.0 in
     let f = byte_of words (place + 1) at 1 (omega arith) (omega arith) ∙ p.1 in cc
-bytes_lem words place at (a ∷ (b ∷ (c ∷ []))) is has all =
+frame_is_bytes words place at (a ∷ (b ∷ (c ∷ []))) is has all =
     let x = byte_head a (b ∷ (c ∷ [])) all in let t = byte_tail a (b ∷ (c ∷ [])) all in let y = byte_head b (c ∷ []) t in let u = byte_tail b (c ∷ []) t in let z = byte_head c [] u in
     let w = first_word words at (a ∷ (b ∷ (c ∷ []))) (omega arith) has in
     let p = word_parts a b c 0 (words at) x y z (omega arith) (w ∙ omega arith) in
     let e = byte_of words place at 0 (omega arith) (omega arith) ∙ p.0 in
     let f = byte_of words (place + 1) at 1 (omega arith) (omega arith) ∙ p.1 in
     let g = byte_of words (place + 1 + 1) at 2 (omega arith) (omega arith) ∙ p.2 in cc
-bytes_lem words place at (a ∷ (b ∷ (c ∷ (d ∷ rest)))) is has all =
+frame_is_bytes words place at (a ∷ (b ∷ (c ∷ (d ∷ rest)))) is has all =
     let x = byte_head a (b ∷ (c ∷ (d ∷ rest))) all in let t = byte_tail a (b ∷ (c ∷ (d ∷ rest))) all in let y = byte_head b (c ∷ (d ∷ rest)) t in let u = byte_tail b (c ∷ (d ∷ rest)) t in
     let z = byte_head c (d ∷ rest) u in let v = byte_tail c (d ∷ rest) u in let r = byte_head d rest v in let others = byte_tail d rest v in
     let w = first_word words at (a ∷ (b ∷ (c ∷ (d ∷ rest)))) (omega arith) has in
@@ -62,4 +62,4 @@ bytes_lem words place at (a ∷ (b ∷ (c ∷ (d ∷ rest)))) is has all =
     let f = byte_of words (place + 1) at 1 (omega arith) (omega arith) ∙ p.1 in
     let g = byte_of words (place + 1 + 1) at 2 (omega arith) (omega arith) ∙ p.2 in
     let h = byte_of words (place + 1 + 1 + 1) at 3 (omega arith) (omega arith) ∙ p.3 in
-    let later = bytes_lem words (place + 1 + 1 + 1 + 1) (at + 1) rest (omega arith) (rest_words words at a b c d rest has) others in cc
+    let later = frame_is_bytes words (place + 1 + 1 + 1 + 1) (at + 1) rest (omega arith) (rest_words words at a b c d rest has) others in cc

@@ -51,5 +51,5 @@ whole (a ∷ (b ∷ (c ∷ (d ∷ rest)))) (suc count) fits least all =
     let e = byte_0 a b c d x in let f = byte_1 a b c d x y in let g = byte_2 a b c d x y z in let h = byte_3 a b c d x y z w in
     ap (λ (ws : List ℕ). take (suc (suc (suc (suc (length rest))))) (flat_map word_bytes ws)) (first_split a b c d rest count) ∙ cc
 
-pub frames_lem : FramesComeWhole
-frames_lem frame all = whole frame (words_for (length frame)) (omega arith) (omega arith) all
+pub frames_come_whole : FramesComeWhole
+frames_come_whole frame all = whole frame (words_for (length frame)) (omega arith) (omega arith) all

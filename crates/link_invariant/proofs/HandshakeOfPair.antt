@@ -5,7 +5,7 @@ use Rattle.link_handshake.specs.declared.Phase.{Phase}
 use Rattle.link_handshake.specs.declared.Phase.TheVariants.{Reset, Init, Ready, Run}
 use Rattle.link_handshake.specs.declared.Move.{Move}
 use Rattle.link_handshake.specs.declared.Move.TheVariants.{Stay}
-use Rattle.link_handshake.specs.PhaseTable.{move_on, state_of}
+use Rattle.link_handshake.specs.PhaseTable.{phase_move, state_of}
 use Rattle.link_handshake.specs.HandshakeState.{HandshakeState, move_of}
 use Rattle.call_grammar.specs.Ends.{End, with_marks, end_after}
 use Rattle.call_grammar.specs.Ticks.{tick_marks}
@@ -98,7 +98,7 @@ module _ (link_config : LinkConfig) (memory : ℕ → ℕ) (p : ℕ) (end : End)
     back = λ a. ((b.back a).0, one a);
     faces = λ a. let f = b.faces (⊎_elim (λ x. inl (earlier x)) inr a) in record {
       mine = f.mine;
-      theirs = f.theirs;
+      opposite = f.opposite;
       sends = subst (λ k. InFlight link_config (fields link_config memory (1 - p)) end.accepted end.freed k u.delivered u.returned w) (idle_freed end.freed place was ∙ sym (idle_freed end.freed next idle)) f.sends;
       takes = takes_on next (λ k. refl) (idle_polls link_config (fields link_config memory p) u.accepted next idle) f.takes;
     };
@@ -112,23 +112,23 @@ module _ (link_config : LinkConfig) (memory : ℕ → ℕ) (p : ℕ) (end : End)
   rises : (place : Place) (value : ℕ) → IsIdle place → end.handshake.phase ≡ Ready → 2 ≤ value → value ≡ state_of u.handshake.phase → Before link_config memory p end place u w → Leads link_config memory p u w end (WritingState 3)
   rises place value was ready high seen b = record {
     sound = (b.mark, not_refusing (WritingState 3) tt);
-    from = λ a. ((λ e. let s = ap state_of e in omega arith), λ e. let low : u.handshake.phase ≡ Reset = subst (PlaceInvariant link_config memory (1 - p) u) e b.theirs.holds in let s = ap state_of low in omega arith);
+    from = λ a. ((λ e. let s = ap state_of e in omega arith), λ e. let low : u.handshake.phase ≡ Reset = subst (PlaceInvariant link_config memory (1 - p) u) e b.opposite.holds in let s = ap state_of low in omega arith);
     back = λ a. (not_phase {a = Ready} {b = Init} (λ f. omega arith) ready, set_apart refl (λ e. omega arith));
     faces = λ a. ⊎_elim (λ run. old (b.faces (inr (inl run)))) (⊎_elim new (λ low. absurd (omega arith))) (phases u.handshake.phase);
   }
     where
       old : Facing link_config memory p end place u w → Facing link_config memory p end (WritingState 3) u w
-      old f = record { mine = f.mine; theirs = f.theirs; sends = subst (λ k. InFlight link_config (fields link_config memory (1 - p)) end.accepted end.freed k u.delivered u.returned w) (idle_freed end.freed place was) f.sends; takes = takes_on (WritingState 3) (λ k. refl) tt f.takes }
+      old f = record { mine = f.mine; opposite = f.opposite; sends = subst (λ k. InFlight link_config (fields link_config memory (1 - p)) end.accepted end.freed k u.delivered u.returned w) (idle_freed end.freed place was) f.sends; takes = takes_on (WritingState 3) (λ k. refl) tt f.takes }
 
       new : u.handshake.phase ≡ Ready → Facing link_config memory p end (WritingState 3) u w
-      new they = let x = b.mine.ready ready in let y = b.theirs.ready they in record {
+      new they = let x = b.mine.ready ready in let y = b.opposite.ready they in record {
         mine = b.mine.sent (subst Opened (sym ready) tt);
-        theirs = b.theirs.sent (subst Opened (sym they) tt);
-        sends = link_blank link_config memory memory p (1 - p) end u (fields link_config memory (1 - p)) end.freed w x y (quiet_polls link_config memory (1 - p) u w (fields link_config memory (1 - p)) end.accepted (not_phase {a = Ready} {b = Run} (λ f. omega arith) they) b.theirs.holds);
+        opposite = b.opposite.sent (subst Opened (sym they) tt);
+        sends = link_blank link_config memory memory p (1 - p) end u (fields link_config memory (1 - p)) end.freed w x y (quiet_polls link_config memory (1 - p) u w (fields link_config memory (1 - p)) end.accepted (not_phase {a = Ready} {b = Run} (λ f. omega arith) they) b.opposite.holds);
         takes = link_blank link_config memory memory (1 - p) p u end (fields link_config memory p) (freed_at u.freed w) (WritingState 3) y x tt;
       }
 
-  ticks : (handshake : HandshakeState) (phase : Phase) (value : ℕ) → end.handshake.phase ≡ phase → value ≡ state_of u.handshake.phase → Before link_config memory p end (ReadingOtherState handshake) u w → Leads link_config memory p u w end (tick_place (config_of link_config p) (move_on phase value))
+  ticks : (handshake : HandshakeState) (phase : Phase) (value : ℕ) → end.handshake.phase ≡ phase → value ≡ state_of u.handshake.phase → Before link_config memory p end (ReadingOtherState handshake) u w → Leads link_config memory p u w end (tick_place (config_of link_config p) (phase_move phase value))
   ticks h Reset zero is seen b = idles (ReadingOtherState h) (WritingState 1) tt tt (set_apart refl (λ e. omega arith)) (λ a. let high = attends_high u w a in absurd (omega arith)) b
   ticks h Reset (suc zero) is seen b = idles (ReadingOtherState h) (WritingState 1) tt tt (set_apart refl (λ e. omega arith)) (λ a. let high = attends_high u w a in absurd (omega arith)) b
   ticks h Reset (suc (suc more)) is seen b = idles (ReadingOtherState h) Closed tt tt (set_apart refl (λ e. omega arith)) (λ a. set_apart refl (λ e. omega arith)) b
@@ -146,15 +146,15 @@ module _ (link_config : LinkConfig) (memory : ℕ → ℕ) (p : ℕ) (end : End)
 
   pub leads_state : (handshake : HandshakeState) (value : ℕ) → value ≡ memory (1 - p) → Before link_config memory p end (ReadingOtherState handshake) u w → Leads link_config memory p u w (end_after end (step_at (config_of link_config p) (ReadingOtherState handshake) value)) (next_place (config_of link_config p) (ReadingOtherState handshake) value)
   leads_state handshake value met b =
-      let same : move_of handshake value ≡ move_on end.handshake.phase value = ap (λ (h : HandshakeState). move_of h value) b.mine.holds ∙ no end.handshake.mark Stay (move_on end.handshake.phase value) b.mark in
+      let same : move_of handshake value ≡ phase_move end.handshake.phase value = ap (λ (h : HandshakeState). move_of h value) b.mine.holds ∙ no end.handshake.mark Stay (phase_move end.handshake.phase value) b.mark in
       subst (λ (m : Move). Leads link_config memory p u w (with_marks end (tick_marks value m)) (tick_place (config_of link_config p) m)) (sym same)
-      (subst (λ (e : End). Leads link_config memory p u w e (tick_place (config_of link_config p) (move_on end.handshake.phase value))) (sym (tick_quiet end value (move_on end.handshake.phase value)))
-      (ticks handshake end.handshake.phase value refl (met ∙ b.theirs.state) b))
+      (subst (λ (e : End). Leads link_config memory p u w e (tick_place (config_of link_config p) (phase_move end.handshake.phase value))) (sym (tick_quiet end value (phase_move end.handshake.phase value)))
+      (ticks handshake end.handshake.phase value refl (met ∙ b.opposite.state) b))
 
 module _ (link_config : LinkConfig) (memory after : ℕ → ℕ) (p : ℕ) (end : End) (u : End) (w : Place) where
   -- No end is attached.
   alone_leads : (now : End) (next : Place) → now.handshake.mark ≡ false → IsIdle next → (IsAttached now next → ⊥) → (IsAttached u w → ⊥) → Leads link_config after p u w now next
-  alone_leads now next mark idle mine theirs = record { sound = (mark, not_refusing next idle); from = λ a. absurd (mine a); back = λ a. absurd (theirs a); faces = λ a. absurd (⊎_elim mine theirs a) }
+  alone_leads now next mark idle mine opposite = record { sound = (mark, not_refusing next idle); from = λ a. absurd (mine a); back = λ a. absurd (opposite a); faces = λ a. absurd (⊎_elim mine opposite a) }
 
   pub leads_clear : (at more state value : ℕ) → Before link_config memory p end (Clearing at more state) u w → Leads link_config after p u w (end_after end (step_at (config_of link_config p) (Clearing at more state) value)) (next_place (config_of link_config p) (Clearing at more state) value)
   leads_clear at more state value b = cleared more
@@ -180,7 +180,7 @@ module _ (link_config : LinkConfig) (memory after : ℕ → ℕ) (p : ℕ) (end 
       EndInvariant link_config memory p end place → Facing link_config memory p end place u w → Facing link_config after p now next u w
   same_faces now place next idle ac fr de re same p2 a f = record {
     mine = subst (λ x. OwnSection link_config (fields link_config after p) x now.freed now.returned) (sym ac) (subst (λ x. OwnSection link_config (fields link_config after p) end.accepted x now.returned) (sym fr) (subst (λ x. OwnSection link_config (fields link_config after p) end.accepted end.freed x) (sym re) (sent_same (λ g. same p g p2) f.mine)));
-    theirs = sent_same (λ g. same (1 - p) g (omega arith)) f.theirs;
+    opposite = sent_same (λ g. same (1 - p) g (omega arith)) f.opposite;
     sends = let l = f.sends in record { returns = let r = l.returns in omega arith; delivers = l.delivers; prefix = (l.prefix.0, ac ∙ l.prefix.1); named = λ k from below. same (1 - p) _ (omega arith) ∙ l.named k (let read = idle_freed now.freed next idle in let low = freed_low link_config memory p end place a in omega arith) below; polls = subst (λ x. Polls link_config (fields link_config after (1 - p)) x w) (sym ac) (polls_kept link_config (fields link_config memory (1 - p)) (fields link_config after (1 - p)) end.accepted w (λ g. same (1 - p) g (omega arith)) l.polls) };
     takes = let t = f.takes in record { returns = let r = t.returns in omega arith; delivers = let v = t.delivers in let e = ap length de in omega arith; prefix = (t.prefix.0, t.prefix.1 ∙ ap (λ (x : List (List ℕ)). x ++ t.prefix.0) (sym de)); named = λ k from below. same p _ p2 ∙ t.named k from (omega arith); polls = idle_polls link_config (fields link_config after p) u.accepted next idle };
   }

@@ -17,9 +17,9 @@ use Rattle.link_invariant.specs.EndInvariant.{frame_at, start_in, start_for, Spe
 use Rattle.link_invariant.specs.Pair.{InFlightBetween, IsAttached, OpensNone}
 use Rattle.link_invariant.specs.LinkInvariant.{LinkInvariant, LinkInvariantIsKept, HonestEndsAgree, SectionSpells, FramesAreSpelled}
 use Rattle.link_invariant.proofs.Fields.{numbers, one_test, is_word, IsGood, start_good, field_read}
-use Rattle.link_invariant.proofs.FrameBytes.{bytes_lem}
-use Rattle.link_invariant.proofs.EndObligations.{spelled_kept, job_good_at}
-use Rattle.link_invariant.proofs.WriteSteps.{puts_lem}
+use Rattle.link_invariant.proofs.FrameBytes.{frame_is_bytes}
+use Rattle.link_invariant.proofs.EndObligations.{spelled_kept, pending_is_good_at}
+use Rattle.link_invariant.proofs.WriteSteps.{place_puts}
 use Rattle.link_invariant.proofs.EndInvariantKept.{alone_kept}
 use Rattle.link_invariant.proofs.PairKept.{still, by_state, untouched, starts_alone, pair_kept}
 
@@ -31,23 +31,23 @@ turned link_config honest memory after ends next places goes p end place is p2 o
     (λ ne. let e : q ≡ 1 - p = omega arith in subst (λ x. EndInvariant link_config after q x (goes q)) (sym (only.ends_stay q ne)) (subst (EndInvariant link_config after q (ends q)) (sym (only.places_stay q ne))
     (alone_kept.others link_config q memory after (ends q) (places q) is (subst (IsUntouched link_config memory after) (sym e) keep) (m.alone q q2 hq))))
 
-begins_lem : (link_config : LinkConfig) (honest : ℕ → Bool) (memory : ℕ → ℕ) (ends next : ℕ → End) (places goes : ℕ → Place) (p : ℕ) (call : Call) → IsLinkConfig link_config → p < 2 → honest p ≡ true → BeginsCall link_config ends next places goes p call →
+begin_keeps_link : (link_config : LinkConfig) (honest : ℕ → Bool) (memory : ℕ → ℕ) (ends next : ℕ → End) (places goes : ℕ → Place) (p : ℕ) (call : Call) → IsLinkConfig link_config → p < 2 → honest p ≡ true → BeginsCall link_config ends next places goes p call →
     LinkInvariant link_config honest memory ends places → LinkInvariant link_config honest memory next goes
-begins_lem link_config honest memory ends next places goes p call is p2 hp begun m = record {
+begin_keeps_link link_config honest memory ends next places goes p call is p2 hp begun m = record {
   alone = turned link_config honest memory memory ends next places goes p _ _ is p2 begun.comes (still link_config is p p2 memory memory (ends p) refl) (alone_kept.begins link_config p memory (ends p) call is begun.given (subst (EndInvariant link_config memory p (ends p)) begun.closed (m.alone p p2 hp))) m;
   pair = λ h0 h1. pair_kept.begins link_config memory ends next places goes p call is p2 begun (m.pair h0 h1);
 }
 
-steps_lem : (link_config : LinkConfig) (honest : ℕ → Bool) (memory after : ℕ → ℕ) (ends next : ℕ → End) (places goes : ℕ → Place) (p value : ℕ) → IsLinkConfig link_config → p < 2 → honest p ≡ true → TakesStep link_config memory after ends next places goes p value →
+step_keeps_link : (link_config : LinkConfig) (honest : ℕ → Bool) (memory after : ℕ → ℕ) (ends next : ℕ → End) (places goes : ℕ → Place) (p value : ℕ) → IsLinkConfig link_config → p < 2 → honest p ≡ true → TakesStep link_config memory after ends next places goes p value →
     LinkInvariant link_config honest memory ends places → LinkInvariant link_config honest after next goes
-steps_lem link_config honest memory after ends next places goes p value is p2 hp step m = let a = m.alone p p2 hp in record {
+step_keeps_link link_config honest memory after ends next places goes p value is p2 hp step m = let a = m.alone p p2 hp in record {
   alone = turned link_config honest memory after ends next places goes p _ _ is p2 step.comes (untouched link_config is p p2 memory after (ends p) (places p) a step.leaves) (alone_kept.steps link_config p memory after (ends p) (places p) value is p2 step.opened step.leaves a) m;
   pair = λ h0 h1. pair_kept.steps link_config memory after ends next places goes p value is p2 step (m.pair h0 h1);
 }
 
-resets_lem : (link_config : LinkConfig) (honest : ℕ → Bool) (memory after : ℕ → ℕ) (ends next : ℕ → End) (places goes : ℕ → Place) (p : ℕ) → IsLinkConfig link_config → p < 2 → honest p ≡ true → IsReset memory after ends next places goes p →
+reset_keeps_link : (link_config : LinkConfig) (honest : ℕ → Bool) (memory after : ℕ → ℕ) (ends next : ℕ → End) (places goes : ℕ → Place) (p : ℕ) → IsLinkConfig link_config → p < 2 → honest p ≡ true → IsReset memory after ends next places goes p →
     LinkInvariant link_config honest memory ends places → LinkInvariant link_config honest after next goes
-resets_lem link_config honest memory after ends next places goes p is p2 hp reset m = record {
+reset_keeps_link link_config honest memory after ends next places goes p is p2 hp reset m = record {
   alone = turned link_config honest memory after ends next places goes p _ _ is p2 reset.comes (by_state link_config is p p2 memory after (ends p) 0 reset.stored) (alone_kept.resets link_config p memory after (ends p) (places p) is p2 reset.stored (m.alone p p2 hp)) m;
   pair = λ h0 h1. pair_kept.resets link_config memory after ends next places goes p is p2 reset (m.pair h0 h1);
 }
@@ -55,9 +55,9 @@ resets_lem link_config honest memory after ends next places goes p is p2 hp rese
 pub whole_kept : LinkInvariantIsKept
 whole_kept = record {
   starts = λ link_config honest memory ends places none new closed. record { alone = λ p p2 hp. starts_alone link_config memory ends places none new closed p; pair = λ h0 h1. pair_kept.starts link_config memory ends places none new closed };
-  begins = begins_lem;
-  steps = steps_lem;
-  resets = resets_lem;
+  begins = begin_keeps_link;
+  steps = step_keeps_link;
+  resets = reset_keeps_link;
   others = λ link_config honest memory after ends places is keep m. record {
     alone = λ p p2 hp. alone_kept.others link_config p memory after (ends p) (places p) is (keep p p2 hp) (m.alone p p2 hp);
     pair = λ h0 h1. pair_kept.others link_config memory after ends places is (λ q q2. keep q q2 (dite (ℕ_discrete q 0) (λ e. ap honest e ∙ h0) (λ ne. let e : q ≡ 1 = omega arith in ap honest e ∙ h1))) (m.pair h0 h1);
@@ -104,18 +104,18 @@ spells link_config memory p k start frame is good s =
       address = (omega arith, omega arith, omega arith);
       length = (omega arith, omega arith, omega arith);
       flags = read (field.DescFlags d) (one_test _ _ size) ∙ s.flags;
-      bytes = bytes_lem words start (start / 4) frame (omega arith) (λ j lt. read (field.DataWord (start / 4 + j)) (is_word link_config is start (length frame) j good lt) ∙ s.words j lt) s.offered.bytes ∙
+      bytes = frame_is_bytes words start (start / 4) frame (omega arith) (λ j lt. read (field.DataWord (start / 4 + j)) (is_word link_config is start (length frame) j good lt) ∙ s.words j lt) s.offered.bytes ∙
           (ap (λ (a : ℕ). bytes_from words a (length frame)) (sym address) ∙ ap (λ (l : ℕ). bytes_from words (address_at link_config.sizes words d) l) (sym length_is));
     }
   where
     read : (f : Field) → is_field link_config.sizes f ≡ true → part_of f (memory (section_of link_config p + field_word link_config.sizes f)) ≡ fields link_config memory p f
     read f spot = field_read link_config memory p f (memory (section_of link_config p + field_word link_config.sizes f)) spot refl
 
-pub spelled_lem : FramesAreSpelled
-spelled_lem = record {
+pub frames_are_spelled : FramesAreSpelled
+frames_are_spelled = record {
   in_flight = λ link_config memory p end place k is a o from below. let s = (a.sent o).spelled k from below in
       spells link_config memory p k (start_in link_config end.accepted k) (frame_at end.accepted k) is (start_good link_config is (lengths_of end.accepted) k s.offered.most) s;
-  accepted = λ link_config memory after p end pending is p2 a left. let put = puts_lem link_config is p p2 memory after end (WritingAvailIndex pending) left a.holds in
-      let good = job_good_at link_config is end.accepted pending a.holds.1 a.holds.2 a.holds.4.offered.most in
+  accepted = λ link_config memory after p end pending is p2 a left. let put = place_puts link_config is p p2 memory after end (WritingAvailIndex pending) left a.holds in
+      let good = pending_is_good_at link_config is end.accepted pending a.holds.1 a.holds.2 a.holds.4.offered.most in
       spells link_config after p pending.number (start_for link_config pending) pending.frame is good (spelled_kept good.even (λ f live na nu. put.neighbour_word f na) a.holds.4);
 }

@@ -5,7 +5,7 @@ use Rattle.split_ring.specs.declared.ranges.FieldName.{FieldName}
 use Rattle.split_ring.specs.Layout.{limit_of}
 use Rattle.split_ring.specs.Frames.{has_room}
 use Rattle.link_handshake.specs.declared.Move.TheVariants.{Stay, Set, ClearThenSet}
-use Rattle.link_handshake.specs.PhaseTable.{move_on}
+use Rattle.link_handshake.specs.PhaseTable.{phase_move}
 use Rattle.link_handshake.specs.HandshakeState.{move_of}
 use Rattle.call_grammar.specs.Steps.{Mark, Reclaim, Full, Look}
 use Rattle.call_grammar.specs.Ends.{End, with_marks}
@@ -34,15 +34,15 @@ pub moves_set : (end : End) (value n : ℕ) → move_of end.handshake value ≡ 
 moves_set end value n is = by_mark end.handshake.mark refl
   where
     by_mark : (b : Bool) → end.handshake.mark ≡ b → MovesTo end.handshake.phase value n
-    by_mark true e = absurd (let stay : move_of end.handshake value ≡ Stay = yes end.handshake.mark Stay (move_on end.handshake.phase value) e in let f : Stay ≡ Set n = sym stay ∙ is in cc)
-    by_mark false e = inl (sym (no end.handshake.mark Stay (move_on end.handshake.phase value) e) ∙ is)
+    by_mark true e = absurd (let stay : move_of end.handshake value ≡ Stay = yes end.handshake.mark Stay (phase_move end.handshake.phase value) e in let f : Stay ≡ Set n = sym stay ∙ is in cc)
+    by_mark false e = inl (sym (no end.handshake.mark Stay (phase_move end.handshake.phase value) e) ∙ is)
 
 pub moves_clear : (end : End) (value n : ℕ) → move_of end.handshake value ≡ ClearThenSet n → MovesTo end.handshake.phase value n
 moves_clear end value n is = by_mark end.handshake.mark refl
   where
     by_mark : (b : Bool) → end.handshake.mark ≡ b → MovesTo end.handshake.phase value n
-    by_mark true e = absurd (let stay : move_of end.handshake value ≡ Stay = yes end.handshake.mark Stay (move_on end.handshake.phase value) e in let f : Stay ≡ ClearThenSet n = sym stay ∙ is in cc)
-    by_mark false e = inr (sym (no end.handshake.mark Stay (move_on end.handshake.phase value) e) ∙ is)
+    by_mark true e = absurd (let stay : move_of end.handshake value ≡ Stay = yes end.handshake.mark Stay (phase_move end.handshake.phase value) e in let f : Stay ≡ ClearThenSet n = sym stay ∙ is in cc)
+    by_mark false e = inr (sym (no end.handshake.mark Stay (phase_move end.handshake.phase value) e) ∙ is)
 
 -- Offers
 
@@ -76,37 +76,37 @@ ids_call config end pending freed zero side none is = by_bool (frame_fits config
 ids_call config end pending freed (suc more) side none is = let e = ap length none in (omega arith, omega arith)
 
 -- The marks of a reclaim.
-pub reclaim_rows : (link_config : LinkConfig) (theirs : Bool) (other side : Side) (end : End) (config : EndConfig) (pending : PendingOffer) (freed count : ℕ) (c : Bool) → has_room link_config.sizes pending.lengths freed pending.number ≡ c → Same end side → side.state ≡ 3 → ReadsIndex side side.freed count → MayReclaim theirs side other count →
+pub reclaim_rows : (link_config : LinkConfig) (other_honest : Bool) (other side : Side) (end : End) (config : EndConfig) (pending : PendingOffer) (freed count : ℕ) (c : Bool) → has_room link_config.sizes pending.lengths freed pending.number ≡ c → Same end side → side.state ≡ 3 → ReadsIndex side side.freed count → MayReclaim other_honest side other count →
     IsNextOf link_config side.accepted pending → length side.accepted ≤ freed + limit_of link_config.sizes → side.freed ≡ freed →
-    Follows link_config theirs other side (map Marked (if count == 0 then Reclaim 0 ∷ (if c then [] else Full ∷ []) else Reclaim count ∷ [])) (with_marks end (if count == 0 then Reclaim 0 ∷ (if c then [] else Full ∷ []) else Reclaim count ∷ [])) (ids_place config pending freed count)
-reclaim_rows link_config theirs other side end config pending freed zero false none same run read may next room f = let mid = record side { freed = side.freed + 0; reclaimed = 0; read = [] } in (
+    Follows link_config other_honest other side (map Marked (if count == 0 then Reclaim 0 ∷ (if c then [] else Full ∷ []) else Reclaim count ∷ [])) (with_marks end (if count == 0 then Reclaim 0 ∷ (if c then [] else Full ∷ []) else Reclaim count ∷ [])) (ids_place config pending freed count)
+reclaim_rows link_config other_honest other side end config pending freed zero false none same run read may next room f = let mid = record side { freed = side.freed + 0; reclaimed = 0; read = [] } in (
   mid,
   (mid, (refl, (run, read, may, refl)), (mid, (refl, (run, full_of link_config mid pending freed next none (let z : side.freed + 0 ≡ freed = omega arith in z) room, refl)), refl)),
   record { state = same.state; refused = same.refused; accepted = same.accepted; delivered = same.delivered; returned = same.returned; freed = ap (λ k. k + 0) same.freed; call = ids_call config (record end { freed = end.freed + 0 }) pending freed 0 mid refl refl },
 )
-reclaim_rows link_config theirs other side end config pending freed zero true has same run read may next room f = let mid = record side { freed = side.freed + 0; reclaimed = 0; read = [] } in (
+reclaim_rows link_config other_honest other side end config pending freed zero true has same run read may next room f = let mid = record side { freed = side.freed + 0; reclaimed = 0; read = [] } in (
   mid,
   (mid, (refl, (run, read, may, refl)), refl),
   record { state = same.state; refused = same.refused; accepted = same.accepted; delivered = same.delivered; returned = same.returned; freed = ap (λ k. k + 0) same.freed; call = ids_call config (record end { freed = end.freed + 0 }) pending freed 0 mid refl refl },
 )
-reclaim_rows link_config theirs other side end config pending freed (suc count) c test same run read may next room f = let mid = record side { freed = side.freed + suc count; reclaimed = suc count; read = [] } in
-    subst (λ (m : List Mark). Follows link_config theirs other side (map Marked m) (with_marks end m) (ReadingUsedId pending freed count)) (sym (no (suc count == 0) (Reclaim 0 ∷ (if c then [] else Full ∷ [])) (Reclaim (suc count) ∷ []) (ne_eqb (suc count) 0 (λ e. omega arith)))) (
+reclaim_rows link_config other_honest other side end config pending freed (suc count) c test same run read may next room f = let mid = record side { freed = side.freed + suc count; reclaimed = suc count; read = [] } in
+    subst (λ (m : List Mark). Follows link_config other_honest other side (map Marked m) (with_marks end m) (ReadingUsedId pending freed count)) (sym (no (suc count == 0) (Reclaim 0 ∷ (if c then [] else Full ∷ [])) (Reclaim (suc count) ∷ []) (ne_eqb (suc count) 0 (λ e. omega arith)))) (
       mid,
       (mid, (refl, (run, read, may, refl)), refl),
       record { state = same.state; refused = same.refused; accepted = same.accepted; delivered = same.delivered; returned = same.returned; freed = ap (λ k. k + suc count) same.freed; call = ids_call config (record end { freed = end.freed + suc count }) pending freed (suc count) mid refl refl },
     )
 
 -- The marks of an id that passed its test.
-pub id_rows : (link_config : LinkConfig) (theirs : Bool) (other side : Side) (end : End) (p : ℕ) (pending : PendingOffer) (freed more : ℕ) → Same end side → side.state ≡ 3 → IsNextOf link_config side.accepted pending → length side.accepted ≤ freed + limit_of link_config.sizes → side.freed ≡ freed + suc more → side.reclaimed ≡ length side.read + more → length side.read ≤ freed + 1 →
-    Follows link_config theirs other side (map Marked (if more == 0 then full_marks (config_of link_config p) pending (freed + 1) else [])) (with_marks end (if more == 0 then full_marks (config_of link_config p) pending (freed + 1) else [])) (ids_place (config_of link_config p) pending (freed + 1) more)
-id_rows link_config theirs other side end p pending freed zero same run next room f r l = by_bool (has_room link_config.sizes pending.lengths (freed + 1) pending.number) refl
+pub id_rows : (link_config : LinkConfig) (other_honest : Bool) (other side : Side) (end : End) (p : ℕ) (pending : PendingOffer) (freed more : ℕ) → Same end side → side.state ≡ 3 → IsNextOf link_config side.accepted pending → length side.accepted ≤ freed + limit_of link_config.sizes → side.freed ≡ freed + suc more → side.reclaimed ≡ length side.read + more → length side.read ≤ freed + 1 →
+    Follows link_config other_honest other side (map Marked (if more == 0 then full_marks (config_of link_config p) pending (freed + 1) else [])) (with_marks end (if more == 0 then full_marks (config_of link_config p) pending (freed + 1) else [])) (ids_place (config_of link_config p) pending (freed + 1) more)
+id_rows link_config other_honest other side end p pending freed zero same run next room f r l = by_bool (has_room link_config.sizes pending.lengths (freed + 1) pending.number) refl
   where
-    by_bool : (c : Bool) → has_room link_config.sizes pending.lengths (freed + 1) pending.number ≡ c → Follows link_config theirs other side (map Marked (if c then [] else Full ∷ [])) (with_marks end (if c then [] else Full ∷ [])) (if c then fill_place pending 0 (words_for (length pending.frame)) else Closed)
+    by_bool : (c : Bool) → has_room link_config.sizes pending.lengths (freed + 1) pending.number ≡ c → Follows link_config other_honest other side (map Marked (if c then [] else Full ∷ [])) (with_marks end (if c then [] else Full ∷ [])) (if c then fill_place pending 0 (words_for (length pending.frame)) else Closed)
     by_bool false none = (anew side, (anew side, (refl, (run, full_of link_config side pending (freed + 1) next none f (omega arith), refl)), refl), side_is (same_anew same) refl)
-    by_bool true has = silent link_config theirs other side same (fill_call end pending 0 (words_for (length pending.frame)) side)
-id_rows link_config theirs other side end p pending freed (suc more) same run next room f r l =
-    subst (λ (m : List Mark). Follows link_config theirs other side (map Marked m) (with_marks end m) (ReadingUsedId pending (freed + 1) more)) (sym (no (suc more == 0) (full_marks (config_of link_config p) pending (freed + 1)) [] (ne_eqb (suc more) 0 (λ e. omega arith))))
-    (silent link_config theirs other side same (omega arith, l))
+    by_bool true has = silent link_config other_honest other side same (fill_call end pending 0 (words_for (length pending.frame)) side)
+id_rows link_config other_honest other side end p pending freed (suc more) same run next room f r l =
+    subst (λ (m : List Mark). Follows link_config other_honest other side (map Marked m) (with_marks end m) (ReadingUsedId pending (freed + 1) more)) (sym (no (suc more == 0) (full_marks (config_of link_config p) pending (freed + 1)) [] (ne_eqb (suc more) 0 (λ e. omega arith))))
+    (silent link_config other_honest other side same (omega arith, l))
 
 -- Polls
 
@@ -119,20 +119,20 @@ pub words_call : (end : End) (number more entry address bytes count : ℕ) (side
 words_call end number more entry address bytes zero side some left = absurd (omega arith)
 words_call end number more entry address bytes (suc m) side some left = left
 
-pub look_rows : (link_config : LinkConfig) (theirs : Bool) (other side : Side) (end : End) (taken : ℕ) (last : Bool) (count : ℕ) → Same end side → side.state ≡ 3 → ReadsIndex side (length side.delivered) count → MayLook link_config.sizes theirs side other count →
-    Follows link_config theirs other side (map Marked (look_marks last count)) (with_marks end (look_marks last count)) (if count == 0 then none_place taken last else items_place taken count)
-look_rows link_config theirs other side end taken true zero same run read may = let mid = record side { looked = length side.delivered + 0; read = [] } in (
+pub look_rows : (link_config : LinkConfig) (other_honest : Bool) (other side : Side) (end : End) (taken : ℕ) (last : Bool) (count : ℕ) → Same end side → side.state ≡ 3 → ReadsIndex side (length side.delivered) count → MayLook link_config.sizes other_honest side other count →
+    Follows link_config other_honest other side (map Marked (look_marks last count)) (with_marks end (look_marks last count)) (if count == 0 then none_place taken last else items_place taken count)
+look_rows link_config other_honest other side end taken true zero same run read may = let mid = record side { looked = length side.delivered + 0; read = [] } in (
   mid,
   (mid, (refl, (run, read, may, refl)), (mid, (refl, (run, (let z : length side.delivered ≡ length side.delivered + 0 = omega arith in z), refl)), refl)),
   side_is (same_looked true mid.looked [] same) refl,
 )
-look_rows link_config theirs other side end taken false zero same run read may = let mid = record side { looked = length side.delivered + 0; read = [] } in (
+look_rows link_config other_honest other side end taken false zero same run read may = let mid = record side { looked = length side.delivered + 0; read = [] } in (
   mid,
   (mid, (refl, (run, read, may, refl)), refl),
   side_is (same_looked true mid.looked [] same) refl,
 )
-look_rows link_config theirs other side end taken last (suc more) same run read may = let mid = record side { looked = length side.delivered + suc more; read = [] } in let test = ne_eqb (suc more) 0 (λ e. omega arith) in
-    subst (λ (b : Bool). Follows link_config theirs other side (map Marked (if b then look_marks last 0 else Look (suc more) ∷ [])) (with_marks end (if b then look_marks last 0 else Look (suc more) ∷ [])) (if b then none_place taken last else ReadingAvailEntry taken more)) (sym test) (
+look_rows link_config other_honest other side end taken last (suc more) same run read may = let mid = record side { looked = length side.delivered + suc more; read = [] } in let test = ne_eqb (suc more) 0 (λ e. omega arith) in
+    subst (λ (b : Bool). Follows link_config other_honest other side (map Marked (if b then look_marks last 0 else Look (suc more) ∷ [])) (with_marks end (if b then look_marks last 0 else Look (suc more) ∷ [])) (if b then none_place taken last else ReadingAvailEntry taken more)) (sym test) (
       mid,
       (mid, (refl, (run, read, may, refl)), refl),
       side_is (same_looked (suc more == 0) mid.looked [] same) (ap (λ (d : List (List ℕ)). length d + suc more) same.delivered, refl),

@@ -42,8 +42,8 @@ ids_at link_config p field frames now freed pending zero e = by_room (frame_fits
 ids_at link_config p field frames now freed pending (suc more) e = (tt, refl, tt)
 
 -- The place after the write of the available index.
-tell_at : (link_config : LinkConfig) (p : ℕ) (field : Field → ℕ) (frames : List (List ℕ)) (freed number : ℕ) → IdsAt link_config field frames freed freed (notify_place (config_of link_config p) number)
-tell_at link_config p field frames freed number = by_bool (has_events link_config.sizes)
+notify_has_ids : (link_config : LinkConfig) (p : ℕ) (field : Field → ℕ) (frames : List (List ℕ)) (freed number : ℕ) → IdsAt link_config field frames freed freed (notify_place (config_of link_config p) number)
+notify_has_ids link_config p field frames freed number = by_bool (has_events link_config.sizes)
   where
     by_bool : (b : Bool) → IdsAt link_config field frames freed freed (if b then ReadingAvailEvent number else RingingOffer)
     by_bool true = (tt, refl, tt)
@@ -57,7 +57,7 @@ module _ (link_config : LinkConfig) (is : IsLinkConfig link_config) (p : ℕ) (m
   pub returned_is : (pending : PendingOffer) (freed value : ℕ) → value ≡ memory (section_of link_config (1 - p) + word_offset link_config.sizes UsedIndex) → EndInvariant link_config memory p end (ReadingUsedIndex pending freed) → Facing link_config memory p end (ReadingUsedIndex pending freed) u w →
       (end.freed + returned_by freed value ≡ u.returned) × (u.returned ≤ length end.accepted)
   returned_is pending freed value met a f = let h = a.holds in let l = f.sends in let same = h.2 in let r = l.returns in let v = l.delivers in let room = a.room in let b = numbers link_config is in let few = b.size_most in let lim = b.limit_most in
-      let index : high_half value ≡ u.returned % 65536 = field_read link_config memory (1 - p) field.UsedIndex value refl met ∙ f.theirs.used in
+      let index : high_half value ≡ u.returned % 65536 = field_read link_config memory (1 - p) field.UsedIndex value refl met ∙ f.opposite.used in
       let most : length u.delivered ≤ length end.accepted = prefix_most end.accepted u.delivered l.prefix.0 l.prefix.1 in (omega arith, omega arith)
     where
       prefix_most : (frames done rest : List (List ℕ)) → frames ≡ done ++ rest → length done ≤ length frames
@@ -104,7 +104,7 @@ module _ (link_config : LinkConfig) (p : ℕ) (memory after : ℕ → ℕ) (end 
   }
 
   pub sends_index : (pending : PendingOffer) (value : ℕ) → Puts link_config p memory after (WritingAvailIndex pending) → EndInvariant link_config memory p end (WritingAvailIndex pending) → Facing link_config memory p end (WritingAvailIndex pending) u w → Works link_config memory after p u w (end_after end (step_at (config_of link_config p) (WritingAvailIndex pending) value)) (notify_place (config_of link_config p) pending.number)
-  sends_index pending value put a f = let h = a.holds in let l = f.sends in let frame = pending.frame in let x = tell_at link_config p (fields link_config after p) u.accepted end.freed pending.number in record {
+  sends_index pending value put a f = let h = a.holds in let l = f.sends in let frame = pending.frame in let x = notify_has_ids link_config p (fields link_config after p) u.accepted end.freed pending.number in record {
     run = h.0;
     mark = mark;
     calm = x.0;

@@ -20,7 +20,7 @@ use Rattle.link_invariant.specs.Pair.{freed_at, Polls, InFlight, IsAttached, Pai
 use Rattle.link_invariant.specs.Laws.{PairIsKept}
 use Rattle.link_invariant.proofs.Fields.{fields_same, Put, theirs_stay}
 use Rattle.link_invariant.proofs.EndObligations.{by_test, opened, sent_same}
-use Rattle.link_invariant.proofs.WriteSteps.{puts_lem}
+use Rattle.link_invariant.proofs.WriteSteps.{place_puts}
 use Rattle.link_invariant.proofs.TickSteps.{not_phase}
 use Rattle.link_invariant.proofs.EndInvariantKept.{alone_kept}
 use Rattle.link_invariant.proofs.PairObligations.{Facing, facing, known, stepped, IsCalm, calm_not, Works, Before, Leads, link_same, takes_on}
@@ -49,7 +49,7 @@ module _ (link_config : LinkConfig) (is : IsLinkConfig link_config) (p : ℕ) (p
     sound = (works.mark, calm_not next Refusing works.calm (λ x. x));
     from = λ a. b.from (inl run);
     back = λ a. (not_phase {a = Run} {b = Init} (λ f. omega arith) works.run, calm_not next (WritingState 1) works.calm (λ x. x));
-    faces = λ a. record { mine = mine.sent (opened works.run); theirs = sent_same (λ f. same f) (b.faces (inl (inl run))).theirs; sends = link_same same works.sends; takes = works.takes };
+    faces = λ a. record { mine = mine.sent (opened works.run); opposite = sent_same (λ f. same f) (b.faces (inl (inl run))).opposite; sends = link_same same works.sends; takes = works.takes };
   }
 
 -- The obligations of the step at a place.
@@ -78,9 +78,9 @@ module _ (link_config : LinkConfig) (is : IsLinkConfig link_config) (p : ℕ) (p
   rests place run mark read f = record { run = run; mark = mark; calm = tt; sends = subst (λ k. InFlight link_config (fields link_config memory (1 - p)) end.accepted end.freed k u.delivered u.returned w) read f.sends; takes = takes_on Closed (λ k. refl) tt f.takes }
 
   -- The read of avail_event.
-  hears : (number value : ℕ) → EndInvariant link_config memory p end (ReadingAvailEvent number) → end.handshake.mark ≡ false → Facing link_config memory p end (ReadingAvailEvent number) u w →
+  event_read_works : (number value : ℕ) → EndInvariant link_config memory p end (ReadingAvailEvent number) → end.handshake.mark ≡ false → Facing link_config memory p end (ReadingAvailEvent number) u w →
       Works link_config memory memory p u w (end_after end (step_at (config_of link_config p) (ReadingAvailEvent number) value)) (next_place (config_of link_config p) (ReadingAvailEvent number) value)
-  hears number value a mark f = by_test (λ m x. Works link_config memory memory p u w (with_marks end m) x) (wants_doorbell (low_half value) number) [] (Over ∷ []) RingingOffer Closed
+  event_read_works number value a mark f = by_test (λ m x. Works link_config memory memory p u w (with_marks end m) x) (wants_doorbell (low_half value) number) [] (Over ∷ []) RingingOffer Closed
       (λ test. record { run = a.holds.0; mark = mark; calm = tt; sends = f.sends; takes = takes_on RingingOffer (λ k. refl) tt f.takes })
       (λ test. rests (ReadingAvailEvent number) a.holds.0 mark refl f)
 
@@ -94,47 +94,47 @@ module _ (link_config : LinkConfig) (is : IsLinkConfig link_config) (p : ℕ) (p
   leads after NotInRun value opened calm met left mine b = subst (λ (k : ℕ → ℕ). LeadsTo k NotInRun value) (sym left) (idles link_config memory p end u w NotInRun Closed tt tt (λ e. cc) (λ a e. cc) b)
   leads after (ReadingUsedIndex pending freed) value opened calm met left mine b = reads after (ReadingUsedIndex pending freed) value left mine b.mine.holds.0 (sends_used_index link_config is p memory end u w b.mark pending freed value met b.mine) b
   leads after (ReadingUsedId pending freed more) value opened calm met left mine b = reads after (ReadingUsedId pending freed more) value left mine b.mine.holds.0 (sends_id link_config is p memory end u w b.mark pending freed more value met b.mine) b
-  leads after (WritingFrameWord pending at more) value opened calm met left mine b = let x = fill_calm pending (at + 1) more in word_leads after (WritingFrameWord pending at more) (fill_place pending (at + 1) more) (field.DataWord (start_for link_config pending / 4 + at)) _ _ _ b.mine.holds.0 (λ k e. cc) x.0 x.1 x.2 (puts_lem link_config is p p2 memory after end (WritingFrameWord pending at more) left b.mine.holds) mine b
-  leads after (WritingDescAddressLow pending) value opened calm met left mine b = word_leads after (WritingDescAddressLow pending) (WritingDescAddressHigh pending) (field.AddressLow (pending.number % limit_of link_config.sizes)) _ _ _ b.mine.holds.0 (λ k e. cc) tt refl (λ f fs. tt) (puts_lem link_config is p p2 memory after end (WritingDescAddressLow pending) left b.mine.holds) mine b
-  leads after (WritingDescAddressHigh pending) value opened calm met left mine b = word_leads after (WritingDescAddressHigh pending) (WritingDescLength pending) (field.AddressHigh (pending.number % limit_of link_config.sizes)) _ _ _ b.mine.holds.0 (λ k e. cc) tt refl (λ f fs. tt) (puts_lem link_config is p p2 memory after end (WritingDescAddressHigh pending) left b.mine.holds) mine b
-  leads after (WritingDescLength pending) value opened calm met left mine b = word_leads after (WritingDescLength pending) (WritingDescFlags pending) (field.DescLength (pending.number % limit_of link_config.sizes)) _ _ _ b.mine.holds.0 (λ k e. cc) tt refl (λ f fs. tt) (puts_lem link_config is p p2 memory after end (WritingDescLength pending) left b.mine.holds) mine b
-  leads after (WritingDescFlags pending) value opened calm met left mine b = word_leads after (WritingDescFlags pending) (WritingAvailEntry pending) (field.DescFlags (pending.number % limit_of link_config.sizes)) _ _ _ b.mine.holds.0 (λ k e. cc) tt refl (λ f fs. tt) (puts_lem link_config is p p2 memory after end (WritingDescFlags pending) left b.mine.holds) mine b
-  leads after (WritingAvailEntry pending) value opened calm met left mine b = word_leads after (WritingAvailEntry pending) (WritingAvailIndex pending) (field.AvailEntry (pending.number % size_of link_config.sizes)) _ _ _ b.mine.holds.0 (λ k e. cc) tt refl (λ f fs. tt) (puts_lem link_config is p p2 memory after end (WritingAvailEntry pending) left b.mine.holds) mine b
-  leads after (WritingAvailIndex pending) value opened calm met left mine b = let run = b.mine.holds.0 in let put = puts_lem link_config is p p2 memory after end (WritingAvailIndex pending) left b.mine.holds in worked link_config is p p2 memory after end _ _ run (by_put link_config is p p2 memory after end put) mine (sends_index link_config p memory after end u w b.mark pending value put b.mine (b.faces (inl (inl run)))) b
-  leads after (ReadingAvailEvent number) value opened calm met left mine b = reads after (ReadingAvailEvent number) value left mine b.mine.holds.0 (hears number value b.mine b.mark) b
+  leads after (WritingFrameWord pending at more) value opened calm met left mine b = let x = fill_calm pending (at + 1) more in word_leads after (WritingFrameWord pending at more) (fill_place pending (at + 1) more) (field.DataWord (start_for link_config pending / 4 + at)) _ _ _ b.mine.holds.0 (λ k e. cc) x.0 x.1 x.2 (place_puts link_config is p p2 memory after end (WritingFrameWord pending at more) left b.mine.holds) mine b
+  leads after (WritingDescAddressLow pending) value opened calm met left mine b = word_leads after (WritingDescAddressLow pending) (WritingDescAddressHigh pending) (field.AddressLow (pending.number % limit_of link_config.sizes)) _ _ _ b.mine.holds.0 (λ k e. cc) tt refl (λ f fs. tt) (place_puts link_config is p p2 memory after end (WritingDescAddressLow pending) left b.mine.holds) mine b
+  leads after (WritingDescAddressHigh pending) value opened calm met left mine b = word_leads after (WritingDescAddressHigh pending) (WritingDescLength pending) (field.AddressHigh (pending.number % limit_of link_config.sizes)) _ _ _ b.mine.holds.0 (λ k e. cc) tt refl (λ f fs. tt) (place_puts link_config is p p2 memory after end (WritingDescAddressHigh pending) left b.mine.holds) mine b
+  leads after (WritingDescLength pending) value opened calm met left mine b = word_leads after (WritingDescLength pending) (WritingDescFlags pending) (field.DescLength (pending.number % limit_of link_config.sizes)) _ _ _ b.mine.holds.0 (λ k e. cc) tt refl (λ f fs. tt) (place_puts link_config is p p2 memory after end (WritingDescLength pending) left b.mine.holds) mine b
+  leads after (WritingDescFlags pending) value opened calm met left mine b = word_leads after (WritingDescFlags pending) (WritingAvailEntry pending) (field.DescFlags (pending.number % limit_of link_config.sizes)) _ _ _ b.mine.holds.0 (λ k e. cc) tt refl (λ f fs. tt) (place_puts link_config is p p2 memory after end (WritingDescFlags pending) left b.mine.holds) mine b
+  leads after (WritingAvailEntry pending) value opened calm met left mine b = word_leads after (WritingAvailEntry pending) (WritingAvailIndex pending) (field.AvailEntry (pending.number % size_of link_config.sizes)) _ _ _ b.mine.holds.0 (λ k e. cc) tt refl (λ f fs. tt) (place_puts link_config is p p2 memory after end (WritingAvailEntry pending) left b.mine.holds) mine b
+  leads after (WritingAvailIndex pending) value opened calm met left mine b = let run = b.mine.holds.0 in let put = place_puts link_config is p p2 memory after end (WritingAvailIndex pending) left b.mine.holds in worked link_config is p p2 memory after end _ _ run (by_put link_config is p p2 memory after end put) mine (sends_index link_config p memory after end u w b.mark pending value put b.mine (b.faces (inl (inl run)))) b
+  leads after (ReadingAvailEvent number) value opened calm met left mine b = reads after (ReadingAvailEvent number) value left mine b.mine.holds.0 (event_read_works number value b.mine b.mark) b
   leads after RingingOffer value opened calm met left mine b = reads after RingingOffer value left mine b.mine.holds (λ f. rests RingingOffer b.mine.holds b.mark refl f) b
-  leads after (ReadingAvailIndex taken last) value opened calm met left mine b = reads after (ReadingAvailIndex taken last) value left mine b.mine.holds.0 (takes_avail_index link_config is p memory end u w b.mark taken last value met b.theirs b.mine) b
-  leads after (WritingAvailEvent taken) value opened calm met left mine b = word_leads after (WritingAvailEvent taken) (ReadingAvailIndex taken true) field.AvailEvent _ _ _ b.mine.holds.0 (λ k e. cc) tt refl (λ f fs. tt) (puts_lem link_config is p p2 memory after end (WritingAvailEvent taken) left b.mine.holds) mine b
+  leads after (ReadingAvailIndex taken last) value opened calm met left mine b = reads after (ReadingAvailIndex taken last) value left mine b.mine.holds.0 (takes_avail_index link_config is p memory end u w b.mark taken last value met b.opposite b.mine) b
+  leads after (WritingAvailEvent taken) value opened calm met left mine b = word_leads after (WritingAvailEvent taken) (ReadingAvailIndex taken true) field.AvailEvent _ _ _ b.mine.holds.0 (λ k e. cc) tt refl (λ f fs. tt) (place_puts link_config is p p2 memory after end (WritingAvailEvent taken) left b.mine.holds) mine b
   leads after (ReadingAvailEntry number more) value opened calm met left mine b = reads after (ReadingAvailEntry number more) value left mine b.mine.holds.0 (takes_entry link_config is p memory end u w b.mark number more value met b.mine) b
   leads after (ReadingDescAddressLow number more entry) value opened calm met left mine b = reads after (ReadingDescAddressLow number more entry) value left mine b.mine.holds.0 (takes_low link_config is p memory end u w b.mark number more entry value met b.mine) b
   leads after (ReadingDescAddressHigh number more entry low) value opened calm met left mine b = reads after (ReadingDescAddressHigh number more entry low) value left mine b.mine.holds.0 (takes_high link_config is p memory end u w b.mark number more entry low value (met ∙ ap memory (let e : section_of link_config (1 - p) + word_offset link_config.sizes (DescAddress entry) + 1 ≡ section_of link_config (1 - p) + (word_offset link_config.sizes (DescAddress entry) + 1) = omega arith in e)) b.mine) b
   leads after (ReadingDescLength number more entry address) value opened calm met left mine b = reads after (ReadingDescLength number more entry address) value left mine b.mine.holds.0 (takes_length link_config is p memory end u w b.mark number more entry address value met b.mine) b
   leads after (ReadingDescFlags number more entry address bytes) value opened calm met left mine b = reads after (ReadingDescFlags number more entry address bytes) value left mine b.mine.holds.0 (takes_flags link_config is p memory end u w b.mark number more entry address bytes value met b.mine) b
   leads after (ReadingFrameWord number more entry address bytes read words) value opened calm met left mine b = reads after (ReadingFrameWord number more entry address bytes read words) value left mine b.mine.holds.0 (takes_word link_config is p memory end u w b.mark number more entry address bytes read words value met b.mine) b
-  leads after (WritingUsedId number more entry) value opened calm met left mine b = let run = b.mine.holds.0 in let put = puts_lem link_config is p p2 memory after end (WritingUsedId number more entry) left b.mine.holds in worked link_config is p p2 memory after end _ _ run (by_put link_config is p p2 memory after end put) mine (takes_id link_config is p memory after end u w b.mark number more entry value put b.theirs b.mine (b.faces (inl (inl run)))) b
-  leads after (WritingUsedLength number more) value opened calm met left mine b = let run = b.mine.holds.0 in let put = puts_lem link_config is p p2 memory after end (WritingUsedLength number more) left b.mine.holds in worked link_config is p p2 memory after end _ _ run (by_put link_config is p p2 memory after end put) mine (takes_amount link_config is p memory after end u w b.mark number more value put b.mine (b.faces (inl (inl run)))) b
-  leads after (WritingUsedIndex number more) value opened calm met left mine b = let run = b.mine.holds.0 in let put = puts_lem link_config is p p2 memory after end (WritingUsedIndex number more) left b.mine.holds in worked link_config is p p2 memory after end _ _ run (by_put link_config is p p2 memory after end put) mine (takes_index link_config is p memory after end u w b.mark number more value put b.mine (b.faces (inl (inl run)))) b
+  leads after (WritingUsedId number more entry) value opened calm met left mine b = let run = b.mine.holds.0 in let put = place_puts link_config is p p2 memory after end (WritingUsedId number more entry) left b.mine.holds in worked link_config is p p2 memory after end _ _ run (by_put link_config is p p2 memory after end put) mine (takes_id link_config is p memory after end u w b.mark number more entry value put b.opposite b.mine (b.faces (inl (inl run)))) b
+  leads after (WritingUsedLength number more) value opened calm met left mine b = let run = b.mine.holds.0 in let put = place_puts link_config is p p2 memory after end (WritingUsedLength number more) left b.mine.holds in worked link_config is p p2 memory after end _ _ run (by_put link_config is p p2 memory after end put) mine (takes_amount link_config is p memory after end u w b.mark number more value put b.mine (b.faces (inl (inl run)))) b
+  leads after (WritingUsedIndex number more) value opened calm met left mine b = let run = b.mine.holds.0 in let put = place_puts link_config is p p2 memory after end (WritingUsedIndex number more) left b.mine.holds in worked link_config is p p2 memory after end _ _ run (by_put link_config is p p2 memory after end put) mine (takes_index link_config is p memory after end u w b.mark number more value put b.mine (b.faces (inl (inl run)))) b
   leads after RingingPoll value opened calm met left mine b = reads after RingingPoll value left mine b.mine.holds (λ f. rests RingingPoll b.mine.holds b.mark refl f) b
 
 -- The two ends
 
 pub before : (link_config : LinkConfig) (memory : ℕ → ℕ) (ends : ℕ → End) (places : ℕ → Place) (p : ℕ) → p < 2 → Pair link_config memory ends places → Before link_config memory p (ends p) (places p) (ends (1 - p)) (places (1 - p))
-before link_config memory ends places p p2 m = record { mine = m.alone p p2; theirs = m.alone (1 - p) (omega arith); mark = (m.sound p p2).0; from = m.cross p p2; back = known link_config memory ends places p p2 m; faces = facing link_config memory ends places p p2 m }
+before link_config memory ends places p p2 m = record { mine = m.alone p p2; opposite = m.alone (1 - p) (omega arith); mark = (m.sound p p2).0; from = m.cross p p2; back = known link_config memory ends places p p2 m; faces = facing link_config memory ends places p p2 m }
 
 -- One end changed, and the words of the other didn't.
 changed : (link_config : LinkConfig) (memory after : ℕ → ℕ) (ends next : ℕ → End) (places goes : ℕ → Place) (p : ℕ) (end : End) (place : Place) → IsLinkConfig link_config → p < 2 → OnlyEndChanges ends next places goes p end place → IsUntouched link_config memory after (1 - p) →
     EndInvariant link_config after p end place → Leads link_config after p (ends (1 - p)) (places (1 - p)) end place → Pair link_config memory ends places → Pair link_config after next goes
 changed link_config memory after ends next places goes p end place is p2 only keep mine leads m = stepped link_config memory after ends next places goes p end place p2 only m mine
     (alone_kept.others link_config (1 - p) memory after (ends (1 - p)) (places (1 - p)) is keep (m.alone (1 - p) (omega arith))) leads.sound leads.from leads.back
-    (λ a. let f = leads.faces a in (f.mine, f.theirs)) (λ a. let f = leads.faces a in (f.sends, f.takes))
+    (λ a. let f = leads.faces a in (f.mine, f.opposite)) (λ a. let f = leads.faces a in (f.sends, f.takes))
 
-steps_lem : (link_config : LinkConfig) (memory after : ℕ → ℕ) (ends next : ℕ → End) (places goes : ℕ → Place) (p value : ℕ) → IsLinkConfig link_config → p < 2 → TakesStep link_config memory after ends next places goes p value → Pair link_config memory ends places → Pair link_config after next goes
-steps_lem link_config memory after ends next places goes p value is p2 step m = let mine = alone_kept.steps link_config p memory after (ends p) (places p) value is p2 step.opened step.leaves (m.alone p p2) in
+step_keeps_pair : (link_config : LinkConfig) (memory after : ℕ → ℕ) (ends next : ℕ → End) (places goes : ℕ → Place) (p value : ℕ) → IsLinkConfig link_config → p < 2 → TakesStep link_config memory after ends next places goes p value → Pair link_config memory ends places → Pair link_config after next goes
+step_keeps_pair link_config memory after ends next places goes p value is p2 step m = let mine = alone_kept.steps link_config p memory after (ends p) (places p) value is p2 step.opened step.leaves (m.alone p p2) in
     changed link_config memory after ends next places goes p _ _ is p2 step.comes (untouched link_config is p p2 memory after (ends p) (places p) (m.alone p p2) step.leaves) mine
     (leads link_config is p p2 memory (ends p) (ends (1 - p)) (places (1 - p)) after (places p) value step.opened (m.sound p p2).1 step.meets step.leaves mine (before link_config memory ends places p p2 m)) m
 
-resets_lem : (link_config : LinkConfig) (memory after : ℕ → ℕ) (ends next : ℕ → End) (places goes : ℕ → Place) (p : ℕ) → IsLinkConfig link_config → p < 2 → IsReset memory after ends next places goes p → Pair link_config memory ends places → Pair link_config after next goes
-resets_lem link_config memory after ends next places goes p is p2 reset m = changed link_config memory after ends next places goes p _ _ is p2 reset.comes (by_state link_config is p p2 memory after (ends p) 0 reset.stored) (alone_kept.resets link_config p memory after (ends p) (places p) is p2 reset.stored (m.alone p p2))
+reset_keeps_pair : (link_config : LinkConfig) (memory after : ℕ → ℕ) (ends next : ℕ → End) (places goes : ℕ → Place) (p : ℕ) → IsLinkConfig link_config → p < 2 → IsReset memory after ends next places goes p → Pair link_config memory ends places → Pair link_config after next goes
+reset_keeps_pair link_config memory after ends next places goes p is p2 reset m = changed link_config memory after ends next places goes p _ _ is p2 reset.comes (by_state link_config is p p2 memory after (ends p) 0 reset.stored) (alone_kept.resets link_config p memory after (ends p) (places p) is p2 reset.stored (m.alone p p2))
     (leads_reset link_config memory after p (ends p) (ends (1 - p)) (places (1 - p)) (places p) is p2 reset.stored (before link_config memory ends places p p2 m)) m
 
 -- A call begins.
@@ -143,7 +143,7 @@ enters link_config memory p end u w next calm three one read polls b = record {
   sound = (b.mark, calm);
   from = λ a. b.from (earlier a);
   back = λ a. ((b.back a).0, one);
-  faces = λ a. let f = b.faces (⊎_elim (λ x. inl (earlier x)) inr a) in record { mine = f.mine; theirs = f.theirs; sends = subst (λ k. InFlight link_config (fields link_config memory (1 - p)) end.accepted end.freed k u.delivered u.returned w) (sym read) f.sends; takes = takes_on next (λ k. refl) (polls (fields link_config memory p) u.accepted) f.takes };
+  faces = λ a. let f = b.faces (⊎_elim (λ x. inl (earlier x)) inr a) in record { mine = f.mine; opposite = f.opposite; sends = subst (λ k. InFlight link_config (fields link_config memory (1 - p)) end.accepted end.freed k u.delivered u.returned w) (sym read) f.sends; takes = takes_on next (λ k. refl) (polls (fields link_config memory p) u.accepted) f.takes };
 }
   where
     earlier : IsAttached end next → IsAttached end Closed
@@ -161,8 +161,8 @@ first_leads link_config memory p end u w Stop b = enters link_config memory p en
 first_leads link_config memory p end u w (Offer frame) b = either link_config memory p end u w (in_run end.handshake.phase) (ReadingUsedIndex (pending_of (config_of link_config p) end frame) end.freed) (enters link_config memory p end u w _ (λ e. cc) (λ e. cc) (λ e. cc) refl (λ f fs. tt) b) (enters link_config memory p end u w NotInRun (λ e. cc) (λ e. cc) (λ e. cc) refl (λ f fs. tt) b)
 first_leads link_config memory p end u w Poll b = either link_config memory p end u w (in_run end.handshake.phase) (ReadingAvailIndex (length end.delivered) (is_last (config_of link_config p) end.found_none)) (enters link_config memory p end u w _ (λ e. cc) (λ e. cc) (λ e. cc) refl (λ f fs. tt) b) (enters link_config memory p end u w NotInRun (λ e. cc) (λ e. cc) (λ e. cc) refl (λ f fs. tt) b)
 
-begins_lem : (link_config : LinkConfig) (memory : ℕ → ℕ) (ends next : ℕ → End) (places goes : ℕ → Place) (p : ℕ) (call : Call) → IsLinkConfig link_config → p < 2 → BeginsCall link_config ends next places goes p call → Pair link_config memory ends places → Pair link_config memory next goes
-begins_lem link_config memory ends next places goes p call is p2 begun m = let b = subst (λ x. Before link_config memory p (ends p) x (ends (1 - p)) (places (1 - p))) begun.closed (before link_config memory ends places p p2 m) in
+begin_keeps_pair : (link_config : LinkConfig) (memory : ℕ → ℕ) (ends next : ℕ → End) (places goes : ℕ → Place) (p : ℕ) (call : Call) → IsLinkConfig link_config → p < 2 → BeginsCall link_config ends next places goes p call → Pair link_config memory ends places → Pair link_config memory next goes
+begin_keeps_pair link_config memory ends next places goes p call is p2 begun m = let b = subst (λ x. Before link_config memory p (ends p) x (ends (1 - p)) (places (1 - p))) begun.closed (before link_config memory ends places p p2 m) in
     changed link_config memory memory ends next places goes p _ _ is p2 begun.comes (still link_config is p p2 memory memory (ends p) refl) (alone_kept.begins link_config p memory (ends p) call is begun.given b.mine) (first_leads link_config memory p (ends p) (ends (1 - p)) (places (1 - p)) call b) m
 
 pub starts_alone : (link_config : LinkConfig) (memory : ℕ → ℕ) (ends : ℕ → End) (places : ℕ → Place) → ((w : ℕ) → memory w ≡ 0) → ((p : ℕ) → ends p ≡ fresh) → ((p : ℕ) → places p ≡ Closed) → (p : ℕ) → EndInvariant link_config memory p (ends p) (places p)
@@ -178,8 +178,8 @@ starts_alone link_config memory ends places none new closed p = subst (λ x. End
   room = omega arith;
 })
 
-starts_lem : (link_config : LinkConfig) (memory : ℕ → ℕ) (ends : ℕ → End) (places : ℕ → Place) → ((w : ℕ) → memory w ≡ 0) → ((p : ℕ) → ends p ≡ fresh) → ((p : ℕ) → places p ≡ Closed) → Pair link_config memory ends places
-starts_lem link_config memory ends places none new closed = record {
+start_has_pair : (link_config : LinkConfig) (memory : ℕ → ℕ) (ends : ℕ → End) (places : ℕ → Place) → ((w : ℕ) → memory w ≡ 0) → ((p : ℕ) → ends p ≡ fresh) → ((p : ℕ) → places p ≡ Closed) → Pair link_config memory ends places
+start_has_pair link_config memory ends places none new closed = record {
   alone = λ p p2. starts_alone link_config memory ends places none new closed p;
   sound = λ p p2. (ap (λ (e : End). e.handshake.mark) (new p), λ e. let f = closed p in cc);
   cross = λ p p2 a. absurd (idle p a);
@@ -190,8 +190,8 @@ starts_lem link_config memory ends places none new closed = record {
     idle : (p : ℕ) → IsAttached (ends p) (places p) → ⊥
     idle p a = let high = attends_high (ends p) (places p) a in let e : state_of (ends p).handshake.phase ≡ 0 = ap (λ (x : End). state_of x.handshake.phase) (new p) in omega arith
 
-others_lem : (link_config : LinkConfig) (memory after : ℕ → ℕ) (ends : ℕ → End) (places : ℕ → Place) → IsLinkConfig link_config → ((q : ℕ) → q < 2 → IsUntouched link_config memory after q) → Pair link_config memory ends places → Pair link_config after ends places
-others_lem link_config memory after ends places is keep m = let same = λ (q : ℕ) (q2 : q < 2). fields_same link_config memory after q is (keep q q2).section in record {
+other_writes_keep_pair : (link_config : LinkConfig) (memory after : ℕ → ℕ) (ends : ℕ → End) (places : ℕ → Place) → IsLinkConfig link_config → ((q : ℕ) → q < 2 → IsUntouched link_config memory after q) → Pair link_config memory ends places → Pair link_config after ends places
+other_writes_keep_pair link_config memory after ends places is keep m = let same = λ (q : ℕ) (q2 : q < 2). fields_same link_config memory after q is (keep q q2).section in record {
   alone = λ p p2. alone_kept.others link_config p memory after (ends p) (places p) is (keep p p2) (m.alone p p2);
   sound = m.sound;
   cross = m.cross;
@@ -200,4 +200,4 @@ others_lem link_config memory after ends places is keep m = let same = λ (q : �
 }
 
 pub pair_kept : PairIsKept
-pair_kept = record { starts = starts_lem; begins = begins_lem; steps = steps_lem; resets = resets_lem; others = others_lem }
+pair_kept = record { starts = start_has_pair; begins = begin_keeps_pair; steps = step_keeps_pair; resets = reset_keeps_pair; others = other_writes_keep_pair }

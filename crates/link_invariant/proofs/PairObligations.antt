@@ -19,7 +19,7 @@ module _ (link_config : LinkConfig) (memory after : ℕ → ℕ) (ends next : �
   -- A property of the two ends holds for each of them.
   turned : (P : ℕ → ℕ → End → Place → End → Place → Type 0) → P p (1 - p) end place (ends (1 - p)) (places (1 - p)) → P (1 - p) p (ends (1 - p)) (places (1 - p)) end place →
       (q : ℕ) → q < 2 → P q (1 - q) (next q) (goes q) (next (1 - q)) (goes (1 - q))
-  turned P mine theirs q q2 = dite (ℕ_discrete q p)
+  turned P mine opposite q q2 = dite (ℕ_discrete q p)
       (λ e. let other : 1 - q ≢ p = omega arith in let same : 1 - q ≡ 1 - p = omega arith in
       subst (λ k. P k (1 - k) (next k) (goes k) (next (1 - k)) (goes (1 - k))) (sym e)
       (subst (λ x. P p (1 - p) x (goes p) (next (1 - p)) (goes (1 - p))) (sym only.end_is) (subst (λ x. P p (1 - p) end x (next (1 - p)) (goes (1 - p))) (sym only.place_is)
@@ -27,13 +27,13 @@ module _ (link_config : LinkConfig) (memory after : ℕ → ℕ) (ends next : �
       (λ ne. let e : q ≡ 1 - p = omega arith in let back : 1 - q ≡ p = omega arith in
       subst (λ k. P q k (next q) (goes q) (next k) (goes k)) (sym back) (subst (λ k. P k p (next k) (goes k) (next p) (goes p)) (sym e)
       (subst (λ x. P (1 - p) p (next (1 - p)) (goes (1 - p)) x (goes p)) (sym only.end_is) (subst (λ x. P (1 - p) p (next (1 - p)) (goes (1 - p)) end x) (sym only.place_is)
-      (subst (λ x. P (1 - p) p x (goes (1 - p)) end place) (sym (only.ends_stay (1 - p) (λ e. omega arith))) (subst (λ x. P (1 - p) p (ends (1 - p)) x end place) (sym (only.places_stay (1 - p) (λ e. omega arith))) theirs))))))
+      (subst (λ x. P (1 - p) p x (goes (1 - p)) end place) (sym (only.ends_stay (1 - p) (λ e. omega arith))) (subst (λ x. P (1 - p) p (ends (1 - p)) x end place) (sym (only.places_stay (1 - p) (λ e. omega arith))) opposite))))))
 
   pub stepped : let u = ends (1 - p) in let w = places (1 - p) in Pair link_config memory ends places → EndInvariant link_config after p end place → EndInvariant link_config after (1 - p) u w → (end.handshake.mark ≡ false) × (place ≢ Refusing) → (IsAttached end place → OpensNone u w) → (IsAttached u w → OpensNone end place) →
       (IsAttached end place ⊎ IsAttached u w → OwnSection link_config (fields link_config after p) end.accepted end.freed end.returned × OwnSection link_config (fields link_config after (1 - p)) u.accepted u.freed u.returned) →
       (IsAttached end place ⊎ IsAttached u w → InFlightBetween link_config (fields link_config after (1 - p)) end place u w × InFlightBetween link_config (fields link_config after p) u w end place) → Pair link_config after next goes
-  stepped m mine theirs sound from back sent links = record {
-    alone = turned (λ q r e x f y. EndInvariant link_config after q e x) mine theirs;
+  stepped m mine opposite sound from back sent links = record {
+    alone = turned (λ q r e x f y. EndInvariant link_config after q e x) mine opposite;
     sound = turned (λ q r e x f y. (e.handshake.mark ≡ false) × (x ≢ Refusing)) sound (m.sound (1 - p) (omega arith));
     cross = turned (λ q r e x f y. IsAttached e x → OpensNone f y) from back;
     sent = turned (λ q r e x f y. IsAttached e x ⊎ IsAttached f y → OwnSection link_config (fields link_config after q) e.accepted e.freed e.returned) (λ a. (sent a).0) (λ a. (sent (⊎_elim inr inl a)).1);
@@ -43,14 +43,14 @@ module _ (link_config : LinkConfig) (memory after : ℕ → ℕ) (ends next : �
 -- The relation of the two ends, from one and from the other.
 pub record Facing (link_config : LinkConfig) (memory : ℕ → ℕ) (p : ℕ) (end : End) (place : Place) (u : End) (w : Place) : Type 0 where
   pub mine : OwnSection link_config (fields link_config memory p) end.accepted end.freed end.returned
-  pub theirs : OwnSection link_config (fields link_config memory (1 - p)) u.accepted u.freed u.returned
+  pub opposite : OwnSection link_config (fields link_config memory (1 - p)) u.accepted u.freed u.returned
   pub sends : InFlightBetween link_config (fields link_config memory (1 - p)) end place u w
   pub takes : InFlightBetween link_config (fields link_config memory p) u w end place
 
 pub facing : (link_config : LinkConfig) (memory : ℕ → ℕ) (ends : ℕ → End) (places : ℕ → Place) (p : ℕ) → p < 2 → Pair link_config memory ends places → EitherIsAttached ends places p → Facing link_config memory p (ends p) (places p) (ends (1 - p)) (places (1 - p))
 facing link_config memory ends places p p2 m a = let back : 1 - (1 - p) ≡ p = omega arith in let b : EitherIsAttached ends places (1 - p) = subst (λ k. IsAttached (ends (1 - p)) (places (1 - p)) ⊎ IsAttached (ends k) (places k)) (sym back) (⊎_elim inr inl a) in record {
   mine = m.sent p p2 a;
-  theirs = m.sent (1 - p) (omega arith) b;
+  opposite = m.sent (1 - p) (omega arith) b;
   sends = m.link p p2 a;
   takes = subst (λ k. InFlightBetween link_config (fields link_config memory k) (ends (1 - p)) (places (1 - p)) (ends k) (places k)) back (m.link (1 - p) (omega arith) b);
 }
@@ -111,7 +111,7 @@ room_at link_config memory p end place a = a.room
 -- The hypotheses before a step of end p at its place, and of the other.
 pub record Before (link_config : LinkConfig) (memory : ℕ → ℕ) (p : ℕ) (end : End) (place : Place) (u : End) (w : Place) : Type 0 where
   pub mine : EndInvariant link_config memory p end place
-  pub theirs : EndInvariant link_config memory (1 - p) u w
+  pub opposite : EndInvariant link_config memory (1 - p) u w
   pub mark : end.handshake.mark ≡ false
   pub from : IsAttached end place → OpensNone u w
   pub back : IsAttached u w → OpensNone end place

@@ -27,9 +27,9 @@ use Rattle.link_invariant.specs.Pair.{freed_at, Polls, InFlight}
 use Rattle.link_invariant.proofs.Fields.{numbers, ring_apart, one_test, is_word, start_good, field_read}
 use Rattle.link_invariant.proofs.EndObligations.{by_test, opened, Puts}
 use Rattle.link_invariant.proofs.ReadSteps.{looked}
-use Rattle.link_invariant.proofs.Frames.{frames_lem}
+use Rattle.link_invariant.proofs.Frames.{frames_come_whole}
 use Rattle.link_invariant.proofs.PairObligations.{Facing, IsCalm, Works, takes_on, room_at}
-use Rattle.split_ring.proofs.Tests.{entry_denies, address_denies, length_denies, flags_denies}
+use Rattle.split_ring.proofs.TestsDecideRanges.{entry_denies, address_denies, length_denies, flags_denies}
 
 next_frame : (frames done rest : List (List ℕ)) → frames ≡ done ++ rest → length done < length frames → (more : List (List ℕ)) × (frames ≡ (done ++ frame_at frames (length done) ∷ []) ++ more)
 next_frame frames done [] e lt = absurd (let h = ap length e in let k = length-append done [] in omega arith)
@@ -71,7 +71,7 @@ module _ (link_config : LinkConfig) (is : IsLinkConfig link_config) (p : ℕ) (m
 
   -- The current frame.
   in_hand : (place : Place) (number more : ℕ) → number ≡ length end.delivered → number + suc more ≤ length u.accepted → Facing link_config memory p end place u w → Spelled link_config (fields link_config memory (1 - p)) number (start_in link_config u.accepted number) (frame_at u.accepted number)
-  in_hand place number more is up f = let r = f.takes.returns in let d = f.takes.delivers in f.theirs.spelled number (omega arith) (omega arith)
+  in_hand place number more is up f = let r = f.takes.returns in let d = f.takes.delivers in f.opposite.spelled number (omega arith) (omega arith)
 
   low_slot : (number : ℕ) → number % limit_of link_config.sizes < limit_of link_config.sizes
   low_slot number = mod_below number (limit_of link_config.sizes) (numbers link_config is).limit_least
@@ -85,7 +85,7 @@ module _ (link_config : LinkConfig) (is : IsLinkConfig link_config) (p : ℕ) (m
   -- The number of frames accepted since the last read.
   pub published_is : (taken : ℕ) (last : Bool) (value : ℕ) → value ≡ memory (section_of link_config (1 - p) + word_offset link_config.sizes AvailIndex) → EndInvariant link_config memory (1 - p) u w → EndInvariant link_config memory p end (ReadingAvailIndex taken last) → Facing link_config memory p end (ReadingAvailIndex taken last) u w → taken + published_by taken value ≡ length u.accepted
   published_is taken last value met b a f = let t = f.takes in let r = t.returns in let v = t.delivers in let room = b.room in let n = numbers link_config is in let few = n.limit_most in let most = n.size_most in let same = a.holds.1 in
-      let index : high_half value ≡ length u.accepted % 65536 = read_of field.AvailIndex value refl met ∙ f.theirs.available in
+      let index : high_half value ≡ length u.accepted % 65536 = read_of field.AvailIndex value refl met ∙ f.opposite.available in
       let up : length end.delivered ≤ length u.accepted = let e = ap length t.prefix.1 in let k = length-append end.delivered t.prefix.0 in omega arith in omega arith
 
   -- The pair doesn't depend on `found_none`.
@@ -159,7 +159,7 @@ module _ (link_config : LinkConfig) (is : IsLinkConfig link_config) (p : ℕ) (m
       frame_in bytes (read ++ value ∷ []) ≡ frame_at u.accepted number
   frame_is number more entry address bytes read value met a f = let h = a.holds in let q = f.takes.polls in let g = frame_at u.accepted number in let s = in_hand (ReadingFrameWord number more entry address bytes read zero) number more h.1 q.0 f in let all = h.5 in let size = q.3 in
       let whole : read ++ value ∷ [] ≡ first_words g (words_for (length g)) = word_is number more entry address bytes read zero value met a f ∙ ap (first_words g) (let e : suc (length read) ≡ words_for (length g) = omega arith in e) in
-      ap (λ k. frame_in k (read ++ value ∷ [])) q.3 ∙ (ap (frame_in (length g)) whole ∙ frames_lem g s.offered.bytes)
+      ap (λ k. frame_in k (read ++ value ∷ [])) q.3 ∙ (ap (frame_in (length g)) whole ∙ frames_come_whole g s.offered.bytes)
 
   pub takes_word : (number more entry address bytes : ℕ) (read : List ℕ) (words value : ℕ) → value ≡ memory (section_of link_config (1 - p) + (address / 4 + length read)) → EndInvariant link_config memory p end (ReadingFrameWord number more entry address bytes read words) → Facing link_config memory p end (ReadingFrameWord number more entry address bytes read words) u w →
       Goes (ReadingFrameWord number more entry address bytes read words) value

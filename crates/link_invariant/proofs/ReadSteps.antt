@@ -19,7 +19,7 @@ use Rattle.call_grammar.proofs.OfferLists.{no}
 use Rattle.link_invariant.specs.LinkConfig.{LinkConfig, config_of, fields}
 use Rattle.link_invariant.specs.EndInvariant.{IsNext, Filled, PlaceInvariant, counts, EndInvariant}
 use Rattle.link_invariant.proofs.EndObligations.{by_test, run_ready, opened, free, moves, refuses}
-use Rattle.split_ring.proofs.Tests.{entry_of_test, address_of_test, length_of_test}
+use Rattle.split_ring.proofs.TestsDecideRanges.{entry_of_test, address_of_test, length_of_test}
 
 -- The invariant of an end at the place after its step.
 abbrev pub StepsTo : LinkConfig → ℕ → (ℕ → ℕ) → End → Place → ℕ → Type 0
@@ -100,8 +100,8 @@ module _ (link_config : LinkConfig) (p : ℕ) (memory : ℕ → ℕ) (end : End)
       subst (λ (e : End). EndInvariant link_config memory p e (ids_place (config_of link_config p) pending (freed + 1) more)) (sym (ids_quiet end (more == 0) (frame_fits (config_of link_config p) pending (freed + 1)))) (moves _ x.0 x.1 a.rests a))
       (λ test. refuses h.0 refl a)
 
-  pub hears_event : (number value : ℕ) → EndInvariant link_config memory p end (ReadingAvailEvent number) → StepsTo link_config p memory end (ReadingAvailEvent number) value
-  hears_event number value a =
+  pub event_read_step : (number value : ℕ) → EndInvariant link_config memory p end (ReadingAvailEvent number) → StepsTo link_config p memory end (ReadingAvailEvent number) value
+  event_read_step number value a =
       by_test (λ m x. EndInvariant link_config memory p (with_marks end m) x) (wants_doorbell (low_half value) number) [] (Over ∷ []) RingingOffer Closed
       (λ test. moves RingingOffer a.holds.0 refl a.rests a)
       (λ test. moves Closed tt refl a.rests a)

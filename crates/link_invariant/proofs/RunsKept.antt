@@ -9,21 +9,21 @@ use Rattle.call_grammar.specs.Places.{Place, Closed, first_place, step_at}
 use Rattle.link_machine.specs.LinkMachine.{Side, initial_side, SideEvent, WasReset, Row, Log, no_sessions, log_after, MachineRuns, DeliversInOrder}
 use Rattle.link_machine.specs.LinkMachine as machine
 use Rattle.call_grammar.proofs.OfferLists.{yes, no}
-use Rattle.link_machine.proofs.DeliversInOrder.{machine as machine_lem}
+use Rattle.link_machine.proofs.DeliversInOrder.{machine as machine_delivers}
 use Rattle.link_invariant.specs.LinkConfig.{LinkConfig, IsLinkConfig, config_of}
 use Rattle.link_invariant.specs.Steps.{OnlyEndChanges}
 use Rattle.link_invariant.specs.Sides.{side_events_by, FollowsRows, SideIs}
 use Rattle.link_invariant.specs.Runs.{starts, begins, steps, resets, others, RunsKeepInvariant, HonestRuns, HonestRunsDeliver}
 use Rattle.link_invariant.proofs.LinkInvariantKept.{whole_kept}
-use Rattle.link_invariant.proofs.RowsKept.{follow_lem}
+use Rattle.link_invariant.proofs.RowsKept.{steps_follow_rows}
 
 -- All runs of two ends satisfy the invariant.
-pub whole_lem : RunsKeepInvariant
-whole_lem link_config honest _ _ _ is (starts memory ends places none new closed) = whole_kept.starts link_config honest memory ends places none new closed
-whole_lem link_config honest _ _ _ is (begins memory ends after_ends places after_places p call run p2 hp begun) = whole_kept.begins link_config honest memory ends after_ends places after_places p call is p2 hp begun (whole_lem link_config honest memory ends places is run)
-whole_lem link_config honest _ _ _ is (steps memory after ends after_ends places after_places p value run p2 hp step) = whole_kept.steps link_config honest memory after ends after_ends places after_places p value is p2 hp step (whole_lem link_config honest memory ends places is run)
-whole_lem link_config honest _ _ _ is (resets memory after ends after_ends places after_places p run p2 hp reset) = whole_kept.resets link_config honest memory after ends after_ends places after_places p is p2 hp reset (whole_lem link_config honest memory ends places is run)
-whole_lem link_config honest _ _ _ is (others memory after ends places run keep) = whole_kept.others link_config honest memory after ends places is keep (whole_lem link_config honest memory ends places is run)
+pub runs_keep_invariant : RunsKeepInvariant
+runs_keep_invariant link_config honest _ _ _ is (starts memory ends places none new closed) = whole_kept.starts link_config honest memory ends places none new closed
+runs_keep_invariant link_config honest _ _ _ is (begins memory ends after_ends places after_places p call run p2 hp begun) = whole_kept.begins link_config honest memory ends after_ends places after_places p call is p2 hp begun (runs_keep_invariant link_config honest memory ends places is run)
+runs_keep_invariant link_config honest _ _ _ is (steps memory after ends after_ends places after_places p value run p2 hp step) = whole_kept.steps link_config honest memory after ends after_ends places after_places p value is p2 hp step (runs_keep_invariant link_config honest memory ends places is run)
+runs_keep_invariant link_config honest _ _ _ is (resets memory after ends after_ends places after_places p run p2 hp reset) = whole_kept.resets link_config honest memory after ends after_ends places after_places p is p2 hp reset (runs_keep_invariant link_config honest memory ends places is run)
+runs_keep_invariant link_config honest _ _ _ is (others memory after ends places run keep) = whole_kept.others link_config honest memory after ends places is keep (runs_keep_invariant link_config honest memory ends places is run)
 
 -- Two sides and their sessions in a run of the machine, and that the ends are these sides.
 record AreSides (link_config : LinkConfig) (ends : ℕ → End) (places : ℕ → Place) : Type 0 where
@@ -95,24 +95,24 @@ moved link_config ends after_ends places after_places p end place side_events ne
 }
 
 -- Two honest ends are the sides of a run of the machine.
-sides_lem : (link_config : LinkConfig) (memory : ℕ → ℕ) (ends : ℕ → End) (places : ℕ → Place) → IsLinkConfig link_config → HonestRuns link_config memory ends places → AreSides link_config ends places
-sides_lem link_config _ _ _ is (starts memory ends places none new closed) = record {
+honest_runs_have_sides : (link_config : LinkConfig) (memory : ℕ → ℕ) (ends : ℕ → End) (places : ℕ → Place) → IsLinkConfig link_config → HonestRuns link_config memory ends places → AreSides link_config ends places
+honest_runs_have_sides link_config _ _ _ is (starts memory ends places none new closed) = record {
   sides = λ p. initial_side;
   logs = λ p. no_sessions;
   runs = machine.starts (λ p. initial_side) (λ p. no_sessions) (λ p. refl) (λ p. refl);
-  are = λ p p2. side_like fresh (ends p) Closed (places p) initial_side initial_side (new p) (closed p) refl follow_lem.starts;
+  are = λ p p2. side_like fresh (ends p) Closed (places p) initial_side initial_side (new p) (closed p) refl steps_follow_rows.starts;
 }
-sides_lem link_config _ _ _ is (begins memory ends after_ends places after_places p call run p2 hp begun) = let r = sides_lem link_config memory ends places is run in
+honest_runs_have_sides link_config _ _ _ is (begins memory ends after_ends places after_places p call run p2 hp begun) = let r = honest_runs_have_sides link_config memory ends places is run in
     moved link_config ends after_ends places after_places p (ends p) (first_place (config_of link_config p) (ends p) call) [] (r.sides p) p2 r refl
-    (follow_lem.begins (config_of link_config p) (ends p) call (r.sides p) (subst (λ (x : Place). SideIs (ends p) x (r.sides p)) begun.closed (r.are p p2))) begun.comes
-sides_lem link_config _ _ _ is (steps memory after ends after_ends places after_places p value run p2 hp step) = let r = sides_lem link_config memory ends places is run in let held = whole_lem link_config (λ p. true) memory ends places is run in let o2 : 1 - p < 2 = omega arith in
+    (steps_follow_rows.begins (config_of link_config p) (ends p) call (r.sides p) (subst (λ (x : Place). SideIs (ends p) x (r.sides p)) begun.closed (r.are p p2))) begun.comes
+honest_runs_have_sides link_config _ _ _ is (steps memory after ends after_ends places after_places p value run p2 hp step) = let r = honest_runs_have_sides link_config memory ends places is run in let held = runs_keep_invariant link_config (λ p. true) memory ends places is run in let o2 : 1 - p < 2 = omega arith in
     let state : (r.sides (1 - p)).state ≡ memory (1 - p) = (r.are (1 - p) o2).state ∙ sym (held.alone (1 - p) o2 refl).state in
-    let f = follow_lem.steps link_config (λ p. true) memory ends places p value (r.sides p) (r.sides (1 - p)) is p2 refl held (r.are p p2) state (λ _. r.are (1 - p) o2) step.opened step.meets in
+    let f = steps_follow_rows.steps link_config (λ p. true) memory ends places p value (r.sides p) (r.sides (1 - p)) is p2 refl held (r.are p p2) state (λ _. r.are (1 - p) o2) step.opened step.meets in
     moved link_config ends after_ends places after_places p _ _ (side_events_by (step_at (config_of link_config p) (places p) value)) f.0 p2 r f.1 f.2 step.comes
-sides_lem link_config _ _ _ is (resets memory after ends after_ends places after_places p run p2 hp reset) = let r = sides_lem link_config memory ends places is run in
-    let f = follow_lem.resets link_config.sizes true (ends p) (places p) (r.sides p) (r.sides (1 - p)) (r.are p p2) in
+honest_runs_have_sides link_config _ _ _ is (resets memory after ends after_ends places after_places p run p2 hp reset) = let r = honest_runs_have_sides link_config memory ends places is run in
+    let f = steps_follow_rows.resets link_config.sizes true (ends p) (places p) (r.sides p) (r.sides (1 - p)) (r.are p p2) in
     moved link_config ends after_ends places after_places p (after_reset (ends p)) Closed (WasReset ∷ []) f.0 p2 r (f.0, f.1, refl) f.2 reset.comes
-sides_lem link_config _ _ _ is (others memory after ends places run keep) = sides_lem link_config memory ends places is run
+honest_runs_have_sides link_config _ _ _ is (others memory after ends places run keep) = honest_runs_have_sides link_config memory ends places is run
 
 pub runs_deliver : HonestRunsDeliver
-runs_deliver link_config memory ends places is run = let r = sides_lem link_config memory ends places is run in (r.sides, r.logs, r.runs, λ p p2. (r.are p p2, machine_lem link_config.sizes (λ p. true) r.sides r.logs refl refl r.runs p p2))
+runs_deliver link_config memory ends places is run = let r = honest_runs_have_sides link_config memory ends places is run in (r.sides, r.logs, r.runs, λ p p2. (r.are p p2, machine_delivers link_config.sizes (λ p. true) r.sides r.logs refl refl r.runs p p2))

@@ -5,7 +5,7 @@ use Rattle.link_handshake.specs.declared.Phase.{Phase}
 use Rattle.link_handshake.specs.declared.Phase.TheVariants.{Reset, Init, Ready, Run}
 use Rattle.link_handshake.specs.declared.Move.{Move}
 use Rattle.link_handshake.specs.declared.Move.TheVariants.{Stay, Set, ClearThenSet}
-use Rattle.link_handshake.specs.PhaseTable.{phase_at, state_of}
+use Rattle.link_handshake.specs.PhaseTable.{phase_of_state, state_of}
 use Rattle.call_grammar.specs.Steps.{Over}
 use Rattle.call_grammar.specs.Ends.{End, with_state, with_marks}
 use Rattle.call_grammar.specs.Rows.{MovesTo}
@@ -17,7 +17,7 @@ use Rattle.link_invariant.specs.Sides.{FollowsRows, SawFor, CallIs, SideIs}
 
 -- The machine's side after a step.
 abbrev pub Follows : LinkConfig → Bool → Side → Side → List SideEvent → End → Place → Type 0
-Follows link_config theirs other side side_events end place = (new : Side) × FollowsRows link_config.sizes theirs other side side_events new × SideIs end place new
+Follows link_config other_honest other side side_events end place = (new : Side) × FollowsRows link_config.sizes other_honest other side side_events new × SideIs end place new
 
 -- The end and the side agree, for every call.
 pub record Same (end : End) (side : Side) : Type 0 where
@@ -35,18 +35,18 @@ pub side_is : {end : End} {place : Place} {side : Side} → Same end side → Ca
 side_is same call = record { state = same.state; refused = same.refused; accepted = same.accepted; delivered = same.delivered; returned = same.returned; freed = same.freed; call = call }
 
 -- No row, and the same side.
-pub silent : (link_config : LinkConfig) (theirs : Bool) (other side : Side) {end : End} {place : Place} → Same end side → CallIs end place side → Follows link_config theirs other side [] end place
-silent link_config theirs other side same call = (side, refl, side_is same call)
+pub silent : (link_config : LinkConfig) (other_honest : Bool) (other side : Side) {end : End} {place : Place} → Same end side → CallIs end place side → Follows link_config other_honest other side [] end place
+silent link_config other_honest other side same call = (side, refl, side_is same call)
 
 -- The event of a read comes before the marks of its step.
-abbrev pub heard : Side → ℕ → Side
-heard side value = record side { read = side.read ++ value ∷ [] }
+abbrev pub with_read : Side → ℕ → Side
+with_read side value = record side { read = side.read ++ value ∷ [] }
 
 abbrev pub anew : Side → Side
 anew side = record side { read = [] }
 
-pub same_heard : {end : End} {side : Side} (value : ℕ) → Same end side → Same end (heard side value)
-same_heard value same = record { state = same.state; refused = same.refused; accepted = same.accepted; delivered = same.delivered; returned = same.returned; freed = same.freed }
+pub same_with_read : {end : End} {side : Side} (value : ℕ) → Same end side → Same end (with_read side value)
+same_with_read value same = record { state = same.state; refused = same.refused; accepted = same.accepted; delivered = same.delivered; returned = same.returned; freed = same.freed }
 
 pub same_anew : {end : End} {side : Side} → Same end side → Same end (anew side)
 same_anew same = record { state = same.state; refused = same.refused; accepted = same.accepted; delivered = same.delivered; returned = same.returned; freed = same.freed }
@@ -59,20 +59,20 @@ same_looked none looked read same = record { state = same.state; refused = same.
 pub wrote : {end : End} {side : Side} (written : ℕ → ℕ) → Same end side → Same (record end { written = written }) side
 wrote written same = record { state = same.state; refused = same.refused; accepted = same.accepted; delivered = same.delivered; returned = same.returned; freed = same.freed }
 
-pub hears : (link_config : LinkConfig) (theirs : Bool) (other side : Side) (side_events : List SideEvent) {end : End} {place : Place} (value : ℕ) → Follows link_config theirs other (heard side value) side_events end place → Follows link_config theirs other side (Gave value ∷ side_events) end place
-hears link_config theirs other side side_events value f = (f.0, (heard side value, refl, f.1), f.2)
+pub read_rows : (link_config : LinkConfig) (other_honest : Bool) (other side : Side) (side_events : List SideEvent) {end : End} {place : Place} (value : ℕ) → Follows link_config other_honest other (with_read side value) side_events end place → Follows link_config other_honest other side (Gave value ∷ side_events) end place
+read_rows link_config other_honest other side side_events value f = (f.0, (with_read side value, refl, f.1), f.2)
 
 -- Ticks
 
-phase_back : (phase : Phase) → phase_at (state_of phase) ≡ phase
+phase_back : (phase : Phase) → phase_of_state (state_of phase) ≡ phase
 phase_back Reset = refl
 phase_back Init = refl
 phase_back Ready = refl
 phase_back Run = refl
 
-moves_few : (phase : Phase) (v n : ℕ) → MovesTo phase v n → state_of (phase_at n) ≡ n
-moves_few Reset zero n (inl e) = let z : 1 ≡ n = cc in subst (λ k. state_of (phase_at k) ≡ k) z refl
-moves_few Reset (suc zero) n (inl e) = let z : 1 ≡ n = cc in subst (λ k. state_of (phase_at k) ≡ k) z refl
+moves_few : (phase : Phase) (v n : ℕ) → MovesTo phase v n → state_of (phase_of_state n) ≡ n
+moves_few Reset zero n (inl e) = let z : 1 ≡ n = cc in subst (λ k. state_of (phase_of_state k) ≡ k) z refl
+moves_few Reset (suc zero) n (inl e) = let z : 1 ≡ n = cc in subst (λ k. state_of (phase_of_state k) ≡ k) z refl
 moves_few Reset (suc (suc v)) n (inl e) = absurd (cc)
 moves_few Reset zero n (inr e) = absurd (cc)
 moves_few Reset (suc zero) n (inr e) = absurd (cc)
@@ -80,14 +80,14 @@ moves_few Reset (suc (suc v)) n (inr e) = absurd (cc)
 moves_few Init zero n (inl e) = absurd (cc)
 moves_few Init (suc v) n (inl e) = absurd (cc)
 moves_few Init zero n (inr e) = absurd (cc)
-moves_few Init (suc v) n (inr e) = let z : 2 ≡ n = cc in subst (λ k. state_of (phase_at k) ≡ k) z refl
-moves_few Ready zero n (inl e) = let z : 0 ≡ n = cc in subst (λ k. state_of (phase_at k) ≡ k) z refl
+moves_few Init (suc v) n (inr e) = let z : 2 ≡ n = cc in subst (λ k. state_of (phase_of_state k) ≡ k) z refl
+moves_few Ready zero n (inl e) = let z : 0 ≡ n = cc in subst (λ k. state_of (phase_of_state k) ≡ k) z refl
 moves_few Ready (suc zero) n (inl e) = absurd (cc)
-moves_few Ready (suc (suc v)) n (inl e) = let z : 3 ≡ n = cc in subst (λ k. state_of (phase_at k) ≡ k) z refl
+moves_few Ready (suc (suc v)) n (inl e) = let z : 3 ≡ n = cc in subst (λ k. state_of (phase_of_state k) ≡ k) z refl
 moves_few Ready zero n (inr e) = absurd (cc)
 moves_few Ready (suc zero) n (inr e) = absurd (cc)
 moves_few Ready (suc (suc v)) n (inr e) = absurd (cc)
-moves_few Run zero n (inl e) = let z : 0 ≡ n = cc in subst (λ k. state_of (phase_at k) ≡ k) z refl
+moves_few Run zero n (inl e) = let z : 0 ≡ n = cc in subst (λ k. state_of (phase_of_state k) ≡ k) z refl
 moves_few Run (suc v) n (inl e) = absurd (cc)
 moves_few Run zero n (inr e) = absurd (cc)
 moves_few Run (suc v) n (inr e) = absurd (cc)
@@ -96,21 +96,21 @@ pub clear_call : (end : End) (at count state : ℕ) (side : Side) → SawFor end
 clear_call end at zero state side saw none = (inr saw, none)
 clear_call end at (suc more) state side saw none = (saw, none)
 
-pub saw : (link_config : LinkConfig) (theirs : Bool) (other side : Side) (end : End) (config : EndConfig) (value : ℕ) (m : Move) → Same end side → side.read ≡ value ∷ [] → value ≡ other.state → ((n : ℕ) → m ≡ Set n → MovesTo end.handshake.phase value n) → ((n : ℕ) → m ≡ ClearThenSet n → MovesTo end.handshake.phase value n) →
-    Follows link_config theirs other side (map Marked (tick_marks value m)) (with_marks end (tick_marks value m)) (tick_place config m)
-saw link_config theirs other side end config value Stay same read met set clears = let new = record side { seen = Some value; read = [] } in
+pub saw : (link_config : LinkConfig) (other_honest : Bool) (other side : Side) (end : End) (config : EndConfig) (value : ℕ) (m : Move) → Same end side → side.read ≡ value ∷ [] → value ≡ other.state → ((n : ℕ) → m ≡ Set n → MovesTo end.handshake.phase value n) → ((n : ℕ) → m ≡ ClearThenSet n → MovesTo end.handshake.phase value n) →
+    Follows link_config other_honest other side (map Marked (tick_marks value m)) (with_marks end (tick_marks value m)) (tick_place config m)
+saw link_config other_honest other side end config value Stay same read met set clears = let new = record side { seen = Some value; read = [] } in
     (new, (new, (refl, (read, met, refl)), (new, (refl, refl), refl)), record { state = same.state; refused = same.refused; accepted = same.accepted; delivered = same.delivered; returned = same.returned; freed = same.freed; call = refl })
-saw link_config theirs other side end config value (Set n) same read met set clears = let new = record side { seen = Some value; read = [] } in
+saw link_config other_honest other side end config value (Set n) same read met set clears = let new = record side { seen = Some value; read = [] } in
     (new, (new, (refl, (read, met, refl)), refl), record { state = same.state; refused = same.refused; accepted = same.accepted; delivered = same.delivered; returned = same.returned; freed = same.freed; call = (inr (value, refl, set n refl), refl) })
-saw link_config theirs other side end config value (ClearThenSet n) same read met set clears = let new = record side { seen = Some value; read = [] } in (
+saw link_config other_honest other side end config value (ClearThenSet n) same read met set clears = let new = record side { seen = Some value; read = [] } in (
   new,
   (new, (refl, (read, met, refl)), refl),
   record { state = same.state; refused = same.refused; accepted = same.accepted; delivered = same.delivered; returned = same.returned; freed = same.freed; call = clear_call end config.own config.words n new (value, refl, clears n refl) refl },
 )
 
 -- a State step.
-pub wrote_state : (link_config : LinkConfig) (theirs : Bool) (other side : Side) (end : End) (n : ℕ) → Same end side → (n ≡ 0) ⊎ ((end.handshake.mark ≡ false) × SawFor end side.seen n) → Follows link_config theirs other side (Wrote n ∷ Marked Over ∷ []) (with_state end n) Closed
-wrote_state link_config theirs other side end n same may = (
+pub wrote_state : (link_config : LinkConfig) (other_honest : Bool) (other side : Side) (end : End) (n : ℕ) → Same end side → (n ≡ 0) ⊎ ((end.handshake.mark ≡ false) × SawFor end side.seen n) → Follows link_config other_honest other side (Wrote n ∷ Marked Over ∷ []) (with_state end n) Closed
+wrote_state link_config other_honest other side end n same may = (
   anew (side_with side n),
   (side_with side n, (allowed may, refl), (anew (side_with side n), (refl, refl), refl)),
   record {
@@ -124,11 +124,11 @@ wrote_state link_config theirs other side end n same may = (
   },
 )
   where
-    phase_is : phase_at side.state ≡ end.handshake.phase
-    phase_is = ap phase_at same.state ∙ phase_back end.handshake.phase
+    phase_is : phase_of_state side.state ≡ end.handshake.phase
+    phase_is = ap phase_of_state same.state ∙ phase_back end.handshake.phase
 
-    few : (n ≡ 0) ⊎ ((end.handshake.mark ≡ false) × SawFor end side.seen n) → state_of (phase_at n) ≡ n
-    few (inl e) = subst (λ k. state_of (phase_at k) ≡ k) (sym e) refl
+    few : (n ≡ 0) ⊎ ((end.handshake.mark ≡ false) × SawFor end side.seen n) → state_of (phase_of_state n) ≡ n
+    few (inl e) = subst (λ k. state_of (phase_of_state k) ≡ k) (sym e) refl
     few (inr h) = moves_few end.handshake.phase h.1.0 n h.1.2
 
     allowed : (n ≡ 0) ⊎ ((end.handshake.mark ≡ false) × SawFor end side.seen n) → MayWriteState true side n

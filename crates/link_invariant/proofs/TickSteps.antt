@@ -7,7 +7,7 @@ use Rattle.link_handshake.specs.declared.Phase.{Phase}
 use Rattle.link_handshake.specs.declared.Phase.TheVariants.{Reset, Init, Ready, Run}
 use Rattle.link_handshake.specs.declared.Move.{Move}
 use Rattle.link_handshake.specs.declared.Move.TheVariants.{Stay, Set, ClearThenSet}
-use Rattle.link_handshake.specs.PhaseTable.{move_on, state_of}
+use Rattle.link_handshake.specs.PhaseTable.{phase_move, state_of}
 use Rattle.link_handshake.specs.HandshakeState.{HandshakeState, move_of}
 use Rattle.call_grammar.specs.Ends.{End, with_marks}
 use Rattle.call_grammar.specs.Ticks.{tick_marks}
@@ -31,7 +31,7 @@ clear_holds link_config memory p end at zero done init here all clear = let e : 
 clear_holds link_config memory p end at (suc more) done init here all clear = ((init, refl, (done, here, all, clear)), refl)
 
 -- The next places of a tick, by the phase table.
-tick_holds : (link_config : LinkConfig) (memory : ℕ → ℕ) (p : ℕ) (end : End) (phase : Phase) (value : ℕ) → end.handshake.phase ≡ phase → PlaceInvariant link_config memory p end (tick_place (config_of link_config p) (move_on phase value)) × (counts (tick_place (config_of link_config p) (move_on phase value)) ≡ (0, 0))
+tick_holds : (link_config : LinkConfig) (memory : ℕ → ℕ) (p : ℕ) (end : End) (phase : Phase) (value : ℕ) → end.handshake.phase ≡ phase → PlaceInvariant link_config memory p end (tick_place (config_of link_config p) (phase_move phase value)) × (counts (tick_place (config_of link_config p) (phase_move phase value)) ≡ (0, 0))
 tick_holds link_config memory p end Reset zero is = (is, refl)
 tick_holds link_config memory p end Reset (suc zero) is = (is, refl)
 tick_holds link_config memory p end Reset (suc (suc more)) is = (tt, refl)
@@ -43,11 +43,11 @@ tick_holds link_config memory p end Ready (suc (suc more)) is = (is, refl)
 tick_holds link_config memory p end Run zero is = (tt, refl)
 tick_holds link_config memory p end Run (suc more) is = (tt, refl)
 
-move_holds : (link_config : LinkConfig) (memory : ℕ → ℕ) (p : ℕ) (end : End) (value : ℕ) (mark : Bool) → PlaceInvariant link_config memory p end (tick_place (config_of link_config p) (if mark then Stay else move_on end.handshake.phase value)) × (counts (tick_place (config_of link_config p) (if mark then Stay else move_on end.handshake.phase value)) ≡ (0, 0))
+move_holds : (link_config : LinkConfig) (memory : ℕ → ℕ) (p : ℕ) (end : End) (value : ℕ) (mark : Bool) → PlaceInvariant link_config memory p end (tick_place (config_of link_config p) (if mark then Stay else phase_move end.handshake.phase value)) × (counts (tick_place (config_of link_config p) (if mark then Stay else phase_move end.handshake.phase value)) ≡ (0, 0))
 move_holds link_config memory p end value true = (tt, refl)
 move_holds link_config memory p end value false = tick_holds link_config memory p end end.handshake.phase value refl
 
-ticked : (link_config : LinkConfig) (p : ℕ) (end : End) (value : ℕ) (b : Bool) → end.handshake.mark ≡ b → RefusalIsFinal end Closed → RefusalIsFinal end (tick_place (config_of link_config p) (if b then Stay else move_on end.handshake.phase value))
+ticked : (link_config : LinkConfig) (p : ℕ) (end : End) (value : ℕ) (b : Bool) → end.handshake.mark ≡ b → RefusalIsFinal end Closed → RefusalIsFinal end (tick_place (config_of link_config p) (if b then Stay else phase_move end.handshake.phase value))
 ticked link_config p end value true e rests = rests
 ticked link_config p end value false e rests = free end _ e
 

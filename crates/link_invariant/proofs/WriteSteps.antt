@@ -10,7 +10,7 @@ use Rattle.std.proofs.Math.ListN.{get_or-append}
 use Rattle.std.proofs.Math.Seq.{get_or-append_seam}
 use Rattle.split_ring.specs.Layout.{has_events, size_of, limit_of, word_offset, DescAddress}
 use Rattle.split_ring.specs.Frames.{start_of}
-use Rattle.split_ring.proofs.Frames.{frames_lem}
+use Rattle.split_ring.proofs.FramesAreLaidOut.{frames_are_laid_out}
 use Rattle.split_ring.specs.Layout as ring
 use Rattle.split_ring.specs.Spelling.{entry_half}
 use Rattle.link_handshake.specs.declared.Phase.TheVariants.{Run}
@@ -24,7 +24,7 @@ use Rattle.link_invariant.specs.LinkConfig.{LinkConfig, IsLinkConfig, section_of
 use Rattle.link_invariant.specs.Steps.{Stored, MemoryAfter}
 use Rattle.link_invariant.specs.EndInvariant.{frame_at, start_in, Spelled, IsNext, start_for, HasRoom, Filled, PlaceInvariant, counts, EndInvariant}
 use Rattle.link_invariant.proofs.Fields.{numbers, one_test, is_word, field_read, Entries, Put, put_of, written_kept}
-use Rattle.link_invariant.proofs.EndObligations.{run_ready, opened, free, spelled_kept, next_kept, filled_kept, job_good, start_before, Puts, free_descriptor, free_entry, free_word, writes}
+use Rattle.link_invariant.proofs.EndObligations.{run_ready, opened, free, spelled_kept, next_kept, filled_kept, pending_is_good, start_before, Puts, free_descriptor, free_entry, free_word, writes}
 use Rattle.link_invariant.proofs.ReadSteps.{StepsTo, fill_holds, items_holds}
 
 -- Two words of one frame are different fields.
@@ -49,8 +49,8 @@ entry_there k l word d ne half low = dite (ℕ_discrete (k % 2) 0)
     (λ odd. let even : l % 2 ≡ 0 = omega arith in grind (arith, nat_tests))
 
 -- The place after the write of the available index.
-pub tell_holds : (link_config : LinkConfig) (memory : ℕ → ℕ) (p : ℕ) (end : End) (number : ℕ) → end.handshake.phase ≡ Run → number + 1 ≡ length end.accepted → PlaceInvariant link_config memory p end (notify_place (config_of link_config p) number) × (counts (notify_place (config_of link_config p) number) ≡ (0, 0))
-tell_holds link_config memory p end number run next = by_bool (has_events link_config.sizes)
+pub notify_holds : (link_config : LinkConfig) (memory : ℕ → ℕ) (p : ℕ) (end : End) (number : ℕ) → end.handshake.phase ≡ Run → number + 1 ≡ length end.accepted → PlaceInvariant link_config memory p end (notify_place (config_of link_config p) number) × (counts (notify_place (config_of link_config p) number) ≡ (0, 0))
+notify_holds link_config memory p end number run next = by_bool (has_events link_config.sizes)
   where
     by_bool : (b : Bool) → PlaceInvariant link_config memory p end (if b then ReadingAvailEvent number else RingingOffer) × (counts (if b then ReadingAvailEvent number else RingingOffer) ≡ (0, 0))
     by_bool true = ((run, next), refl)
@@ -69,7 +69,7 @@ module _ (link_config : LinkConfig) (is : IsLinkConfig link_config) (p : ℕ) (p
 
   -- The number of frames in flight is below the limit.
   spare_of : (pending : PendingOffer) → HasRoom link_config pending end.freed → pending.number < end.freed + limit_of link_config.sizes
-  spare_of pending room = frames_lem.few link_config.sizes pending.lengths end.freed pending.number room
+  spare_of pending room = frames_are_laid_out.few link_config.sizes pending.lengths end.freed pending.number room
 
   -- The descriptor of the pending offer holds no frame in flight.
   unused : (pending : PendingOffer) (count : ℕ) → Filled link_config (fields link_config memory p) end.accepted end.freed pending count → (k : ℕ) × (end.freed ≤ k) × (k < length end.accepted) × (pending.number % limit_of link_config.sizes ≡ k % limit_of link_config.sizes) → ⊥
@@ -90,35 +90,35 @@ module _ (link_config : LinkConfig) (is : IsLinkConfig link_config) (p : ℕ) (p
   low_event n = omega arith
 
   even : (length_of : ℕ → ℕ) (k : ℕ) → start_of link_config.sizes length_of k % 4 ≡ 0
-  even length_of k = (frames_lem.placed link_config.sizes length_of k is.queue).even
+  even length_of k = (frames_are_laid_out.placed link_config.sizes length_of k is.queue).even
 
   next_start : (pending : PendingOffer) → pending.lengths ≡ lengths_of (end.accepted ++ pending.frame ∷ []) → pending.number ≡ length end.accepted → start_for link_config pending ≡ start_in link_config (end.accepted ++ pending.frame ∷ []) (length end.accepted)
   next_start pending lengths number = ap (λ (l : ℕ → ℕ). start_of link_config.sizes l pending.number) lengths ∙ ap (start_of link_config.sizes (lengths_of (end.accepted ++ pending.frame ∷ []))) number
 
   -- The field that the step at a place writes.
-  pub puts_lem : (place : Place) → MemoryAfter p memory (access_at (config_of link_config p) place) after → PlaceInvariant link_config memory p end place → Puts link_config p memory after place
-  puts_lem (WritingFrameWord pending at more) stored h = let start = start_for link_config pending in let all = h.2 in
+  pub place_puts : (place : Place) → MemoryAfter p memory (access_at (config_of link_config p) place) after → PlaceInvariant link_config memory p end place → Puts link_config p memory after place
+  place_puts (WritingFrameWord pending at more) stored h = let start = start_for link_config pending in let all = h.2 in
       let x : section_of link_config p + start / 4 + at ≡ section_of link_config p + (start / 4 + at) = omega arith in
-      puts (field.DataWord (start / 4 + at)) (frame_word pending.frame at) _ (is_word link_config is start (length pending.frame) at (job_good is h.1.next) (omega arith)) (λ t e. e) refl (subst (λ w. Stored memory after w (frame_word pending.frame at)) x stored)
-  puts_lem (WritingDescAddressLow pending) stored h = puts (field.AddressLow (pending.number % limit_of link_config.sizes)) _ _ (one_test _ _ (descriptor pending)) (λ t e. e) refl stored
-  puts_lem (WritingDescAddressHigh pending) stored h = let i = pending.number % limit_of link_config.sizes in
+      puts (field.DataWord (start / 4 + at)) (frame_word pending.frame at) _ (is_word link_config is start (length pending.frame) at (pending_is_good is h.1.next) (omega arith)) (λ t e. e) refl (subst (λ w. Stored memory after w (frame_word pending.frame at)) x stored)
+  place_puts (WritingDescAddressLow pending) stored h = puts (field.AddressLow (pending.number % limit_of link_config.sizes)) _ _ (one_test _ _ (descriptor pending)) (λ t e. e) refl stored
+  place_puts (WritingDescAddressHigh pending) stored h = let i = pending.number % limit_of link_config.sizes in
       let x : section_of link_config p + word_offset link_config.sizes (DescAddress i) + 1 ≡ section_of link_config p + (word_offset link_config.sizes (DescAddress i) + 1) = omega arith in
       puts (field.AddressHigh i) 0 0 (one_test _ _ (descriptor pending)) (λ t e. e) refl (subst (λ w. Stored memory after w 0) x stored)
-  puts_lem (WritingDescLength pending) stored h = puts (field.DescLength (pending.number % limit_of link_config.sizes)) _ _ (one_test _ _ (descriptor pending)) (λ t e. e) refl stored
-  puts_lem (WritingDescFlags pending) stored h = puts (field.DescFlags (pending.number % limit_of link_config.sizes)) 0 0 (one_test _ _ (descriptor pending)) (λ t e. e) refl stored
-  puts_lem (WritingAvailEntry pending) stored h = let k = pending.number % size_of link_config.sizes in let d = pending.number % limit_of link_config.sizes in
+  place_puts (WritingDescLength pending) stored h = puts (field.DescLength (pending.number % limit_of link_config.sizes)) _ _ (one_test _ _ (descriptor pending)) (λ t e. e) refl stored
+  place_puts (WritingDescFlags pending) stored h = puts (field.DescFlags (pending.number % limit_of link_config.sizes)) 0 0 (one_test _ _ (descriptor pending)) (λ t e. e) refl stored
+  place_puts (WritingAvailEntry pending) stored h = let k = pending.number % size_of link_config.sizes in let d = pending.number % limit_of link_config.sizes in
       let low : d < 65536 = let few = (numbers link_config is).size_most in let under = descriptor pending in omega arith in
       put_of link_config is memory after p p2 (field.AvailEntry k) (with_entry k pending.neighbour_word d) d (one_test _ _ (turn_low pending.number)) stored (entry_here k pending.neighbour_word d low) (entry_beside pending h.1.next low)
-  puts_lem (WritingAvailIndex pending) stored h = puts field.AvailIndex (index_word (pending.number + 1)) _ refl (λ t e. e) (high_index (pending.number + 1)) stored
-  puts_lem (WritingAvailEvent taken) stored h = puts field.AvailEvent (taken % 65536) _ refl (λ t e. e) (low_event taken) stored
-  puts_lem (WritingUsedId number more entry) stored h = puts (field.UsedId (number % size_of link_config.sizes)) entry _ (one_test _ _ (turn_low number)) (λ t e. e) refl stored
-  puts_lem (WritingUsedLength number more) stored h = puts (field.UsedLength (number % size_of link_config.sizes)) 1 _ (one_test _ _ (turn_low number)) (λ t e. e) refl stored
-  puts_lem (WritingUsedIndex number more) stored h = puts field.UsedIndex (index_word (number + 1)) _ refl (λ t e. e) (high_index (number + 1)) stored
-  puts_lem place stored h = tt
+  place_puts (WritingAvailIndex pending) stored h = puts field.AvailIndex (index_word (pending.number + 1)) _ refl (λ t e. e) (high_index (pending.number + 1)) stored
+  place_puts (WritingAvailEvent taken) stored h = puts field.AvailEvent (taken % 65536) _ refl (λ t e. e) (low_event taken) stored
+  place_puts (WritingUsedId number more entry) stored h = puts (field.UsedId (number % size_of link_config.sizes)) entry _ (one_test _ _ (turn_low number)) (λ t e. e) refl stored
+  place_puts (WritingUsedLength number more) stored h = puts (field.UsedLength (number % size_of link_config.sizes)) 1 _ (one_test _ _ (turn_low number)) (λ t e. e) refl stored
+  place_puts (WritingUsedIndex number more) stored h = puts field.UsedIndex (index_word (number + 1)) _ refl (λ t e. e) (high_index (number + 1)) stored
+  place_puts place stored h = tt
 
   pub fills : (pending : PendingOffer) (at more value : ℕ) → Stored memory after (section_of link_config p + start_for link_config pending / 4 + at) (frame_word pending.frame at) → EndInvariant link_config memory p end (WritingFrameWord pending at more) → StepsTo link_config p after end (WritingFrameWord pending at more) value
   fills pending at more value stored a = let h = a.holds in let start = start_for link_config pending in let f = field.DataWord (start / 4 + at) in let all = h.2 in
-      let put = puts_lem (WritingFrameWord pending at more) stored h in
+      let put = place_puts (WritingFrameWord pending at more) stored h in
       let now : Filled link_config (fields link_config after p) end.accepted end.freed pending (at + 1) = record {
         next = next_kept (λ e ne. put.neighbour_word _ (λ e. cc)) h.1.next;
         room = h.1.room;
@@ -131,40 +131,40 @@ module _ (link_config : LinkConfig) (is : IsLinkConfig link_config) (p : ℕ) (p
 
   pub lowers : (pending : PendingOffer) (value : ℕ) → MemoryAfter p memory (access_at (config_of link_config p) (WritingDescAddressLow pending)) after → EndInvariant link_config memory p end (WritingDescAddressLow pending) → StepsTo link_config p after end (WritingDescAddressLow pending) value
   lowers pending value stored a = let h = a.holds in let i = pending.number % limit_of link_config.sizes in let f = field.AddressLow i in
-      let put = puts_lem (WritingDescAddressLow pending) stored h in
+      let put = place_puts (WritingDescAddressLow pending) stored h in
       writes link_config is memory after p end (WritingDescAddressLow pending) (WritingDescAddressHigh pending) f _ _ _ h.0 a.rests stored put (unused pending _ h.1)
       (h.0, filled_kept (λ e ne. put.neighbour_word _ (λ e. cc)) (λ j. put.neighbour_word _ (λ e. cc)) h.1, put.here) refl a
 
   pub heightens : (pending : PendingOffer) (value : ℕ) → MemoryAfter p memory (access_at (config_of link_config p) (WritingDescAddressHigh pending)) after → EndInvariant link_config memory p end (WritingDescAddressHigh pending) → StepsTo link_config p after end (WritingDescAddressHigh pending) value
   heightens pending value stored a = let h = a.holds in let i = pending.number % limit_of link_config.sizes in let f = field.AddressHigh i in
-      let put = puts_lem (WritingDescAddressHigh pending) stored h in
+      let put = place_puts (WritingDescAddressHigh pending) stored h in
       writes link_config is memory after p end (WritingDescAddressHigh pending) (WritingDescLength pending) f _ _ _ h.0 a.rests stored put (unused pending _ h.1)
       (h.0, filled_kept (λ e ne. put.neighbour_word _ (λ e. cc)) (λ j. put.neighbour_word _ (λ e. cc)) h.1, put.neighbour_word _ (λ e. cc) ∙ h.2, put.here) refl a
 
   pub measures : (pending : PendingOffer) (value : ℕ) → MemoryAfter p memory (access_at (config_of link_config p) (WritingDescLength pending)) after → EndInvariant link_config memory p end (WritingDescLength pending) → StepsTo link_config p after end (WritingDescLength pending) value
   measures pending value stored a = let h = a.holds in let i = pending.number % limit_of link_config.sizes in let f = field.DescLength i in
-      let put = puts_lem (WritingDescLength pending) stored h in
+      let put = place_puts (WritingDescLength pending) stored h in
       writes link_config is memory after p end (WritingDescLength pending) (WritingDescFlags pending) f _ _ _ h.0 a.rests stored put (unused pending _ h.1)
       (h.0, filled_kept (λ e ne. put.neighbour_word _ (λ e. cc)) (λ j. put.neighbour_word _ (λ e. cc)) h.1, put.neighbour_word _ (λ e. cc) ∙ h.2, put.neighbour_word _ (λ e. cc) ∙ h.3, put.here) refl a
 
   pub unflags : (pending : PendingOffer) (value : ℕ) → MemoryAfter p memory (access_at (config_of link_config p) (WritingDescFlags pending)) after → EndInvariant link_config memory p end (WritingDescFlags pending) → StepsTo link_config p after end (WritingDescFlags pending) value
   unflags pending value stored a = let h = a.holds in let i = pending.number % limit_of link_config.sizes in let f = field.DescFlags i in
-      let put = puts_lem (WritingDescFlags pending) stored h in
+      let put = place_puts (WritingDescFlags pending) stored h in
       writes link_config is memory after p end (WritingDescFlags pending) (WritingAvailEntry pending) f _ _ _ h.0 a.rests stored put (unused pending _ h.1)
       (h.0, filled_kept (λ e ne. put.neighbour_word _ (λ e. cc)) (λ j. put.neighbour_word _ (λ e. cc)) h.1, put.neighbour_word _ (λ e. cc) ∙ h.2, put.neighbour_word _ (λ e. cc) ∙ h.3, put.neighbour_word _ (λ e. cc) ∙ h.4, put.here) refl a
 
   pub enters : (pending : PendingOffer) (value : ℕ) → MemoryAfter p memory (access_at (config_of link_config p) (WritingAvailEntry pending)) after → EndInvariant link_config memory p end (WritingAvailEntry pending) → StepsTo link_config p after end (WritingAvailEntry pending) value
   enters pending value stored a = let h = a.holds in let k = pending.number % size_of link_config.sizes in let d = pending.number % limit_of link_config.sizes in let f = field.AvailEntry k in let b = numbers link_config is in
-      let put = puts_lem (WritingAvailEntry pending) stored h in
+      let put = place_puts (WritingAvailEntry pending) stored h in
       writes link_config is memory after p end (WritingAvailEntry pending) (WritingAvailIndex pending) f _ _ _ h.0 a.rests stored put (λ live. free_entry link_config end.freed (length end.accepted) pending.number b.limit_least b.limit_most h.1.next.number (spare_of pending h.1.room) live)
       (h.0, h.1.next.number, h.1.next.lengths, h.1.room, record { offered = h.1.next.frame; entry = put.here; low = put.neighbour_word _ (λ e. cc) ∙ h.2; high = put.neighbour_word _ (λ e. cc) ∙ h.3; size = put.neighbour_word _ (λ e. cc) ∙ h.4; flags = put.neighbour_word _ (λ e. cc) ∙ h.5; words = λ j lt. put.neighbour_word _ (λ e. cc) ∙ h.1.words j lt }) refl a
 
   pub publishes : (pending : PendingOffer) (value : ℕ) → MemoryAfter p memory (access_at (config_of link_config p) (WritingAvailIndex pending)) after → EndInvariant link_config memory p end (WritingAvailIndex pending) → StepsTo link_config p after end (WritingAvailIndex pending) value
   publishes pending value stored a = let h = a.holds in let n = length end.accepted in let frame = pending.frame in let run = h.0 in let s = a.sent (opened run) in let count = longer end.accepted frame in let number = h.1 in let spare = spare_of pending h.3 in
-      let put = puts_lem (WritingAvailIndex pending) stored h in
+      let put = place_puts (WritingAvailIndex pending) stored h in
       let keep : (k start : ℕ) (g : List ℕ) → start % 4 ≡ 0 → Spelled link_config (fields link_config memory p) k start g → Spelled link_config (fields link_config after p) k start g = λ k start g even. spelled_kept even (λ f live na nu. put.neighbour_word f na) in
       let now : End = record end { written = λ w. if w == section_of link_config p + word_offset link_config.sizes ring.AvailIndex then index_word (pending.number + 1) else end.written w; accepted = end.accepted ++ frame ∷ [] } in
-      let x = tell_holds link_config after p now pending.number run (omega arith) in record {
+      let x = notify_holds link_config after p now pending.number run (omega arith) in record {
         state = put.state ∙ a.state;
         written = written_kept memory after (section_of link_config p) _ _ link_config.words end.written stored a.written;
         holds = x.0;
@@ -190,22 +190,22 @@ module _ (link_config : LinkConfig) (is : IsLinkConfig link_config) (p : ℕ) (p
 
   pub arms : (taken value : ℕ) → MemoryAfter p memory (access_at (config_of link_config p) (WritingAvailEvent taken)) after → EndInvariant link_config memory p end (WritingAvailEvent taken) → StepsTo link_config p after end (WritingAvailEvent taken) value
   arms taken value stored a = let h = a.holds in
-      let put = puts_lem (WritingAvailEvent taken) stored h in
+      let put = place_puts (WritingAvailEvent taken) stored h in
       writes link_config is memory after p end (WritingAvailEvent taken) (ReadingAvailIndex taken true) field.AvailEvent _ _ _ h.0 a.rests stored put (λ live. live.3) h refl a
 
   pub gives_id : (number more entry value : ℕ) → MemoryAfter p memory (access_at (config_of link_config p) (WritingUsedId number more entry)) after → EndInvariant link_config memory p end (WritingUsedId number more entry) → StepsTo link_config p after end (WritingUsedId number more entry) value
   gives_id number more entry value stored a = let h = a.holds in let k = number % size_of link_config.sizes in
-      let put = puts_lem (WritingUsedId number more entry) stored h in
+      let put = place_puts (WritingUsedId number more entry) stored h in
       writes link_config is memory after p end (WritingUsedId number more entry) (WritingUsedLength number more) (field.UsedId k) _ _ _ h.0 a.rests stored put (λ live. live.3) (h.0, h.1, h.3) refl a
 
   pub gives_length : (number more value : ℕ) → MemoryAfter p memory (access_at (config_of link_config p) (WritingUsedLength number more)) after → EndInvariant link_config memory p end (WritingUsedLength number more) → StepsTo link_config p after end (WritingUsedLength number more) value
   gives_length number more value stored a = let h = a.holds in let k = number % size_of link_config.sizes in
-      let put = puts_lem (WritingUsedLength number more) stored h in
+      let put = place_puts (WritingUsedLength number more) stored h in
       writes link_config is memory after p end (WritingUsedLength number more) (WritingUsedIndex number more) (field.UsedLength k) _ _ _ h.0 a.rests stored put (λ live. live.3) h refl a
 
   pub gives_index : (number more value : ℕ) → MemoryAfter p memory (access_at (config_of link_config p) (WritingUsedIndex number more)) after → EndInvariant link_config memory p end (WritingUsedIndex number more) → StepsTo link_config p after end (WritingUsedIndex number more) value
   gives_index number more value stored a = let h = a.holds in let run = h.0 in let number_is = h.1 in let s = a.sent (opened run) in let level = a.level (opened run) in
-      let put = puts_lem (WritingUsedIndex number more) stored h in
+      let put = place_puts (WritingUsedIndex number more) stored h in
       let now : End = record end { written = λ w. if w == section_of link_config p + word_offset link_config.sizes ring.UsedIndex then index_word (number + 1) else end.written w; returned = end.returned + 1 } in
       let x = items_holds link_config after p now (number + 1) more run (omega arith) (let few = h.2 in omega arith) in record {
         state = put.state ∙ a.state;

@@ -28,8 +28,8 @@ side_events_by step = side_events_of step.access step.value ++ map Marked step.m
 
 -- An honest side satisfies these rows in order, while the other is unchanged.
 abbrev pub FollowsRows : Sizes → Bool → Side → Side → List SideEvent → Side → Type 0
-FollowsRows sizes theirs other side [] new = new ≡ side
-FollowsRows sizes theirs other side (side_event ∷ side_events) new = (mid : Side) × Row sizes true theirs side other side_event mid × FollowsRows sizes theirs other mid side_events new
+FollowsRows sizes other_honest other side [] new = new ≡ side
+FollowsRows sizes other_honest other side (side_event ∷ side_events) new = (mid : Side) × Row sizes true other_honest side other side_event mid × FollowsRows sizes other_honest other mid side_events new
 
 -- The side saw a value from which the end moves to this State.
 abbrev pub SawFor : End → Option ℕ → ℕ → Type 0
@@ -89,5 +89,5 @@ pub record StepsFollowRows : Type 0 where
       is_open (places p) ≡ true → ReadsMemory memory (access_at (config_of link_config p) (places p)) value →
       (new : Side) × FollowsRows link_config.sizes (honest (1 - p)) other side (side_events_by (step_at (config_of link_config p) (places p) value)) new ×
       SideIs (end_after (ends p) (step_at (config_of link_config p) (places p) value)) (next_place (config_of link_config p) (places p) value) new
-  pub resets : (sizes : Sizes) (theirs : Bool) (end : End) (place : Place) (side other : Side) → SideIs end place side →
-      (new : Side) × Row sizes true theirs side other WasReset new × SideIs (after_reset end) Closed new
+  pub resets : (sizes : Sizes) (other_honest : Bool) (end : End) (place : Place) (side other : Side) → SideIs end place side →
+      (new : Side) × Row sizes true other_honest side other WasReset new × SideIs (after_reset end) Closed new

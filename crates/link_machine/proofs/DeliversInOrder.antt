@@ -7,7 +7,7 @@ use Rattle.std.proofs.lemmas.Option.{slice_get_within, get_or_from_slice_get}
 use Rattle.std.proofs.Math.Seq.{get_or-append_seam}
 use Rattle.link_handshake.specs.declared.Phase.{Phase}
 use Rattle.link_handshake.specs.declared.Phase.TheVariants.{Reset, Init, Ready, Run}
-use Rattle.link_handshake.specs.PhaseTable.{phase_at}
+use Rattle.link_handshake.specs.PhaseTable.{phase_of_state}
 use Rattle.split_ring.specs.Layout.{Sizes}
 use Rattle.call_grammar.specs.Steps.{Mark, Saw, Reclaim, Full, Accept, Look, Deliver, Return, Done, Down, Refuse, Over}
 use Rattle.call_grammar.specs.Rows.{MovesTo}
@@ -98,19 +98,19 @@ table Run (suc v) n (inl e) = absurd (cc)
 table Run zero n (inr e) = absurd (cc)
 table Run (suc v) n (inr e) = absurd (cc)
 
-is_reset : (s : ℕ) → phase_at s ≡ Reset → s ≡ 0
+is_reset : (s : ℕ) → phase_of_state s ≡ Reset → s ≡ 0
 is_reset zero e = refl
 is_reset (suc zero) e = absurd (cc)
 is_reset (suc (suc zero)) e = absurd (cc)
 is_reset (suc (suc (suc v))) e = absurd (cc)
 
-is_init : (s : ℕ) → phase_at s ≡ Init → s ≡ 1
+is_init : (s : ℕ) → phase_of_state s ≡ Init → s ≡ 1
 is_init zero e = absurd (cc)
 is_init (suc zero) e = refl
 is_init (suc (suc zero)) e = absurd (cc)
 is_init (suc (suc (suc v))) e = absurd (cc)
 
-is_ready : (s : ℕ) → phase_at s ≡ Ready → s ≡ 2
+is_ready : (s : ℕ) → phase_of_state s ≡ Ready → s ≡ 2
 is_ready zero e = absurd (cc)
 is_ready (suc zero) e = absurd (cc)
 is_ready (suc (suc zero)) e = refl
@@ -123,10 +123,10 @@ wrote_zero p q l m = falls_to refl refl record { accepted = refl; delivered = re
 not_run : (p : Side) (l : Log) → p.state ≢ 3 → ended_with l p ≡ l.ended
 not_run p l ne = no (p.state == 3) _ l.ended (ne_eqb p.state 3 ne)
 
-wrote_kind : (p q : Side) (l m : Log) (v n : ℕ) → p.seen ≡ Some v → MovesTo (phase_at p.state) v n → Kind p q l m (side_with p n) (log_after l m p (Wrote n))
-wrote_kind p q l m v n seen moves = by_table (table (phase_at p.state) v n moves)
+wrote_kind : (p q : Side) (l m : Log) (v n : ℕ) → p.seen ≡ Some v → MovesTo (phase_of_state p.state) v n → Kind p q l m (side_with p n) (log_after l m p (Wrote n))
+wrote_kind p q l m v n seen moves = by_table (table (phase_of_state p.state) v n moves)
   where
-    by_table : (n ≡ 0) ⊎ (((phase_at p.state ≡ Reset) × (v ≤ 1) × (n ≡ 1)) ⊎ (((phase_at p.state ≡ Init) × (1 ≤ v) × (n ≡ 2)) ⊎ ((phase_at p.state ≡ Ready) × (2 ≤ v) × (n ≡ 3)))) → Kind p q l m (side_with p n) (log_after l m p (Wrote n))
+    by_table : (n ≡ 0) ⊎ (((phase_of_state p.state ≡ Reset) × (v ≤ 1) × (n ≡ 1)) ⊎ (((phase_of_state p.state ≡ Init) × (1 ≤ v) × (n ≡ 2)) ⊎ ((phase_of_state p.state ≡ Ready) × (2 ≤ v) × (n ≡ 3)))) → Kind p q l m (side_with p n) (log_after l m p (Wrote n))
     by_table (inl e) = subst (λ k. Kind p q l m (side_with p k) (log_after l m p (Wrote k))) (sym e) (wrote_zero p q l m)
     by_table (inr (inl h)) = let s = is_reset p.state h.0 in subst (λ k. Kind p q l m (side_with p k) (log_after l m p (Wrote k))) (sym h.2)
         (inits s (subst SawLow (sym seen) h.1) refl refl record { accepted = refl; delivered = refl } record { opened = refl; carried = refl; earlier = λ k. refl } (not_run p l (λ e. omega arith)))
@@ -218,8 +218,8 @@ next_is frames done (g ∷ rest) frame is next =
 
 -- The side that makes the step
 
-mine_lem : (p q new : Side) (l m l' : Log) → Kind p q l m new l' → Half p q l m → Half q p m l → Half new q l' m
-mine_lem p q new l m l' (falls_to s n k ks ended) h o = let none : Attends new → ⊥ = idle new (λ e. omega arith) (λ e. absurd (omega arith)) in record {
+own_half_kept : (p q new : Side) (l m l' : Log) → Kind p q l m new l' → Half p q l m → Half q p m l → Half new q l' m
+own_half_kept p q new l m l' (falls_to s n k ks ended) h o = let none : Attends new → ⊥ = idle new (λ e. omega arith) (λ e. absurd (omega arith)) in record {
   few = omega arith;
   ready = λ e. absurd (omega arith);
   cross = λ a. absurd (none a);
@@ -232,7 +232,7 @@ mine_lem p q new l m l' (falls_to s n k ks ended) h o = let none : Attends new �
   past = subst (AreBeginnings m q) (sym ended) (ended_past p q l m h);
   falls = subst (CarriedFall (bound new l')) (sym ended) (subst (λ b. CarriedFall b (ended_with l p)) (ap (λ c. c + 1) (sym ks.carried) ∙ sym (bound_else new l' (λ e. omega arith))) (ended_falls p q l m h));
 }
-mine_lem p q new l m l' (inits z low s n k ks ended) h o = let none : Attends new → ⊥ = idle new (λ e. omega arith) (λ e. absurd (omega arith)) in record {
+own_half_kept p q new l m l' (inits z low s n k ks ended) h o = let none : Attends new → ⊥ = idle new (λ e. omega arith) (λ e. absurd (omega arith)) in record {
   few = omega arith;
   ready = λ e. absurd (omega arith);
   cross = λ a. absurd (none a);
@@ -245,7 +245,7 @@ mine_lem p q new l m l' (inits z low s n k ks ended) h o = let none : Attends ne
   past = subst (AreBeginnings m q) (sym ended) h.past;
   falls = subst (CarriedFall (bound new l')) (sym ended) (subst (λ b. CarriedFall b l.ended) (bound_else p l (λ e. omega arith) ∙ (ap (λ c. c + 1) (sym ks.carried) ∙ sym (bound_else new l' (λ e. omega arith)))) h.falls);
 }
-mine_lem p q new l m l' (opens z some s n a d opened carried earlier ended) h o = let none : Attends new → ⊥ = idle new (λ e. omega arith) (λ _ high. subst SawHigh n high) in record {
+own_half_kept p q new l m l' (opens z some s n a d opened carried earlier ended) h o = let none : Attends new → ⊥ = idle new (λ e. omega arith) (λ _ high. subst SawHigh n high) in record {
   few = omega arith;
   ready = λ e. (a, d);
   cross = λ a. absurd (none a);
@@ -258,7 +258,7 @@ mine_lem p q new l m l' (opens z some s n a d opened carried earlier ended) h o 
   past = subst (AreBeginnings m q) (sym ended) h.past;
   falls = subst (CarriedFall (bound new l')) (sym ended) (subst (λ b. CarriedFall b l.ended) (bound_else p l (λ e. omega arith) ∙ (ap (λ c. c + 1) (sym carried) ∙ sym (bound_else new l' (λ e. omega arith)))) h.falls);
 }
-mine_lem p q new l m l' (runs z high s n k opened carried earlier ended) h o = record {
+own_half_kept p q new l m l' (runs z high s n k opened carried earlier ended) h o = record {
   few = omega arith;
   ready = λ e. absurd (omega arith);
   cross = λ _. h.cross (inr (z, high));
@@ -272,7 +272,7 @@ mine_lem p q new l m l' (runs z high s n k opened carried earlier ended) h o = r
   falls = subst (CarriedFall (bound new l')) (sym ended) (subst (λ b. CarriedFall b l.ended) (sym carried ∙ sym (bound_run new l' s))
       (fall_from (l.carried + 1) m.opened l.ended (let lt = h.attends z high in omega arith) (subst (λ b. CarriedFall b l.ended) (bound_else p l (λ e. omega arith)) h.falls)));
 }
-mine_lem p q new l m l' (sees s n k same) h o = subst (λ (x : Log). Half new q x m) (sym same) record {
+own_half_kept p q new l m l' (sees s n k same) h o = subst (λ (x : Log). Half new q x m) (sym same) record {
   few = let f = h.few in omega arith;
   ready = λ e. let r = h.ready (sym s ∙ e) in (k.accepted ∙ r.0, k.delivered ∙ r.1);
   cross = λ a. ⊎_elim (λ e. h.cross (inl (sym s ∙ e))) (λ x. let two : 2 ≤ q.state = subst SawHigh n x.1 in ((λ e. omega arith), (λ e. absurd (omega arith)))) a;
@@ -287,7 +287,7 @@ mine_lem p q new l m l' (sees s n k same) h o = subst (λ (x : Log). Half new q 
   past = h.past;
   falls = subst (λ k. CarriedFall (if k == 3 then l.carried else l.carried + 1) l.ended) (sym s) h.falls;
 }
-mine_lem p q new l m l' (accepts z frame s n a d same) h o = subst (λ (x : Log). Half new q x m) (sym same) record {
+own_half_kept p q new l m l' (accepts z frame s n a d same) h o = subst (λ (x : Log). Half new q x m) (sym same) record {
   few = omega arith;
   ready = λ e. absurd (omega arith);
   cross = λ _. h.cross (inl z);
@@ -300,7 +300,7 @@ mine_lem p q new l m l' (accepts z frame s n a d same) h o = subst (λ (x : Log)
   past = h.past;
   falls = subst (λ k. CarriedFall (if k == 3 then l.carried else l.carried + 1) l.ended) (z ∙ sym s) h.falls;
 }
-mine_lem p q new l m l' (delivers z frame s n a d next same) h o = subst (λ (x : Log). Half new q x m) (sym same) record {
+own_half_kept p q new l m l' (delivers z frame s n a d next same) h o = subst (λ (x : Log). Half new q x m) (sym same) record {
   few = omega arith;
   ready = λ e. absurd (omega arith);
   cross = λ _. h.cross (inl z);
@@ -313,7 +313,7 @@ mine_lem p q new l m l' (delivers z frame s n a d next same) h o = subst (λ (x 
   past = h.past;
   falls = subst (λ k. CarriedFall (if k == 3 then l.carried else l.carried + 1) l.ended) (z ∙ sym s) h.falls;
 }
-mine_lem p q new l m l' (counts s n k same) h o = subst (λ (x : Log). Half new q x m) (sym same) record {
+own_half_kept p q new l m l' (counts s n k same) h o = subst (λ (x : Log). Half new q x m) (sym same) record {
   few = let f = h.few in omega arith;
   ready = λ e. let r = h.ready (sym s ∙ e) in (k.accepted ∙ r.0, k.delivered ∙ r.1);
   cross = λ a. h.cross (same_attends p new s n a);
@@ -344,8 +344,8 @@ opens_grows l l' p new opened earlier k le = (omega arith, ([], no (k == l'.open
 still : (p new : Side) → Keeps p new → new.accepted ≡ p.accepted ++ []
 still p new k = k.accepted ∙ sym (nil_append p.accepted)
 
-theirs_lem : (p q new : Side) (l m l' : Log) → Kind p q l m new l' → Half p q l m → Half q p m l → Half q new m l'
-theirs_lem p q new l m l' (falls_to s n k ks ended) h o = let none : Attends new → ⊥ = idle new (λ e. omega arith) (λ e. absurd (omega arith)) in record {
+other_half_kept : (p q new : Side) (l m l' : Log) → Kind p q l m new l' → Half p q l m → Half q p m l → Half q new m l'
+other_half_kept p q new l m l' (falls_to s n k ks ended) h o = let none : Attends new → ⊥ = idle new (λ e. omega arith) (λ e. absurd (omega arith)) in record {
   few = o.few;
   ready = o.ready;
   cross = λ a. ((λ e. omega arith), (λ _ low. subst SawLow n low));
@@ -358,7 +358,7 @@ theirs_lem p q new l m l' (falls_to s n k ks ended) h o = let none : Attends new
   past = beginnings_kept l l' p new m.ended (grows l l' p new ks.opened ks.earlier [] (still p new k)) o.past;
   falls = o.falls;
 }
-theirs_lem p q new l m l' (inits z low s n k ks ended) h o = let none : Attends new → ⊥ = idle new (λ e. omega arith) (λ e. absurd (omega arith)) in record {
+other_half_kept p q new l m l' (inits z low s n k ks ended) h o = let none : Attends new → ⊥ = idle new (λ e. omega arith) (λ e. absurd (omega arith)) in record {
   few = o.few;
   ready = o.ready;
   cross = λ a. absurd (steady p q l m o a z low);
@@ -371,7 +371,7 @@ theirs_lem p q new l m l' (inits z low s n k ks ended) h o = let none : Attends 
   past = beginnings_kept l l' p new m.ended (grows l l' p new ks.opened ks.earlier [] (still p new k)) o.past;
   falls = o.falls;
 }
-theirs_lem p q new l m l' (opens z some s n a d opened carried earlier ended) h o = let none : Attends new → ⊥ = idle new (λ e. omega arith) (λ _ high. subst SawHigh n high) in record {
+other_half_kept p q new l m l' (opens z some s n a d opened carried earlier ended) h o = let none : Attends new → ⊥ = idle new (λ e. omega arith) (λ _ high. subst SawHigh n high) in record {
   few = o.few;
   ready = o.ready;
   cross = λ x. absurd ((o.cross x).0 z);
@@ -384,7 +384,7 @@ theirs_lem p q new l m l' (opens z some s n a d opened carried earlier ended) h 
   past = beginnings_kept l l' p new m.ended (opens_grows l l' p new opened earlier) o.past;
   falls = o.falls;
 }
-theirs_lem p q new l m l' (runs z high s n k opened carried earlier ended) h o = record {
+other_half_kept p q new l m l' (runs z high s n k opened carried earlier ended) h o = record {
   few = o.few;
   ready = o.ready;
   cross = λ a. ((λ e. omega arith), (λ e. absurd (omega arith)));
@@ -397,7 +397,7 @@ theirs_lem p q new l m l' (runs z high s n k opened carried earlier ended) h o =
   past = beginnings_kept l l' p new m.ended (grows l l' p new opened earlier [] (still p new k)) o.past;
   falls = o.falls;
 }
-theirs_lem p q new l m l' (sees s n k same) h o = subst (λ (x : Log). Half q new m x) (sym same) record {
+other_half_kept p q new l m l' (sees s n k same) h o = subst (λ (x : Log). Half q new m x) (sym same) record {
   few = o.few;
   ready = o.ready;
   cross = λ a. ((λ e. (o.cross a).0 (sym s ∙ e)), (λ _ low. let up : 2 ≤ q.state = attends_high q a in let down : q.state ≤ 1 = subst SawLow n low in absurd (omega arith)));
@@ -414,7 +414,7 @@ theirs_lem p q new l m l' (sees s n k same) h o = subst (λ (x : Log). Half q ne
   past = beginnings_kept l l p new m.ended (grows l l p new refl (λ k. refl) [] (still p new k)) o.past;
   falls = o.falls;
 }
-theirs_lem p q new l m l' (accepts z frame s n a d same) h o = subst (λ (x : Log). Half q new m x) (sym same) record {
+other_half_kept p q new l m l' (accepts z frame s n a d same) h o = subst (λ (x : Log). Half q new m x) (sym same) record {
   few = o.few;
   ready = o.ready;
   cross = λ x. ((λ e. omega arith), (λ e. absurd (omega arith)));
@@ -427,7 +427,7 @@ theirs_lem p q new l m l' (accepts z frame s n a d same) h o = subst (λ (x : Lo
   past = beginnings_kept l l p new m.ended (grows l l p new refl (λ k. refl) (frame ∷ []) a) o.past;
   falls = o.falls;
 }
-theirs_lem p q new l m l' (delivers z frame s n a d next same) h o = subst (λ (x : Log). Half q new m x) (sym same) record {
+other_half_kept p q new l m l' (delivers z frame s n a d next same) h o = subst (λ (x : Log). Half q new m x) (sym same) record {
   few = o.few;
   ready = o.ready;
   cross = λ x. ((λ e. omega arith), (λ e. absurd (omega arith)));
@@ -440,7 +440,7 @@ theirs_lem p q new l m l' (delivers z frame s n a d next same) h o = subst (λ (
   past = beginnings_kept l l p new m.ended (grows l l p new refl (λ k. refl) [] (a ∙ sym (nil_append p.accepted))) o.past;
   falls = o.falls;
 }
-theirs_lem p q new l m l' (counts s n k same) h o = subst (λ (x : Log). Half q new m x) (sym same) record {
+other_half_kept p q new l m l' (counts s n k same) h o = subst (λ (x : Log). Half q new m x) (sym same) record {
   few = o.few;
   ready = o.ready;
   cross = λ a. ((λ e. (o.cross a).0 (sym s ∙ e)), (λ e low. (o.cross a).1 (sym s ∙ e) (subst SawLow n low)));
@@ -482,14 +482,14 @@ half_of sizes honest _ _ h0 h1 (starts sides logs new none) p p2 = half_like ini
 half_of sizes honest _ _ h0 h1 (goes sides after logs new_logs s side_event r s2 row still log still_log) p p2 =
     let o2 : 1 - s < 2 = omega arith in let back : 1 - (1 - s) ≡ s = omega arith in
     let mine = half_of sizes honest sides logs h0 h1 r s s2 in
-    let theirs : Half (sides (1 - s)) (sides s) (logs (1 - s)) (logs s) = subst (λ k. Half (sides (1 - s)) (sides k) (logs (1 - s)) (logs k)) back (half_of sizes honest sides logs h0 h1 r (1 - s) o2) in
+    let other_half : Half (sides (1 - s)) (sides s) (logs (1 - s)) (logs s) = subst (λ k. Half (sides (1 - s)) (sides k) (logs (1 - s)) (logs k)) back (half_of sizes honest sides logs h0 h1 r (1 - s) o2) in
     let row_is : Row sizes true true (sides s) (sides (1 - s)) side_event (after s) = subst (λ b. Row sizes b true (sides s) (sides (1 - s)) side_event (after s)) (honest_all honest s s2 h0 h1) (subst (λ b. Row sizes (honest s) b (sides s) (sides (1 - s)) side_event (after s)) (honest_all honest (1 - s) o2 h0 h1) row) in
     let kind = kind_of sizes (sides s) (sides (1 - s)) (logs s) (logs (1 - s)) side_event (after s) row_is in
     dite (ℕ_discrete p s)
     (λ e. let f : 1 - p ≡ 1 - s = omega arith in half_like (after s) (after p) (sides (1 - s)) (after (1 - p)) (log_after (logs s) (logs (1 - s)) (sides s) side_event) (new_logs p) (logs (1 - s)) (new_logs (1 - p))
-    (ap after e) (ap after f ∙ still) (ap new_logs e ∙ log) (ap new_logs f ∙ still_log) (mine_lem (sides s) (sides (1 - s)) (after s) (logs s) (logs (1 - s)) _ kind mine theirs))
+    (ap after e) (ap after f ∙ still) (ap new_logs e ∙ log) (ap new_logs f ∙ still_log) (own_half_kept (sides s) (sides (1 - s)) (after s) (logs s) (logs (1 - s)) _ kind mine other_half))
     (λ ne. let e : p ≡ 1 - s = omega arith in let f : 1 - p ≡ s = omega arith in half_like (sides (1 - s)) (after p) (after s) (after (1 - p)) (logs (1 - s)) (new_logs p) (log_after (logs s) (logs (1 - s)) (sides s) side_event) (new_logs (1 - p))
-    (ap after e ∙ still) (ap after f) (ap new_logs e ∙ still_log) (ap new_logs f ∙ log) (theirs_lem (sides s) (sides (1 - s)) (after s) (logs s) (logs (1 - s)) _ kind mine theirs))
+    (ap after e ∙ still) (ap after f) (ap new_logs e ∙ still_log) (ap new_logs f ∙ log) (other_half_kept (sides s) (sides (1 - s)) (after s) (logs s) (logs (1 - s)) _ kind mine other_half))
 
 pub machine : MachineDelivers
 machine sizes honest sides logs h0 h1 r p p2 = let h = half_of sizes honest sides logs h0 h1 r p p2 in record {

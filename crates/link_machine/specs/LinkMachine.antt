@@ -1,7 +1,7 @@
 -- The link machine: the effects that the steps of the two link peers may have on their States,
 -- lists and counts. It has no rings, places or doorbells (profile).
 use Rattle.std.specs.Prelude.{ℕ, ◌≡◌, ◌≢◌, ◌%◌, ◌+◌, ◌-◌, ◌<◌, ◌≤◌, ◌==◌, ◌⊎◌, Bool, true, false, if◌then◌else◌, Option, Some, None, List, [], ◌∷◌, ◌++◌, length, slice_get}
-use Rattle.link_handshake.specs.PhaseTable.{phase_at}
+use Rattle.link_handshake.specs.PhaseTable.{phase_of_state}
 use Rattle.split_ring.specs.declared.ranges.FieldName.{FieldName}
 use Rattle.split_ring.specs.declared.ranges.FieldName.TheVariants as field_name
 use Rattle.split_ring.specs.Layout.{Sizes, size_of, limit_of}
@@ -46,7 +46,7 @@ pub data SideEvent : Type 0 where
 -- An honest side writes 0, or the State of its move for the value that it saw since its last write.
 -- After a refusal it writes only 0. A hostile side writes any value.
 abbrev pub MayWriteState : Bool → Side → ℕ → Type 0
-MayWriteState true side state = (state ≡ 0) ⊎ ((side.refused ≡ false) × ((value : ℕ) × (side.seen ≡ Some value) × MovesTo (phase_at side.state) value state))
+MayWriteState true side state = (state ≡ 0) ⊎ ((side.refused ≡ false) × ((value : ℕ) × (side.seen ≡ Some value) × MovesTo (phase_of_state side.state) value state))
 MayWriteState false side state = Unit {0}
 
 -- A write of 2 opens a session, whose lists and counts are empty.
@@ -147,14 +147,14 @@ MarkRow sizes honest side other (Refuse refused) new =
     (honest ≡ false) × (side.state ≡ 3) × IsBeyond sizes side refused.field refused.value × (new ≡ record side { refused = true; read = [] })
 MarkRow sizes honest side other Over new = new ≡ record side { read = [] }
 
--- The row of a step of a side: `mine` and `theirs` are whether the side and the other
+-- The row of a step of a side: `own_honest` and `other_honest` are whether the side and the other
 -- are honest. A hostile side has no marks. A reset clears a refusal; the lists stay until the next
 -- session.
-abbrev pub Row : Sizes → (mine theirs : Bool) → Side → Side → SideEvent → Side → Type 0
-Row sizes mine theirs side other (Gave value) new = new ≡ record side { read = side.read ++ value ∷ [] }
-Row sizes mine theirs side other (Wrote state) new = MayWriteState mine side state × (new ≡ side_with side state)
-Row sizes mine theirs side other (Marked mark) new = (mine ≡ true) × MarkRow sizes theirs side other mark new
-Row sizes mine theirs side other WasReset new = new ≡ record side { state = 0; seen = None; refused = false; read = [] }
+abbrev pub Row : Sizes → (own_honest other_honest : Bool) → Side → Side → SideEvent → Side → Type 0
+Row sizes own_honest other_honest side other (Gave value) new = new ≡ record side { read = side.read ++ value ∷ [] }
+Row sizes own_honest other_honest side other (Wrote state) new = MayWriteState own_honest side state × (new ≡ side_with side state)
+Row sizes own_honest other_honest side other (Marked mark) new = (own_honest ≡ true) × MarkRow sizes other_honest side other mark new
+Row sizes own_honest other_honest side other WasReset new = new ≡ record side { state = 0; seen = None; refused = false; read = [] }
 
 -- The sessions of a side
 

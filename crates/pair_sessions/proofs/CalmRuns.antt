@@ -12,7 +12,7 @@ use Rattle.split_ring.specs.Ranges.{is_avail_entry, is_desc_address, is_desc_len
 use Rattle.link_handshake.specs.declared.Phase.{Phase}
 use Rattle.link_handshake.specs.declared.Phase.TheVariants.{Reset, Init, Ready, Run}
 use Rattle.link_handshake.specs.declared.Move.TheVariants.{Stay}
-use Rattle.link_handshake.specs.PhaseTable.{move_on, state_of}
+use Rattle.link_handshake.specs.PhaseTable.{phase_move, state_of}
 use Rattle.link_handshake.specs.HandshakeState.{HandshakeState, move_of}
 use Rattle.call_grammar.specs.Steps.{Mark, Saw, Reclaim, Full, Accept, Look, Deliver, Return, Done, Down, Refuse, Over}
 use Rattle.call_grammar.specs.Ends.{End, fresh}
@@ -32,8 +32,8 @@ use Rattle.link_invariant.specs.EndInvariant.{PlaceInvariant}
 use Rattle.link_invariant.specs.Sides.{side_events_of, side_events_by, FollowsRows, SawFor, CallIs, SideIs}
 use Rattle.link_invariant.specs.Runs.{HonestRuns}
 use Rattle.link_invariant.specs.Runs as honest
-use Rattle.link_invariant.proofs.RowsKept.{follow_lem}
-use Rattle.link_invariant.proofs.RunsKept.{whole_lem, Stepped, row_step, rows_on, side_like}
+use Rattle.link_invariant.proofs.RowsKept.{steps_follow_rows}
+use Rattle.link_invariant.proofs.RunsKept.{runs_keep_invariant, Stepped, row_step, rows_on, side_like}
 use Rattle.pair_sessions.specs.CalmRuns.{CalmRuns, starts, begins, steps, others, IsStill, OpensOnce, CalmRunsDeliver}
 use Rattle.pair_sessions.proofs.SessionNumbers.{state_at}
 
@@ -46,50 +46,50 @@ record Calm (p q : Side) (l : Log) : Type 0 where
   none : l.opened ≡ 0 → (p.accepted ≡ []) × (p.delivered ≡ [])
   low : p.state ≡ 0 → (q.state ≡ 0) ⊎ ((q.state ≡ 1) × ¬ SawSome q.seen)
 
-mine_lem : (p q new : Side) (l m l' : Log) → Kind p q l m new l' → (new.state ≡ 0 → p.state ≡ 0) → Half p q l m → Calm p q l → Calm new q l'
-mine_lem p q new l m l' (falls_to s n k ks ended) up h c = let z = up s in let o = ks.opened in record {
+own_calm_kept : (p q new : Side) (l m l' : Log) → Kind p q l m new l' → (new.state ≡ 0 → p.state ≡ 0) → Half p q l m → Calm p q l → Calm new q l'
+own_calm_kept p q new l m l' (falls_to s n k ks ended) up h c = let z = up s in let o = ks.opened in record {
   most = let most = c.most in omega arith;
   stays = λ one. absurd (let two = c.stays (omega arith) in omega arith);
   none = λ e. let old = c.none (sym o ∙ e) in (k.accepted ∙ old.0, k.delivered ∙ old.1);
   low = λ e. c.low z;
 }
-mine_lem p q new l m l' (inits z low s n k ks ended) up h c = let o = ks.opened in record {
+own_calm_kept p q new l m l' (inits z low s n k ks ended) up h c = let o = ks.opened in record {
   most = let most = c.most in omega arith;
   stays = λ one. absurd (let two = c.stays (omega arith) in omega arith);
   none = λ e. let old = c.none (sym o ∙ e) in (k.accepted ∙ old.0, k.delivered ∙ old.1);
   low = λ e. absurd (omega arith);
 }
-mine_lem p q new l m l' (opens z some s n a d opened carried earlier ended) up h c = record {
+own_calm_kept p q new l m l' (opens z some s n a d opened carried earlier ended) up h c = record {
   most = let most = c.most in dite (ℕ_discrete l.opened 1) (λ e. absurd (let two = c.stays (omega arith) in omega arith)) (λ ne. omega arith);
   stays = λ one. omega arith;
   none = λ e. absurd (omega arith);
   low = λ e. absurd (omega arith);
 }
-mine_lem p q new l m l' (runs z high s n k opened carried earlier ended) up h c = record {
+own_calm_kept p q new l m l' (runs z high s n k opened carried earlier ended) up h c = record {
   most = let most = c.most in omega arith;
   stays = λ one. omega arith;
   none = λ e. absurd (let one = h.one (omega arith) in omega arith);
   low = λ e. absurd (omega arith);
 }
-mine_lem p q new l m l' (sees s n k same) up h c = subst (Calm new q) (sym same) record {
+own_calm_kept p q new l m l' (sees s n k same) up h c = subst (Calm new q) (sym same) record {
   most = c.most;
   stays = λ one. let two = c.stays one in let e = s in omega arith;
   none = λ e. let old = c.none e in (k.accepted ∙ old.0, k.delivered ∙ old.1);
   low = λ e. c.low (sym s ∙ e);
 }
-mine_lem p q new l m l' (accepts z frame s n a d same) up h c = subst (Calm new q) (sym same) record {
+own_calm_kept p q new l m l' (accepts z frame s n a d same) up h c = subst (Calm new q) (sym same) record {
   most = c.most;
   stays = λ one. omega arith;
   none = λ e. absurd (let one = h.one (omega arith) in omega arith);
   low = λ e. absurd (omega arith);
 }
-mine_lem p q new l m l' (delivers z frame s n a d next same) up h c = subst (Calm new q) (sym same) record {
+own_calm_kept p q new l m l' (delivers z frame s n a d next same) up h c = subst (Calm new q) (sym same) record {
   most = c.most;
   stays = λ one. omega arith;
   none = λ e. absurd (let one = h.one (omega arith) in omega arith);
   low = λ e. absurd (omega arith);
 }
-mine_lem p q new l m l' (counts s n k same) up h c = subst (Calm new q) (sym same) record {
+own_calm_kept p q new l m l' (counts s n k same) up h c = subst (Calm new q) (sym same) record {
   most = c.most;
   stays = λ one. let two = c.stays one in let e = s in omega arith;
   none = λ e. let old = c.none e in (k.accepted ∙ old.0, k.delivered ∙ old.1);
@@ -97,24 +97,24 @@ mine_lem p q new l m l' (counts s n k same) up h c = subst (Calm new q) (sym sam
 }
 
 -- While the other is in RESET, the side that makes the step doesn't leave INIT.
-low_lem : (p q new : Side) (l m l' : Log) → Kind p q l m new l' → q.state ≡ 0 → (p.state ≡ 0) ⊎ ((p.state ≡ 1) × ¬ SawSome p.seen) → (new.state ≡ 0) ⊎ ((new.state ≡ 1) × ¬ SawSome new.seen)
-low_lem p q new l m l' (falls_to s n k ks ended) z old = inl s
-low_lem p q new l m l' (inits was low s n k ks ended) z old = inr (s, λ some. subst SawSome n some)
-low_lem p q new l m l' (opens was some s n a d opened carried earlier ended) z (inl e) = absurd (omega arith)
-low_lem p q new l m l' (opens was some s n a d opened carried earlier ended) z (inr e) = absurd (e.1 some)
-low_lem p q new l m l' (runs was high s n k opened carried earlier ended) z (inl e) = absurd (omega arith)
-low_lem p q new l m l' (runs was high s n k opened carried earlier ended) z (inr e) = absurd (let f = e.0 in omega arith)
-low_lem p q new l m l' (sees s n k same) z (inl e) = inl (s ∙ e)
-low_lem p q new l m l' (sees s n k same) z (inr e) = inr (s ∙ e.0, λ some. let one : 1 ≤ q.state = subst SawSome n some in omega arith)
-low_lem p q new l m l' (accepts was frame s n a d same) z (inl e) = absurd (omega arith)
-low_lem p q new l m l' (accepts was frame s n a d same) z (inr e) = absurd (let f = e.0 in omega arith)
-low_lem p q new l m l' (delivers was frame s n a d next same) z (inl e) = absurd (omega arith)
-low_lem p q new l m l' (delivers was frame s n a d next same) z (inr e) = absurd (let f = e.0 in omega arith)
-low_lem p q new l m l' (counts s n k same) z (inl e) = inl (s ∙ e)
-low_lem p q new l m l' (counts s n k same) z (inr e) = inr (s ∙ e.0, λ some. e.1 (subst SawSome n some))
+side_stays_low : (p q new : Side) (l m l' : Log) → Kind p q l m new l' → q.state ≡ 0 → (p.state ≡ 0) ⊎ ((p.state ≡ 1) × ¬ SawSome p.seen) → (new.state ≡ 0) ⊎ ((new.state ≡ 1) × ¬ SawSome new.seen)
+side_stays_low p q new l m l' (falls_to s n k ks ended) z old = inl s
+side_stays_low p q new l m l' (inits was low s n k ks ended) z old = inr (s, λ some. subst SawSome n some)
+side_stays_low p q new l m l' (opens was some s n a d opened carried earlier ended) z (inl e) = absurd (omega arith)
+side_stays_low p q new l m l' (opens was some s n a d opened carried earlier ended) z (inr e) = absurd (e.1 some)
+side_stays_low p q new l m l' (runs was high s n k opened carried earlier ended) z (inl e) = absurd (omega arith)
+side_stays_low p q new l m l' (runs was high s n k opened carried earlier ended) z (inr e) = absurd (let f = e.0 in omega arith)
+side_stays_low p q new l m l' (sees s n k same) z (inl e) = inl (s ∙ e)
+side_stays_low p q new l m l' (sees s n k same) z (inr e) = inr (s ∙ e.0, λ some. let one : 1 ≤ q.state = subst SawSome n some in omega arith)
+side_stays_low p q new l m l' (accepts was frame s n a d same) z (inl e) = absurd (omega arith)
+side_stays_low p q new l m l' (accepts was frame s n a d same) z (inr e) = absurd (let f = e.0 in omega arith)
+side_stays_low p q new l m l' (delivers was frame s n a d next same) z (inl e) = absurd (omega arith)
+side_stays_low p q new l m l' (delivers was frame s n a d next same) z (inr e) = absurd (let f = e.0 in omega arith)
+side_stays_low p q new l m l' (counts s n k same) z (inl e) = inl (s ∙ e)
+side_stays_low p q new l m l' (counts s n k same) z (inr e) = inr (s ∙ e.0, λ some. e.1 (subst SawSome n some))
 
-theirs_lem : (p q new : Side) (l m l' : Log) → Kind p q l m new l' → Calm q p m → Calm q new m
-theirs_lem p q new l m l' kind o = record { most = o.most; stays = o.stays; none = o.none; low = λ z. low_lem p q new l m l' kind z (o.low z) }
+other_calm_kept : (p q new : Side) (l m l' : Log) → Kind p q l m new l' → Calm q p m → Calm q new m
+other_calm_kept p q new l m l' kind o = record { most = o.most; stays = o.stays; none = o.none; low = λ z. side_stays_low p q new l m l' kind z (o.low z) }
 
 -- Side events
 
@@ -163,11 +163,11 @@ module _ (sizes : Sizes) (p : ℕ) (p2 : p < 2) where
       (a : Stepped sizes sides logs p new (log_after (logs p) (logs (1 - p)) (sides p) side_event)) → (q : ℕ) → q < 2 → Calm (a.sides' q) (a.sides' (1 - q)) (a.logs' q)
   calm_step sides logs side_event new r calm up row a q q2 = let l = log_after (logs p) (logs (1 - p)) (sides p) side_event in let ne : 1 - p ≢ p = λ e. omega arith in let o2 : 1 - p < 2 = omega arith in let back : 1 - (1 - p) ≡ p = omega arith in
       let kind = kind_of sizes (sides p) (sides (1 - p)) (logs p) (logs (1 - p)) side_event new row in
-      let mine = mine_lem (sides p) (sides (1 - p)) new (logs p) (logs (1 - p)) l kind (stays_up sizes (sides p) (sides (1 - p)) side_event new row up) (half_of sizes (λ p. true) sides logs refl refl r p p2) (calm p p2) in
-      let theirs = theirs_lem (sides p) (sides (1 - p)) new (logs p) (logs (1 - p)) l kind (subst (λ k. Calm (sides (1 - p)) (sides k) (logs (1 - p))) back (calm (1 - p) o2)) in
+      let mine = own_calm_kept (sides p) (sides (1 - p)) new (logs p) (logs (1 - p)) l kind (stays_up sizes (sides p) (sides (1 - p)) side_event new row up) (half_of sizes (λ p. true) sides logs refl refl r p p2) (calm p p2) in
+      let opposite = other_calm_kept (sides p) (sides (1 - p)) new (logs p) (logs (1 - p)) l kind (subst (λ k. Calm (sides (1 - p)) (sides k) (logs (1 - p))) back (calm (1 - p) o2)) in
       dite (ℕ_discrete q p)
       (λ e. let f : 1 - q ≡ 1 - p = omega arith in calm_like new (a.sides' q) (sides (1 - p)) (a.sides' (1 - q)) l (a.logs' q) (ap a.sides' e ∙ a.side_is) (ap a.sides' f ∙ a.sides_stay (1 - p) ne) (ap a.logs' e ∙ a.log_is) mine)
-      (λ other. let e : q ≡ 1 - p = omega arith in let f : 1 - q ≡ p = omega arith in calm_like (sides (1 - p)) (a.sides' q) new (a.sides' (1 - q)) (logs (1 - p)) (a.logs' q) (ap a.sides' e ∙ a.sides_stay (1 - p) ne) (ap a.sides' f ∙ a.side_is) (ap a.logs' e ∙ a.logs_stay (1 - p) ne) theirs)
+      (λ other. let e : q ≡ 1 - p = omega arith in let f : 1 - q ≡ p = omega arith in calm_like (sides (1 - p)) (a.sides' q) new (a.sides' (1 - q)) (logs (1 - p)) (a.logs' q) (ap a.sides' e ∙ a.sides_stay (1 - p) ne) (ap a.sides' f ∙ a.side_is) (ap a.logs' e ∙ a.logs_stay (1 - p) ne) opposite)
 
   along : (tolds : List SideEvent) (sides : ℕ → Side) (logs : ℕ → Log) (new : Side) → MachineRuns sizes (λ p. true) sides logs → ((q : ℕ) → q < 2 → Calm (sides q) (sides (1 - q)) (logs q)) → AllByRecursion IsUp tolds → FollowsRows sizes true (sides (1 - p)) (sides p) tolds new → Along sizes sides p new
   along [] sides logs new r calm up rows = record { sides' = sides; logs' = logs; run = r; calm = calm; side_is = sym rows; sides_stay = λ q ne. refl }
@@ -204,8 +204,8 @@ tolds_up : (config : EndConfig) (place : Place) (value : ℕ) → ¬ IsDown plac
 tolds_up config place value up sound = access_up (access_at config place) (step_at config place value).value (step_at config place value).marks (λ e. ⊎_elim (λ is. up (subst IsDown (sym is) tt)) (λ is. sound is.0) (state_at config place 0 e))
 
 test_up : (b : Bool) (x y : Place) → ¬ IsDown x → ¬ IsDown y → ¬ IsDown (if b then x else y)
-test_up true x y mine theirs = mine
-test_up false x y mine theirs = theirs
+test_up true x y mine opposite = mine
+test_up false x y mine opposite = opposite
 
 clear_up : (at count state : ℕ) → state ≡ 2 → ¬ IsDown (clear_place at count state)
 clear_up at zero state is down = let e : IsDown (WritingState 2) = subst (λ k. IsDown (WritingState k)) is down in e
@@ -263,7 +263,7 @@ next_up link_config p memory end (WritingUsedLength number more) value h tick = 
 next_up link_config p memory end (WritingUsedIndex number more) value h tick = items_up (number + 1) more
 next_up link_config p memory end RingingPoll value h tick = λ d. d
 
-tick_up : (config : EndConfig) (phase : Phase) (value : ℕ) → (2 ≤ state_of phase → 1 ≤ value) → ¬ IsDown (tick_place config (move_on phase value))
+tick_up : (config : EndConfig) (phase : Phase) (value : ℕ) → (2 ≤ state_of phase → 1 ≤ value) → ¬ IsDown (tick_place config (phase_move phase value))
 tick_up config Reset zero some = λ d. d
 tick_up config Reset (suc zero) some = λ d. d
 tick_up config Reset (suc (suc more)) some = λ d. d
@@ -278,7 +278,7 @@ tick_up config Run (suc more) some = λ d. d
 move_up : (config : EndConfig) (handshake : HandshakeState) (value : ℕ) → (2 ≤ state_of handshake.phase → 1 ≤ value) → ¬ IsDown (tick_place config (move_of handshake value))
 move_up config handshake value some = by_mark handshake.mark
   where
-    by_mark : (b : Bool) → ¬ IsDown (tick_place config (if b then Stay else move_on handshake.phase value))
+    by_mark : (b : Bool) → ¬ IsDown (tick_place config (if b then Stay else phase_move handshake.phase value))
     by_mark true = λ d. d
     by_mark false = tick_up config handshake.phase value some
 
@@ -290,11 +290,11 @@ first_up config end Poll ne = test_up (in_run end.handshake.phase) (ReadingAvail
 
 -- Runs
 
-honest_lem : (link_config : LinkConfig) (memory : ℕ → ℕ) (ends : ℕ → End) (places : ℕ → Place) → CalmRuns link_config memory ends places → HonestRuns link_config memory ends places
-honest_lem link_config _ _ _ (starts memory ends places none new closed) = honest.starts memory ends places none new closed
-honest_lem link_config _ _ _ (begins memory ends after_ends places after_places p call run p2 ne begun) = honest.begins memory ends after_ends places after_places p call (honest_lem link_config memory ends places run) p2 refl begun
-honest_lem link_config _ _ _ (steps memory after ends after_ends places after_places p value run p2 step) = honest.steps memory after ends after_ends places after_places p value (honest_lem link_config memory ends places run) p2 refl step
-honest_lem link_config _ _ _ (others memory after ends places run keep) = honest.others memory after ends places (honest_lem link_config memory ends places run) (λ q q2 _. keep q q2)
+calm_runs_are_honest : (link_config : LinkConfig) (memory : ℕ → ℕ) (ends : ℕ → End) (places : ℕ → Place) → CalmRuns link_config memory ends places → HonestRuns link_config memory ends places
+calm_runs_are_honest link_config _ _ _ (starts memory ends places none new closed) = honest.starts memory ends places none new closed
+calm_runs_are_honest link_config _ _ _ (begins memory ends after_ends places after_places p call run p2 ne begun) = honest.begins memory ends after_ends places after_places p call (calm_runs_are_honest link_config memory ends places run) p2 refl begun
+calm_runs_are_honest link_config _ _ _ (steps memory after ends after_ends places after_places p value run p2 step) = honest.steps memory after ends after_ends places after_places p value (calm_runs_are_honest link_config memory ends places run) p2 refl step
+calm_runs_are_honest link_config _ _ _ (others memory after ends places run keep) = honest.others memory after ends places (calm_runs_are_honest link_config memory ends places run) (λ q q2 _. keep q q2)
 
 -- The ends are calm sides, and none is about to set 0.
 record AreCalm (link_config : LinkConfig) (ends : ℕ → End) (places : ℕ → Place) : Type 0 where
@@ -320,23 +320,23 @@ moved link_config ends after_ends places after_places p end place new p2 r x is 
       (λ ne. subst (λ x. ¬ IsDown x) (sym (only.places_stay q ne)) (r.up q q2));
 }
 
-calm_lem : (link_config : LinkConfig) (memory : ℕ → ℕ) (ends : ℕ → End) (places : ℕ → Place) → IsLinkConfig link_config → CalmRuns link_config memory ends places → AreCalm link_config ends places
-calm_lem link_config _ _ _ is (starts memory ends places none new closed) = record {
+calm_runs_are_calm : (link_config : LinkConfig) (memory : ℕ → ℕ) (ends : ℕ → End) (places : ℕ → Place) → IsLinkConfig link_config → CalmRuns link_config memory ends places → AreCalm link_config ends places
+calm_runs_are_calm link_config _ _ _ is (starts memory ends places none new closed) = record {
   sides = λ p. initial_side;
   logs = λ p. no_sessions;
   run = machine.starts (λ p. initial_side) (λ p. no_sessions) (λ p. refl) (λ p. refl);
-  are = λ p p2. side_like fresh (ends p) Closed (places p) initial_side initial_side (new p) (closed p) refl follow_lem.starts;
+  are = λ p p2. side_like fresh (ends p) Closed (places p) initial_side initial_side (new p) (closed p) refl steps_follow_rows.starts;
   calm = λ p p2. record { most = omega arith; stays = λ one. absurd (omega arith); none = λ e. (refl, refl); low = λ e. inl refl };
   up = λ p p2 d. subst IsDown (closed p) d;
 }
-calm_lem link_config _ _ _ is (begins memory ends after_ends places after_places p call run p2 ne begun) = let r = calm_lem link_config memory ends places is run in
+calm_runs_are_calm link_config _ _ _ is (begins memory ends after_ends places after_places p call run p2 ne begun) = let r = calm_runs_are_calm link_config memory ends places is run in
     moved link_config ends after_ends places after_places p (ends p) (first_place (config_of link_config p) (ends p) call) (r.sides p) p2 r
     record { sides' = r.sides; logs' = r.logs; run = r.run; calm = r.calm; side_is = refl; sides_stay = λ q ne. refl }
-    (follow_lem.begins (config_of link_config p) (ends p) call (r.sides p) (subst (λ (x : Place). SideIs (ends p) x (r.sides p)) begun.closed (r.are p p2))) (first_up (config_of link_config p) (ends p) call ne) begun.comes
-calm_lem link_config _ _ _ is (steps memory after ends after_ends places after_places p value run p2 step) = let r = calm_lem link_config memory ends places is run in let o2 : 1 - p < 2 = omega arith in
-    let held = whole_lem link_config (λ p. true) memory ends places is (honest_lem link_config memory ends places run) in let config = config_of link_config p in
+    (steps_follow_rows.begins (config_of link_config p) (ends p) call (r.sides p) (subst (λ (x : Place). SideIs (ends p) x (r.sides p)) begun.closed (r.are p p2))) (first_up (config_of link_config p) (ends p) call ne) begun.comes
+calm_runs_are_calm link_config _ _ _ is (steps memory after ends after_ends places after_places p value run p2 step) = let r = calm_runs_are_calm link_config memory ends places is run in let o2 : 1 - p < 2 = omega arith in
+    let held = runs_keep_invariant link_config (λ p. true) memory ends places is (calm_runs_are_honest link_config memory ends places run) in let config = config_of link_config p in
     let state : (r.sides (1 - p)).state ≡ memory (1 - p) = (r.are (1 - p) o2).state ∙ sym (held.alone (1 - p) o2 refl).state in
-    let f = follow_lem.steps link_config (λ p. true) memory ends places p value (r.sides p) (r.sides (1 - p)) is p2 refl held (r.are p p2) state (λ _. r.are (1 - p) o2) step.opened step.meets in
+    let f = steps_follow_rows.steps link_config (λ p. true) memory ends places p value (r.sides p) (r.sides (1 - p)) is p2 refl held (r.are p p2) state (λ _. r.are (1 - p) o2) step.opened step.meets in
     moved link_config ends after_ends places after_places p _ (next_place config (places p) value) f.0 p2 r
     (along link_config.sizes p p2 (side_events_by (step_at config (places p) value)) r.sides r.logs f.0 r.run r.calm (tolds_up config (places p) value (r.up p p2) ((held.pair refl refl).sound p p2).1) f.1) f.2
     (next_up link_config p memory (ends p) (places p) value (held.alone p p2 refl).holds (λ handshake at. move_up config handshake value (λ high. some r handshake at (subst (λ x. PlaceInvariant link_config memory p (ends p) x) at (held.alone p p2 refl).holds) state (subst (λ x. ReadsMemory memory (access_at config x) value) at step.meets) high))) step.comes
@@ -348,7 +348,7 @@ calm_lem link_config _ _ _ is (steps memory after ends after_ends places after_p
         (λ e. let low : ((r.sides p).state ≡ 0) ⊎ (((r.sides p).state ≡ 1) × ¬ SawSome (r.sides p).seen) = subst (λ k. ((r.sides k).state ≡ 0) ⊎ (((r.sides k).state ≡ 1) × ¬ SawSome (r.sides k).seen)) back ((r.calm (1 - p) o2).low (state ∙ (sym met ∙ e))) in
         ⊎_elim (λ z. absurd (omega arith)) (λ z. absurd (let one = z.0 in omega arith)) low)
         (λ ne. omega arith)
-calm_lem link_config _ _ _ is (others memory after ends places run keep) = calm_lem link_config memory ends places is run
+calm_runs_are_calm link_config _ _ _ is (others memory after ends places run keep) = calm_runs_are_calm link_config memory ends places is run
 
 -- The consequences
 
@@ -379,26 +379,26 @@ still_is end place side init si none = record {
   sets = λ e. ⊎_elim (λ z. absurd (let two : 2 ≡ 0 = z in omega arith)) (λ saw. none (saw_for end side.seen 2 init saw)) (subst (λ x. CallIs end x side) e si.call).0;
 }
 
-pub deliver_lem : CalmRunsDeliver
-deliver_lem link_config memory ends places is run = let r = calm_lem link_config memory ends places is run in (r.sides, r.logs, r.run, λ p p2. (r.are p p2, once r p p2, prefix r p p2))
+pub calm_runs_deliver : CalmRunsDeliver
+calm_runs_deliver link_config memory ends places is run = let r = calm_runs_are_calm link_config memory ends places is run in (r.sides, r.logs, r.run, λ p p2. (r.are p p2, once r p p2, prefix r p p2))
   where
     once : (r : AreCalm link_config ends places) (p : ℕ) → p < 2 → OpensOnce (ends p) (ends (1 - p)) (places p) (places (1 - p)) (r.logs p)
-    once r p p2 = let o2 : 1 - p < 2 = omega arith in let c = r.calm p p2 in let mine = r.are p p2 in let theirs = r.are (1 - p) o2 in record {
+    once r p p2 = let o2 : 1 - p < 2 = omega arith in let c = r.calm p p2 in let mine = r.are p p2 in let opposite = r.are (1 - p) o2 in record {
       most = c.most;
       stays = λ one. let two = c.stays one in let s = mine.state in omega arith;
       counted = λ two. (half_of link_config.sizes (λ p. true) r.sides r.logs refl refl r.run p p2).one (let s = mine.state in omega arith);
       none = λ e. let old = c.none e in (sym mine.accepted ∙ old.0, sym mine.delivered ∙ old.1);
       up = λ e. r.up p p2 (subst IsDown (sym e) tt);
-      low = λ reset. ⊎_elim (λ z. inl (phase_reset (ends (1 - p)).handshake.phase (sym theirs.state ∙ z)))
-          (λ z. let init = phase_init (ends (1 - p)).handshake.phase (sym theirs.state ∙ z.0) in inr (init, still_is (ends (1 - p)) (places (1 - p)) (r.sides (1 - p)) init theirs z.1))
+      low = λ reset. ⊎_elim (λ z. inl (phase_reset (ends (1 - p)).handshake.phase (sym opposite.state ∙ z)))
+          (λ z. let init = phase_init (ends (1 - p)).handshake.phase (sym opposite.state ∙ z.0) in inr (init, still_is (ends (1 - p)) (places (1 - p)) (r.sides (1 - p)) init opposite z.1))
           (c.low (mine.state ∙ ap state_of reset));
     }
 
     prefix : (r : AreCalm link_config ends places) (p : ℕ) → p < 2 → (rest : List (List ℕ)) × ((ends p).accepted ≡ (ends (1 - p)).delivered ++ rest)
     prefix r p p2 = let o2 : 1 - p < 2 = omega arith in let back : 1 - (1 - p) ≡ p = omega arith in let s = r.sides (1 - p) in
         let h = half_of link_config.sizes (λ p. true) r.sides r.logs refl refl r.run (1 - p) o2 in let few = h.few in let c = r.calm (1 - p) o2 in
-        let mine = r.are p p2 in let theirs = r.are (1 - p) o2 in
+        let mine = r.are p p2 in let opposite = r.are (1 - p) o2 in
         dite (ℕ_discrete s.state 3)
-        (λ e. let f = h.prefix (inl (inl e)) in (f.0, sym mine.accepted ∙ (ap (λ k. (r.sides k).accepted) (sym back) ∙ (f.1 ∙ ap (λ (x : List (List ℕ)). x ++ f.0) theirs.delivered))))
+        (λ e. let f = h.prefix (inl (inl e)) in (f.0, sym mine.accepted ∙ (ap (λ k. (r.sides k).accepted) (sym back) ∙ (f.1 ∙ ap (λ (x : List (List ℕ)). x ++ f.0) opposite.delivered))))
         (λ ne. let none : s.delivered ≡ [] = dite (ℕ_discrete s.state 2) (λ e. (h.ready e).1) (λ other. (c.none (dite (ℕ_discrete (r.logs (1 - p)).opened 0) (λ z. z) (λ some. absurd (let two = c.stays (omega arith) in omega arith)))).1) in
-        ((ends p).accepted, ap (λ (x : List (List ℕ)). x ++ (ends p).accepted) (sym none ∙ theirs.delivered)))
+        ((ends p).accepted, ap (λ (x : List (List ℕ)). x ++ (ends p).accepted) (sym none ∙ opposite.delivered)))

@@ -7,7 +7,7 @@ use Rattle.std.specs.Prelude.{◌==◌}
 use Rattle.split_ring.specs.declared.steps.Access.{Access}
 use Rattle.split_ring.specs.declared.steps.Access.TheVariants as access
 use Rattle.link_handshake.specs.declared.Phase.{Phase}
-use Rattle.link_handshake.specs.PhaseTable.{phase_at, state_of}
+use Rattle.link_handshake.specs.PhaseTable.{phase_of_state, state_of}
 use Rattle.call_grammar.specs.Ends.{End, after_reset, end_after}
 use Rattle.call_grammar.specs.Ticks.{EndConfig}
 use Rattle.call_grammar.specs.Places.{Place, Closed, ReadingOtherState, Clearing, WritingState, Refusing, NotInRun, ReadingUsedIndex, ReadingUsedId, WritingFrameWord, WritingDescAddressLow, WritingDescAddressHigh, WritingDescLength, WritingDescFlags, WritingAvailEntry, WritingAvailIndex, ReadingAvailEvent, RingingOffer, ReadingAvailIndex, WritingAvailEvent, ReadingAvailEntry, ReadingDescAddressLow, ReadingDescAddressHigh, ReadingDescLength, ReadingDescFlags, ReadingFrameWord, WritingUsedId, WritingUsedLength, WritingUsedIndex, RingingPoll, access_at, step_at}
@@ -65,7 +65,7 @@ low_at link_config p memory phase (suc (suc (suc (suc more)))) may low = absurd 
 pub low_writes : (link_config : LinkConfig) (p : ℕ) (memory : ℕ → ℕ) (end : End) (config : EndConfig) (place : Place) (state : ℕ) → PlaceInvariant link_config memory p end place → access_at config place ≡ access.State state → state_of end.handshake.phase ≤ 1 → state ≤ 2
 low_writes link_config p memory end config place state holds e low = ⊎_elim (λ is. low_at link_config p memory end.handshake.phase state (subst (PlaceInvariant link_config memory p end) is holds) low) (λ z. let none = z.1 in omega arith) (state_at config place state e)
 
-low_state : (state : ℕ) → state ≤ 1 → state_of (phase_at state) ≤ 1
+low_state : (state : ℕ) → state ≤ 1 → state_of (phase_of_state state) ≤ 1
 low_state zero h = h
 low_state (suc zero) h = h
 low_state (suc (suc n)) h = absurd (omega arith)
@@ -82,7 +82,7 @@ word_else : (end end' : End) (n : Numbers) (word : ℕ) → end'.handshake.phase
 word_else end end' n word same (inl h) = inl h
 word_else end end' n word same (inr h) = inr (h.0, h.1, subst (λ x. state_of x ≤ 1) (sym same) h.2)
 
-word_state : (end end' : End) (n : Numbers) (word state : ℕ) → end'.handshake.phase ≡ phase_at state → (state_of end.handshake.phase ≤ 1 → state ≤ 2) → IsNumbered n (access.State state) → WordIs end n word → WordIs end' (numbers_after n end (access.State state)) word
+word_state : (end end' : End) (n : Numbers) (word state : ℕ) → end'.handshake.phase ≡ phase_of_state state → (state_of end.handshake.phase ≤ 1 → state ≤ 2) → IsNumbered n (access.State state) → WordIs end n word → WordIs end' (numbers_after n end (access.State state)) word
 word_state end end' n word state same low is w = dite (ℕ_discrete state 2)
     (λ e. let b = eq-eqb state 2 e in let s = is.0 e in inl (yes (state == 2) false n.stored b, ⊎_elim (λ h. absurd (clash (sym h.0 ∙ s))) (λ h. h.1) w ∙ sym (yes (state == 2) (n.log.opened + 1) n.log.opened b)))
     (λ ne. let b = ne_eqb state 2 ne in let st = no (state == 2) false n.stored b in let op = no (state == 2) (n.log.opened + 1) n.log.opened b in ⊎_elim

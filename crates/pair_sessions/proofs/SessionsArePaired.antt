@@ -16,15 +16,15 @@ use Rattle.call_grammar.specs.Ends.{End, fresh, after_reset}
 use Rattle.call_grammar.specs.Places.{Place, Closed, WritingState, first_place, access_at, step_at}
 use Rattle.link_machine.specs.LinkMachine.{Side, initial_side, SideEvent, Gave, Wrote, Marked, WasReset, Row, Ended, Log, no_sessions, accepted_in, ended_with, log_after, MachineRuns, AreBeginnings, CarriedFall, DeliversInOrder}
 use Rattle.link_machine.specs.LinkMachine as machine
-use Rattle.link_machine.proofs.DeliversInOrder.{machine as machine_lem, SawLow, SawHigh, Attends, Begins, Half, Kind, falls_to, inits, opens, runs, sees, accepts, delivers, counts, table, kind_of, half_of}
+use Rattle.link_machine.proofs.DeliversInOrder.{machine as machine_delivers, SawLow, SawHigh, Attends, Begins, Half, Kind, falls_to, inits, opens, runs, sees, accepts, delivers, counts, table, kind_of, half_of}
 use Rattle.call_grammar.proofs.OfferLists.{yes, no}
 use Rattle.link_invariant.specs.LinkConfig.{LinkConfig, IsLinkConfig, config_of}
 use Rattle.link_invariant.specs.Steps.{OnlyEndChanges}
 use Rattle.link_invariant.specs.Sides.{side_events_of, side_events_by, FollowsRows, CallIs, SideIs}
 use Rattle.link_invariant.specs.Runs.{HonestRuns}
 use Rattle.link_invariant.specs.Runs as honest
-use Rattle.link_invariant.proofs.RowsKept.{follow_lem}
-use Rattle.link_invariant.proofs.RunsKept.{whole_lem, Stepped, row_step, rows_on, side_like}
+use Rattle.link_invariant.proofs.RowsKept.{steps_follow_rows}
+use Rattle.link_invariant.proofs.RunsKept.{runs_keep_invariant, Stepped, row_step, rows_on, side_like}
 use Rattle.pair_sessions.specs.Numbers.{Numbers, no_numbers, number_of, own_side, numbers_after, numbers_reset, with_stored, with_loaded, IsNumbered, WordIs, OnlyNumbers, NumberedRuns, starts, begins, steps, resets, others, stores, loads, IsPaired, SessionsArePaired}
 use Rattle.pair_sessions.proofs.SessionNumbers.{state_in, state_at, clash, low_writes, word_step, word_reset, word_stored, word_like}
 
@@ -42,9 +42,9 @@ marks_step sizes p p2 (mark ∷ marks) sides logs new r along = let a = row_step
   logs_stay = λ q ne. b.logs_stay q ne ∙ a.logs_stay q ne;
 }
 
-told_then : (sizes : Sizes) (p : ℕ) (p2 : p < 2) (side_event : SideEvent) (marks : List Mark) (sides : ℕ → Side) (logs : ℕ → Log) (new : Side) → MachineRuns sizes (λ p. true) sides logs → FollowsRows sizes true (sides (1 - p)) (sides p) (side_event ∷ map Marked marks) new →
+marks_run_machine : (sizes : Sizes) (p : ℕ) (p2 : p < 2) (side_event : SideEvent) (marks : List Mark) (sides : ℕ → Side) (logs : ℕ → Log) (new : Side) → MachineRuns sizes (λ p. true) sides logs → FollowsRows sizes true (sides (1 - p)) (sides p) (side_event ∷ map Marked marks) new →
     Stepped sizes sides logs p new (log_after (logs p) (logs (1 - p)) (sides p) side_event)
-told_then sizes p p2 side_event marks sides logs new r along = let a = row_step sizes p p2 sides logs side_event along.0 r along.1 in let b = marks_step sizes p p2 marks a.sides' a.logs' new a.run (rows_on sizes p p2 (map Marked marks) sides logs along.0 new _ a along.2) in record {
+marks_run_machine sizes p p2 side_event marks sides logs new r along = let a = row_step sizes p p2 sides logs side_event along.0 r along.1 in let b = marks_step sizes p p2 marks a.sides' a.logs' new a.run (rows_on sizes p p2 (map Marked marks) sides logs along.0 new _ a along.2) in record {
   sides' = b.sides';
   logs' = b.logs';
   run = b.run;
@@ -62,13 +62,13 @@ log_by l m side (access.Write word value) = l
 log_by l m side (access.Ring target vector) = l
 log_by l m side access.Nothing = l
 
-told_step : (sizes : Sizes) (p : ℕ) (p2 : p < 2) (a : Access) (value : ℕ) (marks : List Mark) (sides : ℕ → Side) (logs : ℕ → Log) (new : Side) → MachineRuns sizes (λ p. true) sides logs → FollowsRows sizes true (sides (1 - p)) (sides p) (side_events_of a value ++ map Marked marks) new →
+step_runs_machine : (sizes : Sizes) (p : ℕ) (p2 : p < 2) (a : Access) (value : ℕ) (marks : List Mark) (sides : ℕ → Side) (logs : ℕ → Log) (new : Side) → MachineRuns sizes (λ p. true) sides logs → FollowsRows sizes true (sides (1 - p)) (sides p) (side_events_of a value ++ map Marked marks) new →
     Stepped sizes sides logs p new (log_by (logs p) (logs (1 - p)) (sides p) a)
-told_step sizes p p2 (access.Read word) value marks sides logs new r along = told_then sizes p p2 (Gave value) marks sides logs new r along
-told_step sizes p p2 (access.Write word written) value marks sides logs new r along = marks_step sizes p p2 marks sides logs new r along
-told_step sizes p p2 (access.Ring target vector) value marks sides logs new r along = marks_step sizes p p2 marks sides logs new r along
-told_step sizes p p2 access.Nothing value marks sides logs new r along = marks_step sizes p p2 marks sides logs new r along
-told_step sizes p p2 (access.State state) value marks sides logs new r along = told_then sizes p p2 (Wrote state) marks sides logs new r along
+step_runs_machine sizes p p2 (access.Read word) value marks sides logs new r along = marks_run_machine sizes p p2 (Gave value) marks sides logs new r along
+step_runs_machine sizes p p2 (access.Write word written) value marks sides logs new r along = marks_step sizes p p2 marks sides logs new r along
+step_runs_machine sizes p p2 (access.Ring target vector) value marks sides logs new r along = marks_step sizes p p2 marks sides logs new r along
+step_runs_machine sizes p p2 access.Nothing value marks sides logs new r along = marks_step sizes p p2 marks sides logs new r along
+step_runs_machine sizes p p2 (access.State state) value marks sides logs new r along = marks_run_machine sizes p p2 (Wrote state) marks sides logs new r along
 
 -- Against an other in RESET or INIT no side becomes attached.
 stays_away : (p q new : Side) (l m l' : Log) → Kind p q l m new l' → q.state ≤ 1 → ¬ Attends p → ¬ Attends new
@@ -232,7 +232,7 @@ load_like place place' n n' o o' e f g h = subst (λ x. LoadIs x n' o') (sym e) 
 tied_moved : (link_config : LinkConfig) (words now : ℕ → ℕ) (ends after_ends : ℕ → End) (places after_places : ℕ → Place) (numbers next : ℕ → Numbers) (p : ℕ) (end : End) (place : Place) (n : Numbers) (new : Side) (log : Log) → p < 2 → (t : Tied link_config words ends places numbers) → Stepped link_config.sizes t.sides t.logs p new log →
     SideIs end place new → n.log ≡ log → WordIs end n (now p) → ((q : ℕ) → q ≢ p → now q ≡ words q) → (n.stored ≡ true → ¬ Attends (t.sides (1 - p))) → ((numbers (1 - p)).stored ≡ true → ¬ Attends new) → LoadIs place n (numbers (1 - p)).log.opened → LoadIs (places (1 - p)) (numbers (1 - p)) n.log.opened →
     OnlyEndChanges ends after_ends places after_places p end place → OnlyNumbers numbers next p n → Tied link_config now after_ends after_places next
-tied_moved link_config words now ends after_ends places after_places numbers next p end place n new log p2 t x is own word stay cross away load theirs only nums = record {
+tied_moved link_config words now ends after_ends places after_places numbers next p end place n new log p2 t x is own word stay cross away load opposite only nums = record {
   sides = x.sides';
   logs = x.logs';
   run = x.run;
@@ -250,7 +250,7 @@ tied_moved link_config words now ends after_ends places after_places numbers nex
       (λ ne. let o : q ≡ 1 - p = omega arith in let b : 1 - q ≡ p = omega arith in subst (λ (s : Side). ¬ Attends s) (sym (ap x.sides' b ∙ x.side_is)) (away (sym (ap (λ (m : Numbers). m.stored) (nums.neighbour_word q ne ∙ ap numbers o)) ∙ st)));
   load = λ q q2. dite (ℕ_discrete q p)
       (λ e. let o : 1 - q ≢ p = λ f. omega arith in load_like place (after_places q) n (next q) (numbers (1 - p)).log.opened (next (1 - q)).log.opened (ap after_places e ∙ only.place_is) (ap next e ∙ nums.here) (ap (λ (m : Numbers). m.log.opened) (nums.neighbour_word (1 - q) o ∙ ap (λ k. numbers (1 - k)) e)) load)
-      (λ ne. let o : q ≡ 1 - p = omega arith in let b : 1 - q ≡ p = omega arith in load_like (places (1 - p)) (after_places q) (numbers (1 - p)) (next q) n.log.opened (next (1 - q)).log.opened (only.places_stay q ne ∙ ap places o) (nums.neighbour_word q ne ∙ ap numbers o) (ap (λ (m : Numbers). m.log.opened) (ap next b ∙ nums.here)) theirs);
+      (λ ne. let o : q ≡ 1 - p = omega arith in let b : 1 - q ≡ p = omega arith in load_like (places (1 - p)) (after_places q) (numbers (1 - p)) (next q) n.log.opened (next (1 - q)).log.opened (only.places_stay q ne ∙ ap places o) (nums.neighbour_word q ne ∙ ap numbers o) (ap (λ (m : Numbers). m.log.opened) (ap next b ∙ nums.here)) opposite);
 }
 
 -- No step of a side.
@@ -296,21 +296,21 @@ module _ (link_config : LinkConfig) (words : ℕ → ℕ) (ends : ℕ → End) (
   word_at p p2 attends = ⊎_elim (λ h. h.1) (λ h. absurd (t.cross p p2 h.0 attends)) (t.word p p2)
 
 -- Without the numbers they are runs of honest ends.
-pub honest_lem : (link_config : LinkConfig) (memory words : ℕ → ℕ) (ends : ℕ → End) (places : ℕ → Place) (numbers : ℕ → Numbers) → NumberedRuns link_config memory words ends places numbers → HonestRuns link_config memory ends places
-honest_lem link_config _ _ _ _ _ (starts memory words ends places numbers none zeros new closed fresh_numbers) = honest.starts memory ends places none new closed
-honest_lem link_config _ _ _ _ _ (begins memory words ends after_ends places after_places numbers p call run p2 begun) = honest.begins memory ends after_ends places after_places p call (honest_lem link_config memory words ends places numbers run) p2 refl begun
-honest_lem link_config _ _ _ _ _ (steps memory after words ends after_ends places after_places numbers next p value run p2 step numbered nums) = honest.steps memory after ends after_ends places after_places p value (honest_lem link_config memory words ends places numbers run) p2 refl step
-honest_lem link_config _ _ _ _ _ (resets memory after words ends after_ends places after_places numbers next p run p2 reset nums) = honest.resets memory after ends after_ends places after_places p (honest_lem link_config memory words ends places numbers run) p2 refl reset
-honest_lem link_config _ _ _ _ _ (others memory after words ends places numbers run keep) = honest.others memory after ends places (honest_lem link_config memory words ends places numbers run) (λ q q2 _. keep q q2)
-honest_lem link_config _ _ _ _ _ (stores memory words now ends places numbers next p run p2 at now_is stay nums) = honest_lem link_config memory words ends places numbers run
-honest_lem link_config _ _ _ _ _ (loads memory words ends places numbers next p run p2 at nums) = honest_lem link_config memory words ends places numbers run
+pub numbered_runs_are_honest : (link_config : LinkConfig) (memory words : ℕ → ℕ) (ends : ℕ → End) (places : ℕ → Place) (numbers : ℕ → Numbers) → NumberedRuns link_config memory words ends places numbers → HonestRuns link_config memory ends places
+numbered_runs_are_honest link_config _ _ _ _ _ (starts memory words ends places numbers none zeros new closed fresh_numbers) = honest.starts memory ends places none new closed
+numbered_runs_are_honest link_config _ _ _ _ _ (begins memory words ends after_ends places after_places numbers p call run p2 begun) = honest.begins memory ends after_ends places after_places p call (numbered_runs_are_honest link_config memory words ends places numbers run) p2 refl begun
+numbered_runs_are_honest link_config _ _ _ _ _ (steps memory after words ends after_ends places after_places numbers next p value run p2 step numbered nums) = honest.steps memory after ends after_ends places after_places p value (numbered_runs_are_honest link_config memory words ends places numbers run) p2 refl step
+numbered_runs_are_honest link_config _ _ _ _ _ (resets memory after words ends after_ends places after_places numbers next p run p2 reset nums) = honest.resets memory after ends after_ends places after_places p (numbered_runs_are_honest link_config memory words ends places numbers run) p2 refl reset
+numbered_runs_are_honest link_config _ _ _ _ _ (others memory after words ends places numbers run keep) = honest.others memory after ends places (numbered_runs_are_honest link_config memory words ends places numbers run) (λ q q2 _. keep q q2)
+numbered_runs_are_honest link_config _ _ _ _ _ (stores memory words now ends places numbers next p run p2 at now_is stay nums) = numbered_runs_are_honest link_config memory words ends places numbers run
+numbered_runs_are_honest link_config _ _ _ _ _ (loads memory words ends places numbers next p run p2 at nums) = numbered_runs_are_honest link_config memory words ends places numbers run
 
 tied : (link_config : LinkConfig) (memory words : ℕ → ℕ) (ends : ℕ → End) (places : ℕ → Place) (numbers : ℕ → Numbers) → IsLinkConfig link_config → NumberedRuns link_config memory words ends places numbers → Tied link_config words ends places numbers
 tied link_config _ _ _ _ _ is (starts memory words ends places numbers none zeros new closed fresh_numbers) = record {
   sides = λ p. initial_side;
   logs = λ p. no_sessions;
   run = machine.starts (λ p. initial_side) (λ p. no_sessions) (λ p. refl) (λ p. refl);
-  are = λ p p2. side_like fresh (ends p) Closed (places p) initial_side initial_side (new p) (closed p) refl follow_lem.starts;
+  are = λ p p2. side_like fresh (ends p) Closed (places p) initial_side initial_side (new p) (closed p) refl steps_follow_rows.starts;
   own = λ p p2. ap (λ (m : Numbers). m.log) (fresh_numbers p);
   word = λ p p2. word_like (ends p) (ends p) no_numbers (numbers p) 0 (words p) refl (fresh_numbers p) (zeros p) (inl (refl, refl));
   cross = λ p p2 st. absurd (clash (sym (ap (λ (m : Numbers). m.stored) (fresh_numbers p)) ∙ st));
@@ -318,15 +318,15 @@ tied link_config _ _ _ _ _ is (starts memory words ends places numbers none zero
 }
 tied link_config _ _ _ _ _ is (begins memory words ends after_ends places after_places numbers p call run p2 begun) = let t = tied link_config memory words ends places numbers is run in
     tied_moved link_config words words ends after_ends places after_places numbers numbers p (ends p) (first_place (config_of link_config p) (ends p) call) (numbers p) (t.sides p) (t.logs p) p2 t (stood_still link_config.sizes t.sides t.logs p t.run)
-    (follow_lem.begins (config_of link_config p) (ends p) call (t.sides p) (subst (λ (x : Place). SideIs (ends p) x (t.sides p)) begun.closed (t.are p p2))) (t.own p p2) (t.word p p2) (λ q ne. refl) (t.cross p p2)
+    (steps_follow_rows.begins (config_of link_config p) (ends p) call (t.sides p) (subst (λ (x : Place). SideIs (ends p) x (t.sides p)) begun.closed (t.are p p2))) (t.own p p2) (t.word p p2) (λ q ne. refl) (t.cross p p2)
     (λ st. subst (λ k. ¬ Attends (t.sides k)) (back link_config words ends places numbers t p p2) (t.cross (1 - p) (omega arith) st))
     (⊎_elim (λ h. inl h) (λ h. let e = sym begun.closed ∙ h.1 in absurd (cc)) (t.load p p2)) (load_back link_config words ends places numbers t p p2) begun.comes record { here = refl; neighbour_word = λ q ne. refl }
 tied link_config _ _ _ _ _ is (steps memory after words ends after_ends places after_places numbers next p value run p2 step numbered nums) = let t = tied link_config memory words ends places numbers is run in let o2 : 1 - p < 2 = omega arith in
-    let held = whole_lem link_config (λ p. true) memory ends places is (honest_lem link_config memory words ends places numbers run) in
+    let held = runs_keep_invariant link_config (λ p. true) memory ends places is (numbered_runs_are_honest link_config memory words ends places numbers run) in
     let config = config_of link_config p in let a = access_at config (places p) in let mine = held.alone p p2 refl in
     let state : (t.sides (1 - p)).state ≡ memory (1 - p) = (t.are (1 - p) o2).state ∙ sym (held.alone (1 - p) o2 refl).state in
-    let f = follow_lem.steps link_config (λ p. true) memory ends places p value (t.sides p) (t.sides (1 - p)) is p2 refl held (t.are p p2) state (λ _. t.are (1 - p) o2) step.opened step.meets in
-    let x = told_step link_config.sizes p p2 a (step_at config (places p) value).value (step_at config (places p) value).marks t.sides t.logs f.0 t.run f.1 in
+    let f = steps_follow_rows.steps link_config (λ p. true) memory ends places p value (t.sides p) (t.sides (1 - p)) is p2 refl held (t.are p p2) state (λ _. t.are (1 - p) o2) step.opened step.meets in
+    let x = step_runs_machine link_config.sizes p p2 a (step_at config (places p) value).value (step_at config (places p) value).marks t.sides t.logs f.0 t.run f.1 in
     tied_moved link_config words words ends after_ends places after_places numbers next p _ _ (numbers_after (numbers p) (ends p) a) f.0 (log_by (t.logs p) (t.logs (1 - p)) (t.sides p) a) p2 t x f.2
     (own_after (ends p) (places p) (numbers p) (t.logs p) (t.logs (1 - p)) (t.sides p) (numbers (1 - p)).log.opened a (t.are p p2) (t.own p p2) (t.load p p2) (ap (λ (l : Log). l.opened) (t.own (1 - p) o2)) numbered)
     (word_step config (places p) (ends p) (numbers p) (words p) value (λ s e low. low_writes link_config p memory (ends p) config (places p) s mine.holds e low) numbered (t.word p p2)) (λ q ne. refl)
@@ -335,7 +335,7 @@ tied link_config _ _ _ _ _ is (steps memory after words ends after_ends places a
     (load_after (places p) _ (ends p) (numbers p) (numbers (1 - p)).log.opened a (λ e. ap (access_at config) e) (t.load p p2))
     (theirs_after link_config words ends places numbers t p p2 a (λ e. ⊎_elim (λ h. h) (λ z. let none = z.1 in absurd (omega arith)) (state_at config (places p) 2 e))) step.comes nums
 tied link_config _ _ _ _ _ is (resets memory after words ends after_ends places after_places numbers next p run p2 reset nums) = let t = tied link_config memory words ends places numbers is run in let o2 : 1 - p < 2 = omega arith in
-    let f = follow_lem.resets link_config.sizes true (ends p) (places p) (t.sides p) (t.sides (1 - p)) (t.are p p2) in
+    let f = steps_follow_rows.resets link_config.sizes true (ends p) (places p) (t.sides p) (t.sides (1 - p)) (t.are p p2) in
     let x = row_step link_config.sizes p p2 t.sides t.logs WasReset f.0 t.run f.1 in
     tied_moved link_config words words ends after_ends places after_places numbers next p (after_reset (ends p)) Closed (numbers_reset (numbers p) (ends p)) f.0 (log_after (t.logs p) (t.logs (1 - p)) (t.sides p) WasReset) p2 t x f.2
     (reset_like (t.logs p) (numbers p).log (t.logs (1 - p)) (record no_sessions { opened = number_of (numbers p).loaded }) (t.sides p) (own_side (ends p)) (t.own p p2) (sym (t.are p p2).state) (sym (t.are p p2).delivered))
@@ -367,21 +367,21 @@ delivers_like p p' q q' l m st de ac d = record {
   once = d.once;
 }
 
-pub paired_lem : SessionsArePaired
-paired_lem link_config memory words ends places numbers is run = let t = tied link_config memory words ends places numbers is run in (honest_lem link_config memory words ends places numbers run, (t.sides, t.logs, t.run, λ p p2. (t.are p p2, t.own p p2, paired t p p2)))
+pub sessions_are_paired : SessionsArePaired
+sessions_are_paired link_config memory words ends places numbers is run = let t = tied link_config memory words ends places numbers is run in (numbered_runs_are_honest link_config memory words ends places numbers run, (t.sides, t.logs, t.run, λ p p2. (t.are p p2, t.own p p2, paired t p p2)))
   where
     paired : (t : Tied link_config words ends places numbers) (p : ℕ) → p < 2 → IsPaired (ends p) (ends (1 - p)) (places p) (places (1 - p)) (numbers p) (numbers (1 - p)) (words p)
-    paired t p p2 = let o2 : 1 - p < 2 = omega arith in let h = half_at link_config words ends places numbers t p p2 in let mine = t.are p p2 in let theirs = t.are (1 - p) o2 in
+    paired t p p2 = let o2 : 1 - p < 2 = omega arith in let h = half_at link_config words ends places numbers t p p2 in let mine = t.are p p2 in let opposite = t.are (1 - p) o2 in
         let n = sym (t.own p p2) in let m = sym (t.own (1 - p) o2) in
         let opened : (t.logs (1 - p)).opened ≡ (numbers (1 - p)).log.opened = ap (λ (l : Log). l.opened) m in let carried : (t.logs p).carried ≡ (numbers p).log.carried = ap (λ (l : Log). l.carried) n in record {
           deliver = subst (λ (l : Log). DeliversInOrder (own_side (ends p)) (own_side (ends (1 - p))) l (numbers (1 - p)).log) n (subst (λ (l : Log). DeliversInOrder (own_side (ends p)) (own_side (ends (1 - p))) (t.logs p) l) m
-              (delivers_like (t.sides p) (own_side (ends p)) (t.sides (1 - p)) (own_side (ends (1 - p))) (t.logs p) (t.logs (1 - p)) (sym mine.state) (sym mine.delivered) (sym theirs.accepted) (machine_lem link_config.sizes (λ p. true) t.sides t.logs refl refl t.run p p2)));
+              (delivers_like (t.sides p) (own_side (ends p)) (t.sides (1 - p)) (own_side (ends (1 - p))) (t.logs p) (t.logs (1 - p)) (sym mine.state) (sym mine.delivered) (sym opposite.accepted) (machine_delivers link_config.sizes (λ p. true) t.sides t.logs refl refl t.run p p2)));
           one = λ up. let up' : 2 ≤ (t.sides p).state = subst (λ k. 2 ≤ k) (sym mine.state) up in subst (λ (l : Log). 1 ≤ l.opened) n (h.one up');
           risen = let r = h.risen in omega arith;
-          on_the_way = λ way up. let up' : 2 ≤ (t.sides (1 - p)).state = subst (λ k. 2 ≤ k) (sym theirs.state) up in
+          on_the_way = λ way up. let up' : 2 ≤ (t.sides (1 - p)).state = subst (λ k. 2 ≤ k) (sym opposite.state) up in
               let way' : Begins (t.sides p) = ⊎_elim (λ e. inl (mine.state ∙ e)) (λ w. ⊎_elim (λ e. inr (inl (mine.state ∙ e))) (λ e. inr (inr (mine.state ∙ e.0, (seen_one (ends p) (places p) (t.sides p) e.1 mine).1))) w) way in let r = h.begins way' up' in omega arith;
           attends = λ at. let s = seen_three (ends p) (places p) (t.sides p) at mine in let r = h.attends s.0 s.1 in omega arith;
           loaded = λ number e. ⊎_elim (λ none. let f = sym e ∙ none in absurd (cc)) (λ k. (ap number_of (sym e ∙ k.0), k.1)) (t.load p p2);
           word_is = t.word p p2;
-          carried = λ at. word_at link_config words ends places numbers t p p2 (⊎_elim (λ e. inl (theirs.state ∙ e)) (λ e. attends_at link_config words ends places numbers t (1 - p) o2 e) at);
+          carried = λ at. word_at link_config words ends places numbers t p p2 (⊎_elim (λ e. inl (opposite.state ∙ e)) (λ e. attends_at link_config words ends places numbers t (1 - p) o2 e) at);
         }

@@ -1,7 +1,7 @@
-pub mod NumberLemmas
-pub mod Bits
-pub mod Ends
-pub mod Walks
-pub mod OneEnd
-pub mod SoundRows
-pub mod DeviceWalk
+pub mod NumberBytes
+pub mod UnmaskedBitsAreKept
+pub mod FieldsEndInside
+pub mod PointerMarks
+pub mod WalkIsUnique
+pub mod DeviceRowsAreTable
+pub mod WalkFindsDevice

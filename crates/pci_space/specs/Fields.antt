@@ -16,32 +16,32 @@ pub record Contents : Type 0 where
   pub bytes : List ℕ
 
 -- A field has byte k of the space.
-abbrev pub covers : Field → ℕ → Bool
-covers f k = nat_le f.place k && nat_lt k (f.place + f.width)
+abbrev pub field_has_byte : Field → ℕ → Bool
+field_has_byte f k = nat_le f.place k && nat_lt k (f.place + f.width)
 
 -- Byte k of the space at reset: that of its field, 0 if there is no field.
 abbrev pub reset_byte : List Field → ℕ → ℕ
 reset_byte [] k = 0
-reset_byte (f ∷ fs) k = if covers f k then number_byte f.reset (k - f.place) else reset_byte fs k
+reset_byte (f ∷ fs) k = if field_has_byte f k then number_byte f.reset (k - f.place) else reset_byte fs k
 
 -- The bits of byte k that a write changes: those of the field's mask, none if there is no field.
 abbrev pub mask_byte : List Field → ℕ → ℕ
 mask_byte [] k = 0
-mask_byte (f ∷ fs) k = if covers f k then number_byte f.mask (k - f.place) else mask_byte fs k
+mask_byte (f ∷ fs) k = if field_has_byte f k then number_byte f.mask (k - f.place) else mask_byte fs k
 
 -- The masked bits of `new`, and the others of `old`.
 abbrev pub merged : ℕ → ℕ → ℕ → ℕ
 merged old new mask = bit_or (bit_and old (255 - mask)) (bit_and new mask)
 
 -- An access has byte k.
-abbrev pub reaches : ℕ → ℕ → ℕ → Bool
-reaches offset width k = nat_le offset k && nat_lt k (offset + width)
+abbrev pub access_has_byte : ℕ → ℕ → ℕ → Bool
+access_has_byte offset width k = nat_le offset k && nat_lt k (offset + width)
 
 -- Byte k of the space after a write, with `old` before it. Its masked bits are those of the value
 -- if the access has byte k.
 abbrev pub merged_byte : List Field → ℕ → ℕ → ℕ → ℕ → ℕ → ℕ
 merged_byte rows offset width value k old =
-    if reaches offset width k then merged old (number_byte value (k - offset)) (mask_byte rows k) else old
+    if access_has_byte offset width k then merged old (number_byte value (k - offset)) (mask_byte rows k) else old
 
 -- An access is allowed: its width is 1, 2 or 4, its offset is a multiple of the width, and it ends
 -- within the space.
@@ -49,8 +49,8 @@ abbrev pub is_access : ℕ → ℕ → ℕ → Bool
 is_access size offset width = (width == 1 || width == 2 || width == 4) && (offset % width == 0 && nat_le (offset + width) size)
 
 -- Two fields share a byte.
-abbrev pub shares : Field → Field → Bool
-shares f g = nat_lt f.place (g.place + g.width) && nat_lt g.place (f.place + f.width)
+abbrev pub fields_overlap : Field → Field → Bool
+fields_overlap f g = nat_lt f.place (g.place + g.width) && nat_lt g.place (f.place + f.width)
 
 -- A field has 1, 2, 4 or 8 bytes.
 abbrev pub is_width : ℕ → Bool
@@ -61,9 +61,9 @@ abbrev pub fits_width : ℕ → ℕ → Bool
 fits_width n width = nat_lt n (256 ^ width)
 
 -- The first of these rows, numbered from m, that shares a byte with row n.
-abbrev pub overlap : Field → ℕ → ℕ → List Field → Option FieldFault
-overlap f n m [] = None
-overlap f n m (g ∷ gs) = if shares g f then Some (Overlap n m) else overlap f n (m + 1) gs
+abbrev pub overlap_fault : Field → ℕ → ℕ → List Field → Option FieldFault
+overlap_fault f n m [] = None
+overlap_fault f n m (g ∷ gs) = if fields_overlap g f then Some (Overlap n m) else overlap_fault f n (m + 1) gs
 
 -- The fault of row n after the earlier rows, if there is one. The tests are its width, then its
 -- numbers, then its end, then a row that it overlaps.
@@ -72,7 +72,7 @@ row_fault size earlier n f =
     if not (is_width f.width) then Some (BadWidth n)
     else if not (fits_width f.reset f.width && fits_width f.mask f.width) then Some (TooWide n)
     else if nat_lt size (f.place + f.width) then Some (Outside n)
-    else overlap f n 0 earlier
+    else overlap_fault f n 0 earlier
 
 -- The first fault, if there is one, else the next.
 abbrev pub or_else : Option FieldFault → Option FieldFault → Option FieldFault

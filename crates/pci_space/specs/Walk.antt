@@ -66,14 +66,14 @@ is_met met p = list_any (λ q. q == p) met
 -- The list continues at pointer p, after the pointers met, and has this end. Pointer 0 ends the
 -- list. A pointer below 40h, a pointer that occurs twice and a faulty capability end it with a
 -- fault. Any other capability leads to the next pointer.
-pub data Comes (bytes : List ℕ) : List ℕ → ℕ → Listed → Result Listed CapabilityFault → Type 0 where
-  ends : (met : List ℕ) (so_far : Listed) → Comes bytes met 0 so_far (Ok so_far)
-  is_low : (met : List ℕ) (p : ℕ) (so_far : Listed) → p ≢ 0 → p < 0x40 → Comes bytes met p so_far (Err (OutOfSpace p))
-  loops : (met : List ℕ) (p : ℕ) (so_far : Listed) → 0x40 ≤ p → is_met met p ≡ true → Comes bytes met p so_far (Err (Loop p))
+pub data FollowsList (bytes : List ℕ) : List ℕ → ℕ → Listed → Result Listed CapabilityFault → Type 0 where
+  ends : (met : List ℕ) (so_far : Listed) → FollowsList bytes met 0 so_far (Ok so_far)
+  is_low : (met : List ℕ) (p : ℕ) (so_far : Listed) → p ≢ 0 → p < 0x40 → FollowsList bytes met p so_far (Err (OutOfSpace p))
+  loops : (met : List ℕ) (p : ℕ) (so_far : Listed) → 0x40 ≤ p → is_met met p ≡ true → FollowsList bytes met p so_far (Err (Loop p))
   fails : (met : List ℕ) (p : ℕ) (so_far : Listed) (fault : CapabilityFault) → 0x40 ≤ p → is_met met p ≡ false →
-      listed_with bytes p so_far ≡ Err fault → Comes bytes met p so_far (Err fault)
-  goes_on : (met : List ℕ) (p : ℕ) (so_far next : Listed) (last : Result Listed CapabilityFault) → 0x40 ≤ p → is_met met p ≡ false →
-      listed_with bytes p so_far ≡ Ok next → Comes bytes (p ∷ met) (pointer_at bytes (p + 1)) next last → Comes bytes met p so_far last
+      listed_with bytes p so_far ≡ Err fault → FollowsList bytes met p so_far (Err fault)
+  continues : (met : List ℕ) (p : ℕ) (so_far next : Listed) (last : Result Listed CapabilityFault) → 0x40 ≤ p → is_met met p ≡ false →
+      listed_with bytes p so_far ≡ Ok next → FollowsList bytes (p ∷ met) (pointer_at bytes (p + 1)) next last → FollowsList bytes met p so_far last
 
 -- The device that is found, if the list has a vendor capability. The protocol has the Interface in
 -- its low byte and the Sub-Class in its high byte.
@@ -106,5 +106,5 @@ head_fault bytes =
 -- The result of a walk over these bytes.
 abbrev pub IsWalk : List ℕ → Result Found CapabilityFault → Type 0
 IsWalk bytes answer = MatchOption (head_fault bytes)
-    ((last : Result Listed CapabilityFault) × Comes bytes [] (pointer_at bytes 0x34) nothing_listed last × (answer ≡ found_in bytes last))
+    ((last : Result Listed CapabilityFault) × FollowsList bytes [] (pointer_at bytes 0x34) nothing_listed last × (answer ≡ found_in bytes last))
     (λ fault. answer ≡ Err fault)

@@ -1,6 +1,6 @@
 //! The walk over configuration bytes that cannot be trusted.
 ghost use Rattle.std.specs.Prelude.{◌≡◌, ℕ, ◌<◌, ◌≤◌, List, [], None};
-ghost use Rattle.pci_space.specs.Walk.{pointer_at, vendor_at, msix_at, listed_with, Comes, IsWalk, nothing_listed};
+ghost use Rattle.pci_space.specs.Walk.{pointer_at, vendor_at, msix_at, listed_with, FollowsList, IsWalk, nothing_listed};
 
 use crate::found::{CapabilityFault, Found, Listed, MsixFound, Vendor};
 use crate::number::number_in;
@@ -49,7 +49,7 @@ pub fn walk(bytes: &[u8; 256]) -> Result<Found, CapabilityFault>
 
 /// Follows the list of capabilities to its end.
 fn follow_list(bytes: &[u8; 256]) -> Result<Listed, CapabilityFault>
-    ensures { Comes bytes.now [] (pointer_at bytes.now 0x34) nothing_listed result }
+    ensures { FollowsList bytes.now [] (pointer_at bytes.now 0x34) nothing_listed result }
 {
     let mut met = [false; 256];
     let mut so_far = Listed {

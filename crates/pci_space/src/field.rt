@@ -1,6 +1,6 @@
 //! One field of a space, and the faults of a table of them.
 ghost use Rattle.std.specs.Prelude.{◌≡◌, ℕ, ◌+◌, ◌<◌, ◌≤◌, false, IsTrue};
-ghost use Rattle.pci_space.specs.Fields.{covers, shares, is_width, fits_width};
+ghost use Rattle.pci_space.specs.Fields.{field_has_byte, fields_overlap, is_width, fits_width};
 
 use thiserror::Error;
 
@@ -38,7 +38,7 @@ impl Field {
     /// Whether the field has byte `k` of the space.
     pub(crate) fn has_byte(&self, k: usize) -> bool
         requires { k < 65536 }
-        ensures { result ≡ covers self.now k }
+        ensures { result ≡ field_has_byte self.now k }
     {
         let place = usize::from(self.place);
         place <= k && k < place + usize::from(self.width)
@@ -47,7 +47,7 @@ impl Field {
     /// Whether the field has one of the `count` bytes from `at` on.
     pub(crate) fn has_one_of(&self, at: usize, count: usize) -> bool
         requires { at + count < 65536 }
-        ensures { result ≡ false → (k : ℕ) → at ≤ k → k < at + count → covers self.now k ≡ false }
+        ensures { result ≡ false → (k : ℕ) → at ≤ k → k < at + count → field_has_byte self.now k ≡ false }
     {
         let place = usize::from(self.place);
         at < place + usize::from(self.width) && place < at + count
@@ -55,7 +55,7 @@ impl Field {
 
     /// Whether the two fields share a byte.
     pub(crate) fn shares_with(&self, other: &Field) -> bool
-        ensures { result ≡ shares self.now other.now }
+        ensures { result ≡ fields_overlap self.now other.now }
     {
         let end = u32::from(self.place) + u32::from(self.width);
         let other_end = u32::from(other.place) + u32::from(other.width);

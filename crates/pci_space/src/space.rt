@@ -1,7 +1,7 @@
 //! The bytes of a field table: reads and writes.
 ghost use Rattle.std.specs.Prelude.{◌≡◌, ℕ, ◌+◌, ◌-◌, ◌<◌, ◌≤◌, ◌↔◌, length, slice_index, if◌then◌else◌, IfOk, IfErr, OnOk, IsOk, IsTrue};
 ghost use Rattle.pci_space.specs.Numbers.{number_byte, number_from};
-ghost use Rattle.pci_space.specs.Fields.{covers, reset_byte, mask_byte, merged, is_access, merged_byte, KeepsUnmasked};
+ghost use Rattle.pci_space.specs.Fields.{field_has_byte, reset_byte, mask_byte, merged, is_access, merged_byte, KeepsUnmasked};
 
 use crate::field::Field;
 use crate::number::{byte_of, number_in};
@@ -172,7 +172,7 @@ fn mask_at(rows: &[Field], k: usize) -> u8
 fn write_reset(bytes: &mut [u8], row: &Field)
     ensures long { length bytes.new ≡ length bytes.old }
     ensures bytes { (k : ℕ) → k < length bytes.old →
-        slice_index bytes.new k ≡ (if covers row.now k then number_byte row.now.reset (k - row.now.place) else slice_index bytes.old k) }
+        slice_index bytes.new k ≡ (if field_has_byte row.now k then number_byte row.now.reset (k - row.now.place) else slice_index bytes.old k) }
 {
     let place = usize::from(row.place);
     let end = (place + usize::from(row.width)).min(bytes.len());

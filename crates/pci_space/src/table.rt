@@ -1,6 +1,6 @@
 //! A field table without a fault.
 ghost use Rattle.std.specs.Prelude.{◌≡◌, ◌^◌, ◌<◌, Some, None, length, IfOk, IfErr};
-ghost use Rattle.pci_space.specs.Fields.{row_fault, table_fault, overlap};
+ghost use Rattle.pci_space.specs.Fields.{row_fault, table_fault, overlap_fault};
 
 use crate::field::{Field, FieldFault, fits};
 use std::marker::Model;
@@ -77,7 +77,7 @@ fn fault_of_row(bytes: u16, earlier: &[Field], n: u32, row: &Field) -> Option<Fi
 /// Returns the first earlier row that shares a byte with row `n`.
 fn first_overlap(n: u32, earlier: &[Field], row: &Field) -> Option<FieldFault>
     requires { n ≡ length earlier.now }
-    ensures { result ≡ overlap row.now n 0 earlier.now }
+    ensures { result ≡ overlap_fault row.now n 0 earlier.now }
 {
     for (m, other) in earlier.iter().enumerate() {
         if other.shares_with(row) {

@@ -7,7 +7,7 @@ use Rattle.std.specs.Prelude.{Option, Some, None}
 use Rattle.split_ring.specs.declared.steps.Access.{Access}
 use Rattle.split_ring.specs.declared.steps.Access.TheVariants as access
 use Rattle.link_handshake.specs.declared.Phase.{Phase}
-use Rattle.link_handshake.specs.PhaseTable.{phase_at}
+use Rattle.link_handshake.specs.PhaseTable.{phase_of_state}
 use Rattle.call_grammar.specs.Steps.{Mark}
 use Rattle.call_grammar.specs.Steps as mark
 use Rattle.call_grammar.specs.Ends.{End, after_reset, with_access, with_mark, with_marks, end_after}
@@ -18,7 +18,7 @@ use Rattle.link_invariant.specs.Steps.{Stored, MemoryAfter}
 use Rattle.link_invariant.specs.EndInvariant.{EndInvariant}
 use Rattle.link_invariant.specs.LinkInvariant.{LinkInvariant}
 use Rattle.link_invariant.proofs.EndInvariantKept.{alone_kept}
-use Rattle.link_invariant.proofs.RunsKept.{whole_lem}
+use Rattle.link_invariant.proofs.RunsKept.{runs_keep_invariant}
 use Rattle.shared_words.specs.declared.run_setup.RunSetup.{RunSetup}
 use Rattle.shared_words.specs.RunSetups.{config_in, link_config_of, honest_of, IsFit}
 use Rattle.shared_words.specs.DerivedStates.{CallAccess, MemoryOp, called, numbered, carried, restarted, DerivedState, begun_if, settled_place, after_access, derived_state, Begins, IsNext}
@@ -34,7 +34,7 @@ use Rattle.shared_words.proofs.RunsOfEnds.{reached_runs}
 -- The whole, at each moment
 
 pub whole_at : (key : RunSetup) → IsFit key → (memory words : ℕ → ℕ) (acc : ℕ → List (MemoryOp CallAccess)) → OperationsMade key memory words acc → LinkInvariant (link_config_of key) (honest_of key) memory (end_by key acc) (place_by key acc)
-whole_at key fit memory words acc m = whole_lem (link_config_of key) (honest_of key) memory (end_by key acc) (place_by key acc) (is_link_config key fit)
+whole_at key fit memory words acc m = runs_keep_invariant (link_config_of key) (honest_of key) memory (end_by key acc) (place_by key acc) (is_link_config key fit)
     (reached_runs (link_config_of key) (honest_of key) memory words (λ p. derived_state key p (acc p)) (reached_by key fit memory words acc m))
 
 pub alone_at : (key : RunSetup) → IsFit key → (memory words : ℕ → ℕ) (acc : ℕ → List (MemoryOp CallAccess)) → OperationsMade key memory words acc → (p : ℕ) → honest_of key p ≡ true → EndInvariant (link_config_of key) memory p (end_by key acc p) (place_by key acc p)
@@ -69,7 +69,7 @@ stated_written end (access.State state) w = refl
 stated_written end a w = refl
 
 abbrev pub phase_left : Phase → Access → Phase
-phase_left was (access.State state) = phase_at state
+phase_left was (access.State state) = phase_of_state state
 phase_left was _ = was
 
 stated_phase : (end : End) (a : Access) → (with_access end a).handshake.phase ≡ phase_left end.handshake.phase a

@@ -38,8 +38,8 @@ abbrev OffersNone : Place → Type 0
 OffersNone place = offered_at (settled_place place) ≡ None
 
 test_none : (b : Bool) (x y : Place) → OffersNone x → OffersNone y → OffersNone (if b then x else y)
-test_none true x y mine theirs = mine
-test_none false x y mine theirs = theirs
+test_none true x y mine opposite = mine
+test_none false x y mine opposite = opposite
 
 clear_none : (at count state : ℕ) → OffersNone (clear_place at count state)
 unfolding settled_place
@@ -77,8 +77,8 @@ on_none : (place next : Place) → OffersNone next → GoesOn place next
 on_none place next none pending e = absurd (none_some pending (sym none ∙ e))
 
 test_on : (place : Place) (b : Bool) (x y : Place) → GoesOn place x → GoesOn place y → GoesOn place (if b then x else y)
-test_on place true x y mine theirs = mine
-test_on place false x y mine theirs = theirs
+test_on place true x y mine opposite = mine
+test_on place false x y mine opposite = opposite
 
 fill_on : (place : Place) (pending : PendingOffer) (at count : ℕ) → offered_at place ≡ Some pending → GoesOn place (fill_place pending at count)
 unfolding settled_place
@@ -136,8 +136,8 @@ abbrev FreedOn : ℕ → ℕ → Place → Type 0
 FreedOn x n next = (freed_at x (settled_place next) ≡ x) ⊎ (freed_at x (settled_place next) ≡ n)
 
 test_freed : (x n : ℕ) (b : Bool) (y z : Place) → FreedOn x n y → FreedOn x n z → FreedOn x n (if b then y else z)
-test_freed x n true y z mine theirs = mine
-test_freed x n false y z mine theirs = theirs
+test_freed x n true y z mine opposite = mine
+test_freed x n false y z mine opposite = opposite
 
 fill_freed : (x : ℕ) (pending : PendingOffer) (at count : ℕ) → freed_at x (settled_place (fill_place pending at count)) ≡ x
 unfolding settled_place
@@ -163,8 +163,8 @@ freed_on config (WritingAvailIndex pending) value x = inl (freed_none x (settled
 freed_on config place value x = inl (freed_none x (settled_place (next_place config place value)) (none_of (offered_at (settled_place (next_place config place value))) (λ pending e. none_some pending (goes_on config place value pending e))))
 
 test_same : (x : ℕ) (b : Bool) (y z : Place) → freed_at x y ≡ x → freed_at x z ≡ x → freed_at x (if b then y else z) ≡ x
-test_same x true y z mine theirs = mine
-test_same x false y z mine theirs = theirs
+test_same x true y z mine opposite = mine
+test_same x false y z mine opposite = opposite
 
 first_freed : (x : ℕ) (config : EndConfig) (end : End) (call : Call) → freed_at x (first_place config end call) ≡ x
 first_freed x config end Tick = refl
@@ -177,8 +177,8 @@ abbrev AcceptsNone : List Mark → Type 0
 AcceptsNone marks = (end : End) → (with_marks end marks).accepted ≡ end.accepted
 
 test_accepts : (b : Bool) (x y : List Mark) → AcceptsNone x → AcceptsNone y → AcceptsNone (if b then x else y)
-test_accepts true x y mine theirs = mine
-test_accepts false x y mine theirs = theirs
+test_accepts true x y mine opposite = mine
+test_accepts false x y mine opposite = opposite
 
 full_accepts : (config : EndConfig) (pending : PendingOffer) (freed : ℕ) → AcceptsNone (full_marks config pending freed)
 full_accepts config pending freed = test_accepts (frame_fits config pending freed) [] (Full ∷ []) (λ end. refl) (λ end. refl)

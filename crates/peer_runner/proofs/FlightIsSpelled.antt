@@ -15,7 +15,7 @@ use Rattle.link_invariant.specs.LinkInvariant.{SectionSpells}
 use Rattle.link_invariant.proofs.Fields.{numbers, one_test, field_read}
 use Rattle.link_invariant.proofs.EndObligations.{run_ready}
 use Rattle.link_invariant.proofs.PairObligations.{room_at}
-use Rattle.link_invariant.proofs.LinkInvariantKept.{spelled_lem}
+use Rattle.link_invariant.proofs.LinkInvariantKept.{frames_are_spelled}
 use Rattle.shared_words.specs.declared.run_setup.RunSetup.{RunSetup}
 use Rattle.shared_words.specs.RunSetups.{link_config_of, honest_of, IsFit}
 use Rattle.shared_words.specs.DerivedStates.{CallAccess, MemoryOp}
@@ -45,8 +45,8 @@ as_counted link_config memory p end pending freed more a s = let run = a.holds.0
 }
 
 section_spells : (link_config : LinkConfig) (memory : ℕ → ℕ) (p : ℕ) (end : End) (place : Place) (k : ℕ) → IsLinkConfig link_config → Opened end.handshake.phase → EndInvariant link_config memory p end place → SpelledFrom link_config memory p end.accepted (freed_at end.freed place) → freed_at end.freed place ≤ k → k < length end.accepted → SectionSpells link_config memory p k (frame_at end.accepted k)
-section_spells link_config memory p end (ReadingUsedId pending freed more) k is o a s low high = spelled_lem.in_flight link_config memory p (record end { freed = freed }) (ReadingUsedIndex pending freed) k is (as_counted link_config memory p end pending freed more a s) o low high
-section_spells link_config memory p end place k is o a s low high = spelled_lem.in_flight link_config memory p end place k is a o low high
+section_spells link_config memory p end (ReadingUsedId pending freed more) k is o a s low high = frames_are_spelled.in_flight link_config memory p (record end { freed = freed }) (ReadingUsedIndex pending freed) k is (as_counted link_config memory p end pending freed more a s) o low high
+section_spells link_config memory p end place k is o a s low high = frames_are_spelled.in_flight link_config memory p end place k is a o low high
 
 address_is : (link_config : LinkConfig) (memory : ℕ → ℕ) (p k start : ℕ) (frame : List ℕ) → IsLinkConfig link_config → Spelled link_config (fields link_config memory p) k start frame → address_at link_config.sizes (λ w. memory (section_of link_config p + w)) (k % limit_of link_config.sizes) ≡ start
 address_is link_config memory p k start frame is s = let d = k % limit_of link_config.sizes in let b = numbers link_config is in let low : d < limit_of link_config.sizes = mod_below k (limit_of link_config.sizes) b.limit_least in let few = b.limit_most in
@@ -59,8 +59,8 @@ open_session phase (inl e) = subst Opened (sym e) tt
 open_session phase (inr e) = subst Opened (sym e) tt
 
 module _ (key : RunSetup) (fit : IsFit key) (p : ℕ) (hp : honest_of key p ≡ true) where
-  pub flight_lem : (memory words : ℕ → ℕ) (acc : ℕ → List (MemoryOp CallAccess)) → OperationsMade key memory words acc → FlightIsSpelled key memory acc p
-  flight_lem memory words acc m = let link_config = link_config_of key in let is = is_link_config key fit in let end = end_by key acc p in let place = place_by key acc p in let a = alone_at key fit memory words acc m p hp in
+  pub flight_is_spelled : (memory words : ℕ → ℕ) (acc : ℕ → List (MemoryOp CallAccess)) → OperationsMade key memory words acc → FlightIsSpelled key memory acc p
+  flight_is_spelled memory words acc m = let link_config = link_config_of key in let is = is_link_config key fit in let end = end_by key acc p in let place = place_by key acc p in let a = alone_at key fit memory words acc m p hp in
       let start = same_section key p (honest_below key p hp) in
       let from : Opened end.handshake.phase → SpelledFrom link_config memory p end.accepted (freed_at end.freed place) = λ o. spelled_same link_config end.written memory p (freed_at end.freed place) end.accepted is a.written (flight_is key fit p hp memory words acc m o) in record {
         least = let f = freed_below link_config memory p end place a in let g = a.freed in omega arith;

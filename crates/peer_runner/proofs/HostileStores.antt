@@ -14,15 +14,15 @@ use Rattle.shared_words.proofs.FoldOfOperations.{put, put_here, put_else}
 use Rattle.shared_words.proofs.LinkOfSetup.{clash}
 use Rattle.shared_words.proofs.TableIsKept.{memory_write}
 
-free_lem : (key : RunSetup) (words : List ℕ) (acc : ℕ → List (Action (MemoryOp CallAccess))) (p w n : ℕ) → IsFit key → Memory key words acc → p < key.geometry.peers → honest_of key p ≡ false → InSection key.geometry p w ⊎ (w ≡ p) → n < 2 ^ 32 →
+hostile_word_is_free : (key : RunSetup) (words : List ℕ) (acc : ℕ → List (Action (MemoryOp CallAccess))) (p w n : ℕ) → IsFit key → Memory key words acc → p < key.geometry.peers → honest_of key p ≡ false → InSection key.geometry p w ⊎ (w ≡ p) → n < 2 ^ 32 →
     (next : ℕ → List (Action (MemoryOp CallAccess))) × Memory key (set words w n) next × ((q : ℕ) → q ≢ p → next q ≡ acc q)
-free_lem key words acc p w n fit m lt h (inl own) small = let t = call_access None (access.Write w n) 0 in let list = acc p ++ accessed (called t) ∷ [] in
+hostile_word_is_free key words acc p w n fit m lt h (inl own) small = let t = call_access None (access.Write w n) 0 in let list = acc p ++ accessed (called t) ∷ [] in
     (put acc p list, memory_write key words acc (put acc p list) p w n t fit lt (inl (inl own)) (inl own) small (λ memory. tt) (λ memory after st. st) (λ hp. absurd (clash (sym h ∙ hp))) (record { here = put_here acc p p list refl; neighbour_word = λ q ne. put_else acc p q list ne }) m, λ q ne. put_else acc p q list ne)
-free_lem key words acc p w n fit m lt h (inr own) small = let t = call_access None (access.State n) 0 in let list = acc p ++ accessed (called t) ∷ [] in
+hostile_word_is_free key words acc p w n fit m lt h (inr own) small = let t = call_access None (access.State n) 0 in let list = acc p ++ accessed (called t) ∷ [] in
     (put acc p list, memory_write key words acc (put acc p list) p w n t fit lt (inr own) tt small (λ memory. tt) (λ memory after st. subst (λ x. Stored memory after x n) own st) (λ hp. absurd (clash (sym h ∙ hp))) (record { here = put_here acc p p list refl; neighbour_word = λ q ne. put_else acc p q list ne }) m, λ q ne. put_else acc p q list ne)
 
-pub hostile_lem : HostileWordsAreFree
-hostile_lem = record {
+pub hostile_words_are_free : HostileWordsAreFree
+hostile_words_are_free = record {
   below = λ key s kept w lt. kept.memory.small w lt;
-  free = λ key s kept p w n lt h own small. free_lem key s.words kept.acc p w n kept.fit kept.memory lt h own small;
+  free = λ key s kept p w n lt h own small. hostile_word_is_free key s.words kept.acc p w n kept.fit kept.memory lt h own small;
 }

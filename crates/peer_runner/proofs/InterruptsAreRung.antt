@@ -209,10 +209,10 @@ finds_both xs ys ls rs one other = record {
       let c = one.all in let d = other.all in omega arith;
 }
 
-turns_hear : (p : ℕ) (routes : List Route) (turns : List Turn) → InterruptsAreFound (lines_of_turns p turns) (actions_in routes turns)
+turns_find_interrupts : (p : ℕ) (routes : List Route) (turns : List Turn) → InterruptsAreFound (lines_of_turns p turns) (actions_in routes turns)
 unfolding lines_of_turns actions_in
-turns_hear p routes [] = silent_finds [] [] silent_none
-turns_hear p routes (turn ∷ turns) = finds_both (lines_in p turn) (lines_of_turns p turns) (acted_in routes turn) (actions_in routes turns) (turn_finds p routes turn) (turns_hear p routes turns)
+turns_find_interrupts p routes [] = silent_finds [] [] silent_none
+turns_find_interrupts p routes (turn ∷ turns) = finds_both (lines_in p turn) (lines_of_turns p turns) (acted_in routes turn) (actions_in routes turns) (turn_finds p routes turn) (turns_find_interrupts p routes turns)
 
 -- The rings of turns, each with its doorbell.
 
@@ -390,7 +390,7 @@ pub record LinesFollowRings (routes : List Route) (p : ℕ) (list : List (Action
   pub bells : (target v : ℕ) → count_in (rings_bit target v) list ≤ how_many (is_bell (route_to routes target).intx target v) lines
 
 pub turns_report : (routes : List Route) (p : ℕ) (config : EndConfig) (storm : ℕ → Step) (turns : List Turn) (start : Peer) (spans : List ℕ) (after : Running) (list : List (Action (MemoryOp CallAccess))) → TakesTurns config storm routes (comes_to start spans) turns after → shown list ≡ actions_in routes turns → LinesFollowRings routes p list (lines_of_turns p turns)
-turns_report routes p config storm turns start spans after list took made = let finds = turns_hear p routes turns in
+turns_report routes p config storm turns start spans after list took made = let finds = turns_find_interrupts p routes turns in
     let found : (v : ℕ) → count_in (finds_bit v) (actions_in routes turns) ≡ count_in (finds_bit v) list = λ v. ap (count_in (finds_bit v)) (sym made) ∙ weigh_seen (finds_bit v) (finds_bit v) (finds_seen v) list in record {
       each = λ v. let a = finds.each v in let b : count_in (finds_bit v) (actions_in routes turns) ≡ count_in (finds_bit v) list = found v in omega arith;
       all = let a = finds.all in let b : sum_below 64 (λ v. count_in (finds_bit v) (actions_in routes turns)) ≡ sum_below 64 (λ v. count_in (finds_bit v) list) = tally_same 64 _ _ (λ v lt. found v) in omega arith;

@@ -6,7 +6,7 @@ use Rattle.split_ring.specs.declared.sizes.TheConstants.{FRAME_OVERHEAD}
 use Rattle.split_ring.specs.declared.steps.Access.{Access}
 use Rattle.split_ring.specs.Layout.{Sizes, IsQueue, limit_of}
 use Rattle.split_ring.specs.Frames.{start_of, footprint_of, AreApart}
-use Rattle.split_ring.proofs.Frames.{frames_lem}
+use Rattle.split_ring.proofs.FramesAreLaidOut.{frames_are_laid_out}
 use Rattle.call_grammar.specs.Words.{lengths_of}
 use Rattle.call_grammar.proofs.Lengths.{last_length}
 use Rattle.call_grammar.specs.Ends.{End}
@@ -115,7 +115,7 @@ long_is accepted pending number lengths = ap (λ (l : ℕ → ℕ). l pending.nu
 
 -- Its words are among the bytes that it takes.
 word_fits : (sizes : Sizes) (pending : PendingOffer) (at : ℕ) → IsQueue sizes → pending.lengths pending.number ≡ length pending.frame → length pending.frame ≤ sizes.mtu + FRAME_OVERHEAD → at < (length pending.frame + 3) / 4 → at < footprint_of sizes (length pending.frame) / 4
-word_fits sizes pending at queue long most lt = let placed = frames_lem.placed sizes pending.lengths pending.number queue in let holds = subst (λ n. n ≤ sizes.mtu + FRAME_OVERHEAD → 4 * ((n + 3) / 4) ≤ footprint_of sizes n) long placed.holds in let h = holds most in omega arith
+word_fits sizes pending at queue long most lt = let placed = frames_are_laid_out.placed sizes pending.lengths pending.number queue in let holds = subst (λ n. n ≤ sizes.mtu + FRAME_OVERHEAD → 4 * ((n + 3) / 4) ≤ footprint_of sizes n) long placed.holds in let h = holds most in omega arith
 
 -- An access to a session word begins no call and stores nothing in the region.
 quiet_writes : (was : List ℕ) (d : MemoryOp CallAccess) → IsQuiet d → unless_begun was d ++ words_of (access_of d) ≡ was
@@ -171,17 +171,17 @@ module _ (key : RunSetup) (fit : IsFit key) (p : ℕ) (hp : honest_of key p ≡ 
       (subst (λ (x : Place). Had (call_writes list) x pending) (sym quiet.place) (was pending (ap offered_at (sym quiet.place) ∙ e))))
       (λ memory after list reset was pending e. absurd (none_some pending (ap offered_at (sym reset.place) ∙ e)))
 
-  pub offers_lem : (memory words : ℕ → ℕ) (acc : ℕ → List (MemoryOp CallAccess)) → OperationsMade key memory words acc → OpenOfferStores key memory acc p
-  offers_lem memory words acc m pending e = let link_config = link_config_of key in let end = end_by key acc p in let place = place_by key acc p in let a = alone_at key fit memory words acc m p hp in let st = stored_is memory words acc m pending e in
+  pub open_offer_stores : (memory words : ℕ → ℕ) (acc : ℕ → List (MemoryOp CallAccess)) → OperationsMade key memory words acc → OpenOfferStores key memory acc p
+  open_offer_stores memory words acc m pending e = let link_config = link_config_of key in let end = end_by key acc p in let place = place_by key acc p in let a = alone_at key fit memory words acc m p hp in let st = stored_is memory words acc m pending e in
       let number = number_is link_config memory p end place pending a e in let lengths = lengths_are link_config memory p end place pending a e in let is = is_link_config key fit in record {
         number = number;
         lengths = lengths;
         stores = st.0;
         free = λ k some low high same. ⊎_elim (λ r. some (st.1 r))
-            (λ room. let few = frames_lem.few key.queue pending.lengths (freed_at end.freed place) pending.number room in let b = numbers link_config is in ring_apart (limit_of key.queue) k (length end.accepted) b.limit_least high (omega arith) (ap (λ n. n % limit_of key.queue) (sym number) ∙ sym same))
+            (λ room. let few = frames_are_laid_out.few key.queue pending.lengths (freed_at end.freed place) pending.number room in let b = numbers link_config is in ring_apart (limit_of key.queue) k (length end.accepted) b.limit_least high (omega arith) (ap (λ n. n % limit_of key.queue) (sym number) ∙ sym same))
             (room_is link_config memory p end place pending a e);
         apart = λ k some low high. ⊎_elim (λ r. absurd (some (st.1 r)))
             (λ room. subst (λ n. AreApart (start_of key.queue pending.lengths k) (footprint_of key.queue (pending.lengths k)) (start_of key.queue pending.lengths pending.number) (footprint_of key.queue n)) (long_is end.accepted pending number lengths)
-            (frames_lem.apart key.queue pending.lengths (freed_at end.freed place) pending.number k fit.queue room low (omega arith)))
+            (frames_are_laid_out.apart key.queue pending.lengths (freed_at end.freed place) pending.number k fit.queue room low (omega arith)))
             (room_is link_config memory p end place pending a e);
       }

@@ -7,10 +7,10 @@ use Rattle.call_grammar.specs.Ends.{fresh}
 use Rattle.call_grammar.specs.Places.{WritingState}
 use Rattle.link_invariant.specs.LinkConfig.{LinkConfig, IsLinkConfig, config_of}
 use Rattle.link_invariant.specs.EndInvariant.{PlaceInvariant}
-use Rattle.link_invariant.proofs.RunsKept.{whole_lem}
+use Rattle.link_invariant.proofs.RunsKept.{runs_keep_invariant}
 use Rattle.pair_sessions.specs.Numbers.{no_numbers, WordIs}
 use Rattle.pair_sessions.proofs.SessionNumbers.{low_writes, word_step, word_reset, word_stored, word_like}
-use Rattle.pair_sessions.proofs.SessionsArePaired.{paired_lem}
+use Rattle.pair_sessions.proofs.SessionsArePaired.{sessions_are_paired}
 use Rattle.shared_words.specs.RunSetups.{link_config_of, honest_of}
 use Rattle.shared_words.specs.DerivedStates.{DerivedState, derived_state}
 use Rattle.shared_words.specs.Rules.{session_words, accesses_by}
@@ -36,7 +36,7 @@ word_on st next words now p s q only new same was = dite (ℕ_discrete q p)
 
 module _ (link_config : LinkConfig) (is : IsLinkConfig link_config) (honest : ℕ → Bool) where
   holds_at : (memory words : ℕ → ℕ) (st : ℕ → DerivedState) → Reached link_config honest memory words st → (p : ℕ) → p < 2 → honest p ≡ true → PlaceInvariant link_config memory p (st p).end (st p).place
-  holds_at memory words st r p p2 hp = ((whole_lem link_config honest memory (ends_of st) (places_of st) is (reached_runs link_config honest memory words st r)).alone p p2 hp).holds
+  holds_at memory words st r p p2 hp = ((runs_keep_invariant link_config honest memory (ends_of st) (places_of st) is (reached_runs link_config honest memory words st r)).alone p p2 hp).holds
 
   word_at : (memory words : ℕ → ℕ) (st : ℕ → DerivedState) → Reached link_config honest memory words st → (q : ℕ) → q < 2 → honest q ≡ true → HasWord (st q) (words q)
   word_at memory words st (reaches.starts _ _ _ zeros none at) q q2 hq =
@@ -57,17 +57,17 @@ module _ (link_config : LinkConfig) (is : IsLinkConfig link_config) (honest : �
 opened_at : (s : DerivedState) (word : ℕ) → HasWord s word → InSession s.end.handshake.phase → word ≡ s.numbers.log.opened
 opened_at s word w open' = ⊎_elim (λ h. h.1) (λ h. let low = h.2 in ⊎_elim (λ e. let two = ap state_of e in absurd (omega arith)) (λ e. let three = ap state_of e in absurd (omega arith)) open') w
 
-pub numbers_lem : SessionWordsAreNumbers
-numbers_lem key s kept p hp = let st : ℕ → DerivedState = λ q. derived_state key q (accesses_by kept.acc q) in let words = session_words key s.words in
+pub session_words_are_numbers : SessionWordsAreNumbers
+session_words_are_numbers key s kept p hp = let st : ℕ → DerivedState = λ q. derived_state key q (accesses_by kept.acc q) in let words = session_words key s.words in
     let w = word_at (link_config_of key) (is_link_config key kept.fit) (honest_of key) _ words st (reached_by key kept.fit _ words (accesses_by kept.acc) (made_in key s kept)) p (honest_below key p hp) hp in
     record { word = w; opened = opened_at (st p) (words p) w }
 
-pub none_lem : HostileSessionsAreNone
-none_lem key s kept p p2 h = hostile_none key _ (session_words key s.words) (accesses_by kept.acc) (made_in key s kept) p h
+pub hostile_sessions_are_none : HostileSessionsAreNone
+hostile_sessions_are_none key s kept p p2 h = hostile_none key _ (session_words key s.words) (accesses_by kept.acc) (made_in key s kept) p h
 
 -- Two honest ends
 
 pub paired_sessions : SessionsArePaired
 paired_sessions key s kept p a b p2 = let st : ℕ → DerivedState = λ q. derived_state key q (accesses_by kept.acc q) in let is = is_link_config key kept.fit in let words = session_words key s.words in
     let run = reached_numbered (link_config_of key) (honest_of key) is a b _ words st (reached_by key kept.fit _ words (accesses_by kept.acc) (made_in key s kept)) in
-    ((paired_lem (link_config_of key) _ words (ends_of st) (places_of st) (numbers_of st) is run).1.3 p p2).2
+    ((sessions_are_paired (link_config_of key) _ words (ends_of st) (places_of st) (numbers_of st) is run).1.3 p p2).2

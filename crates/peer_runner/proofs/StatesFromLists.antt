@@ -11,7 +11,7 @@ use Rattle.split_ring.specs.declared.steps.Access.{Access}
 use Rattle.split_ring.specs.declared.steps.Access.TheVariants as access
 use Rattle.link_handshake.specs.declared.Phase.{Phase}
 use Rattle.link_handshake.specs.declared.Phase.TheVariants.{Reset}
-use Rattle.link_handshake.specs.PhaseTable.{phase_at, state_of}
+use Rattle.link_handshake.specs.PhaseTable.{phase_of_state, state_of}
 use Rattle.call_grammar.specs.Ends.{End}
 use Rattle.call_grammar.specs.Places.{Clearing, WritingState}
 use Rattle.link_invariant.specs.EndInvariant.{IsClear, PlaceInvariant}
@@ -62,18 +62,18 @@ in_list acc next p q d e g c = dite (ℕ_discrete p q)
     (λ ne. inl (subst (λ l. Contains l e) (g.neighbour_word p ne) c))
 
 -- Each store of a peer is to a word that it may write.
-owned_lem : (key : RunSetup) (memory words : ℕ → ℕ) (acc : ℕ → List (MemoryOp CallAccess)) → OperationsMade key memory words acc → (p : ℕ) (t : CallAccess) → Contains (acc p) (called t) → IsOwned key p t.access
-owned_lem key memory words acc (made.starts _ _ _ zeros blank empty) p t c = absurd (none_in (called t) (subst (λ l. Contains l (called t)) (empty p) c))
-owned_lem key after words next (made.makes memory _ _ acc _ q u k lt may meets leaves g) p t c = ⊎_elim (owned_lem key memory words acc k p t)
+operation_is_owned : (key : RunSetup) (memory words : ℕ → ℕ) (acc : ℕ → List (MemoryOp CallAccess)) → OperationsMade key memory words acc → (p : ℕ) (t : CallAccess) → Contains (acc p) (called t) → IsOwned key p t.access
+operation_is_owned key memory words acc (made.starts _ _ _ zeros blank empty) p t c = absurd (none_in (called t) (subst (λ l. Contains l (called t)) (empty p) c))
+operation_is_owned key after words next (made.makes memory _ _ acc _ q u k lt may meets leaves g) p t c = ⊎_elim (operation_is_owned key memory words acc k p t)
     (λ h. subst (λ x. IsOwned key x t.access) (sym h.0) (subst (λ (x : CallAccess). IsOwned key q x.access) (same_call h.1) may.owned)) (in_list acc next p q (called u) (called t) g c)
-owned_lem key memory now next (made.stores _ words _ acc _ q number k may st g) p t c = ⊎_elim (owned_lem key memory words acc k p t) (λ h. absurd (quiet_called (numbered number) t tt h.1)) (in_list acc next p q (numbered number) (called t) g c)
-owned_lem key memory words next (made.loads _ _ acc _ q k may g) p t c = ⊎_elim (owned_lem key memory words acc k p t) (λ h. absurd (quiet_called (carried (words (1 - q))) t tt h.1)) (in_list acc next p q (carried (words (1 - q))) (called t) g c)
-owned_lem key after words next (made.resets memory _ _ acc _ q k lt st g) p t c = ⊎_elim (owned_lem key memory words acc k p t) (λ h. absurd (reset_called t h.1)) (in_list acc next p q restarted (called t) g c)
+operation_is_owned key memory now next (made.stores _ words _ acc _ q number k may st g) p t c = ⊎_elim (operation_is_owned key memory words acc k p t) (λ h. absurd (quiet_called (numbered number) t tt h.1)) (in_list acc next p q (numbered number) (called t) g c)
+operation_is_owned key memory words next (made.loads _ _ acc _ q k may g) p t c = ⊎_elim (operation_is_owned key memory words acc k p t) (λ h. absurd (quiet_called (carried (words (1 - q))) t tt h.1)) (in_list acc next p q (carried (words (1 - q))) (called t) g c)
+operation_is_owned key after words next (made.resets memory _ _ acc _ q k lt st g) p t c = ⊎_elim (operation_is_owned key memory words acc k p t) (λ h. absurd (reset_called t h.1)) (in_list acc next p q restarted (called t) g c)
 
-pub stores_lem : StoresAreOwned
-stores_lem key s kept p t c = owned_lem key _ _ (accesses_by kept.acc) (made_in key s kept) p t c
+pub stores_are_owned : StoresAreOwned
+stores_are_owned key s kept p t c = operation_is_owned key _ _ (accesses_by kept.acc) (made_in key s kept) p t c
 
-state_left_is : (phase : Phase) (a : Access) (n : ℕ) → state_of phase ≡ n → ((state : ℕ) → a ≡ access.State state → state_of (phase_at state) ≡ state) → state_of (phase_left phase a) ≡ state_left n a
+state_left_is : (phase : Phase) (a : Access) (n : ℕ) → state_of phase ≡ n → ((state : ℕ) → a ≡ access.State state → state_of (phase_of_state state) ≡ state) → state_of (phase_left phase a) ≡ state_left n a
 state_left_is phase (access.State state) n was set = set state refl
 state_left_is phase (access.Read word) n was set = was
 state_left_is phase (access.Write word value) n was set = was
@@ -120,16 +120,16 @@ module _ (key : RunSetup) (fit : IsFit key) (p : ℕ) (hp : honest_of key p ≡ 
       (λ memory after list reset was. ap (λ (e : End). state_of e.handshake.phase) reset.end ∙ sym (fold_more (λ n (x : MemoryOp CallAccess). state_left n (access_of x)) 0 list restarted))
 
   -- Each word of its section, and its state word.
-  pub words_lem : (memory words : ℕ → ℕ) (acc : ℕ → List (MemoryOp CallAccess)) → OperationsMade key memory words acc → WordsAreWritten key memory acc p
-  words_lem memory words acc m = let alone = alone_at key fit memory words acc m p hp in let start = same_section key p (honest_below key p hp) in record {
+  pub words_are_written : (memory words : ℕ → ℕ) (acc : ℕ → List (MemoryOp CallAccess)) → OperationsMade key memory words acc → WordsAreWritten key memory acc p
+  words_are_written memory words acc m = let alone = alone_at key fit memory words acc m p hp in let start = same_section key p (honest_below key p hp) in record {
     section = λ w has. let j = w - section_start key.geometry p in let low = has.0 in let high = has.1 in let at : w ≡ section_of (link_config_of key) p + j = omega arith in
         ap memory at ∙ (alone.written j (omega arith) ∙ (ap (end_by key acc p).written (sym at) ∙ written_is memory words acc m w));
     state = alone.state ∙ state_is memory words acc m;
   }
 
   -- Each access is the next one of its calls.
-  pub calls_lem : (memory words : ℕ → ℕ) (acc : ℕ → List (MemoryOp CallAccess)) → OperationsMade key memory words acc → AccessesAreCalls key memory acc p
-  calls_lem memory words acc m = record {
+  pub accesses_are_calls : (memory words : ℕ → ℕ) (acc : ℕ → List (MemoryOp CallAccess)) → OperationsMade key memory words acc → AccessesAreCalls key memory acc p
+  accesses_are_calls memory words acc m = record {
     next = along key fit p hp (λ l. (front back : List (MemoryOp CallAccess)) (t : CallAccess) → l ≡ front ++ called t ∷ back → IsNext key p (derived_state key p front) t.begins t.access)
         (λ front back t e. absurd (none_there front back (called t) e))
         (λ memory after words acc next u k m here turn was front back t e. ⊎_elim
@@ -142,18 +142,18 @@ module _ (key : RunSetup) (fit : IsFit key) (p : ℕ) (hp : honest_of key p ≡ 
   }
 
   -- It writes nothing in RESET.
-  pub reset_lem : (memory words : ℕ → ℕ) (acc : ℕ → List (MemoryOp CallAccess)) → OperationsMade key memory words acc → (end_by key acc p).handshake.phase ≡ Reset → has_written (acc p) ≡ false
-  reset_lem = along key fit p hp (λ l. (derived_state key p l).end.handshake.phase ≡ Reset → has_written l ≡ false) (λ e. refl)
+  pub reset_has_not_written : (memory words : ℕ → ℕ) (acc : ℕ → List (MemoryOp CallAccess)) → OperationsMade key memory words acc → (end_by key acc p).handshake.phase ≡ Reset → has_written (acc p) ≡ false
+  reset_has_not_written = along key fit p hp (λ l. (derived_state key p l).end.handshake.phase ≡ Reset → has_written l ≡ false) (λ e. refl)
       (λ memory after words acc next t k m here turn was reset. let phase = (end_by key acc p).handshake.phase in
       fold_more (λ b (x : MemoryOp CallAccess). is_after_write b (access_of x)) false (acc p) (called t) ∙ still phase t.access (has_written (acc p)) was
       (λ z word value is. alone_kept.quiet (link_config_of key) p memory (end_by key acc p) (place_before key p (acc p) t) word value turn.alone z (sym turn.is ∙ is)) (sym (phase_after key p memory after (acc p) t turn) ∙ reset))
       (λ list d quiet was reset. fold_more (λ b (x : MemoryOp CallAccess). is_after_write b (access_of x)) false list d ∙ (ap (is_after_write (has_written list)) quiet.access ∙ was (sym (ap (λ (e : End). e.handshake.phase) quiet.end) ∙ reset)))
       (λ memory after list restart was reset. fold_more (λ b (x : MemoryOp CallAccess). is_after_write b (access_of x)) false list restarted)
 
-  pub phases_lem : (memory words : ℕ → ℕ) (acc : ℕ → List (MemoryOp CallAccess)) → OperationsMade key memory words acc → WordsFollowPhases key memory acc p
-  phases_lem memory words acc m = let link_config = link_config_of key in let end = end_by key acc p in let place = place_by key acc p in let alone = alone_at key fit memory words acc m p hp in let start = same_section key p (honest_below key p hp) in
+  pub words_follow_phases : (memory words : ℕ → ℕ) (acc : ℕ → List (MemoryOp CallAccess)) → OperationsMade key memory words acc → WordsFollowPhases key memory acc p
+  words_follow_phases memory words acc m = let link_config = link_config_of key in let end = end_by key acc p in let place = place_by key acc p in let alone = alone_at key fit memory words acc m p hp in let start = same_section key p (honest_below key p hp) in
       let clear : (count : ℕ) → IsClear link_config memory p count → (j : ℕ) → j < count → section_words key memory p j ≡ 0 = λ count c j lt. ap (λ x. memory (x + j)) start ∙ c.none j lt in record {
-        reset = reset_lem memory words acc m;
+        reset = reset_has_not_written memory words acc m;
         clears = λ at more state e. let h : PlaceInvariant link_config memory p end (Clearing at more state) = subst (PlaceInvariant link_config memory p end) e alone.holds in let back = h.2 in (h.0, (back.0, back.1 ∙ ap (λ x. x + back.0) (sym start), clear back.0 back.3));
         cleared = λ e. let h : PlaceInvariant link_config memory p end (WritingState 2) = subst (PlaceInvariant link_config memory p end) e alone.holds in (h.0, clear key.geometry.out h.1);
         ready = λ e. clear key.geometry.out (alone.ready e).section;

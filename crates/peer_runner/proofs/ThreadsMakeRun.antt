@@ -198,8 +198,8 @@ reader_matches_in world key parts made p list says = subst (λ event. ReaderMatc
 
 -- Two sides by the lines are those that their lists leave.
 delivers_by : (one other : RecordReader) (s o : DerivedState) → ReaderMatches s one → ReaderMatches o other → DeliversInOrder (own_side s.end) (own_side o.end) s.numbers.log o.numbers.log → DeliversInOrder (side_in one) (side_in other) one.log other.log
-delivers_by one other s o mine theirs d = subst (λ (x : Side). DeliversInOrder x (side_in other) one.log other.log) (sym mine.side) (subst (λ (x : Side). DeliversInOrder (own_side s.end) x one.log other.log) (sym theirs.side)
-    (subst (λ (l : Log). DeliversInOrder (own_side s.end) (own_side o.end) l other.log) (sym mine.log) (subst (λ (l : Log). DeliversInOrder (own_side s.end) (own_side o.end) s.numbers.log l) (sym theirs.log) d)))
+delivers_by one other s o mine opposite d = subst (λ (x : Side). DeliversInOrder x (side_in other) one.log other.log) (sym mine.side) (subst (λ (x : Side). DeliversInOrder (own_side s.end) x one.log other.log) (sym opposite.side)
+    (subst (λ (l : Log). DeliversInOrder (own_side s.end) (own_side o.end) l other.log) (sym mine.log) (subst (λ (l : Log). DeliversInOrder (own_side s.end) (own_side o.end) s.numbers.log l) (sym opposite.log) d)))
 
 pairs : (world : World) (key : RunSetup) (lists : List (List (Action (MemoryOp CallAccess)))) (traces : List OwnTrace) → IsMadeFor world key → 2 ≤ length lists → honest_of key 0 ≡ true → honest_of key 1 ≡ true → RanAll world key 0 lists traces → SessionsAreLearned key (accesses_by (list_of lists)) → ArePaired world (map part_of traces)
 pairs world key lists traces made two a b ran recorded = record {

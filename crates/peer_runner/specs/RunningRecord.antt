@@ -6,7 +6,7 @@
 use Rattle.std.specs.Prelude.{ℕ, ◌≡◌, ◌+◌, ◌-◌, ◌<◌, ◌≤◌, ◌==◌, ◌&&◌, ◌||◌, Bool, true, false, if◌then◌else◌, All, Contains, List, [], ◌∷◌, ◌++◌}
 use Rattle.std.specs.List.{flat_map, list_any}
 use Rattle.split_ring.specs.Layout.{has_events}
-use Rattle.link_handshake.specs.PhaseTable.{phase_at, state_of}
+use Rattle.link_handshake.specs.PhaseTable.{phase_of_state, state_of}
 use Rattle.link_machine.specs.LinkMachine.{Side, initial_side, SideEvent, Wrote, WasReset, Log, no_sessions, log_after, DeliversInOrder}
 use Rattle.pair_sessions.specs.Numbers.{own_side}
 use Rattle.doorbell_irq.specs.DeviceRules.{is_one_shot, bytes_after}
@@ -73,7 +73,7 @@ missed_now t = if t.read then t.missed ++ accepted_last t.log t.accepted ∷ [] 
 -- a session.
 abbrev pub reader_after_state : RecordReader → ℕ → RecordReader
 reader_after_state t value = record {
-  state = state_of (phase_at value);
+  state = state_of (phase_of_state value);
   accepted = if value == 2 then [] else t.accepted;
   delivered = if value == 2 then [] else t.delivered;
   log = log_in t (Wrote value);

@@ -123,12 +123,12 @@ pub fn ends_call(line: &Line) -> bool {
 }
 
 /// Returns the name of a call after one more line, which shows the second name.
-fn name_after(name: &'static str, told: &'static str) -> &'static str {
-    match (name, told) {
+fn name_after(name: &'static str, call_name: &'static str) -> &'static str {
+    match (name, call_name) {
         (_, "call") => name,
-        ("call", _) => told,
+        ("call", _) => call_name,
         (_, "stop") => name,
-        ("stop", _) => told,
+        ("stop", _) => call_name,
         _ => name,
     }
 }
@@ -166,14 +166,14 @@ pub fn put_calls(
         if peer_of(line) != peer {
             continue;
         }
-        if let Some(told) = call_of(line) {
+        if let Some(call_name) = call_of(line) {
             let open = call.unwrap_or(Call {
                 from: at,
                 name: "call",
             });
             let more = Call {
                 from: open.from,
-                name: name_after(open.name, told),
+                name: name_after(open.name, call_name),
             };
             if ends_call(line) {
                 put_bracket(sheet, "bracket", peer, more, at)?;

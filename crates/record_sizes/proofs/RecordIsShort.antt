@@ -83,8 +83,8 @@ count_bytes count small =
     let text = ap (λ (t : List ℕ). length t) (text-cons pieces_of r []) in
     omega (arith, text, length-append (bare pieces_of r) (10 ∷ text_of pieces_of []), row_bytes r (omega arith, omega (arith, small), tt), length-decimal-le 20 count (omega arith) (omega (arith, small)) small)
 
-pub bound_lem : RecordsAreShort
-bound_lem r is (history, lawful, recorded) =
+pub records_are_short : RecordsAreShort
+records_are_short r is (history, lawful, recorded) =
     let fitting = by_recursion Fits r.lines is.fits in
     let paid = recorded_paid r.world history (r.version == 2) (subst AreFitting recorded fitting) in
     let cost = history_cost r.world history is.world paid.fits lawful in
@@ -95,5 +95,5 @@ bound_lem r is (history, lawful, recorded) =
     let rest = length-append (scenario.spelling r.world) (text_of pieces_of (history_rows r.lines)) in
     omega (arith, cost, paid.few, bytes, lines, count, parts, rest)
 
-pub limit_lem : RecordsAreWithinLimit
-limit_lem r is lawful few = let bound = bound_lem r is lawful in let most = is.world.turns in omega (arith, bound, most, few)
+pub records_are_within_limit : RecordsAreWithinLimit
+records_are_within_limit r is lawful few = let bound = records_are_short r is lawful in let most = is.world.turns in omega (arith, bound, most, few)

@@ -130,8 +130,8 @@ ids_credit config pending freed zero =
     either credit (frame_fits config pending freed) (fill_place pending 0 (words_for (length pending.frame))) Closed 0 (start_credit pending (words_for (length pending.frame)) refl) (omega arith)
 ids_credit config pending freed (suc more) = omega arith
 
-tell_credit : (config : EndConfig) (number : ℕ) → credit (notify_place config number) ≤ 0
-tell_credit config number = either credit (has_events config.sizes) (ReadingAvailEvent number) RingingOffer 0 (omega arith) (omega arith)
+notify_credit : (config : EndConfig) (number : ℕ) → credit (notify_place config number) ≤ 0
+notify_credit config number = either credit (has_events config.sizes) (ReadingAvailEvent number) RingingOffer 0 (omega arith) (omega arith)
 
 none_credit : (taken : ℕ) (last : Bool) → credit (none_place taken last) ≤ 0
 none_credit taken last = either credit last Closed (WritingAvailEvent taken) 0 (omega arith) (omega arith)
@@ -178,7 +178,7 @@ pays peer one config (WritingDescAddressHigh pending) met value = omega arith
 pays peer one config (WritingDescLength pending) met value = omega arith
 pays peer one config (WritingDescFlags pending) met value = omega arith
 pays peer one config (WritingAvailEntry pending) met value = omega arith
-pays peer one config (WritingAvailIndex pending) met value = let next = tell_credit config pending.number in omega arith
+pays peer one config (WritingAvailIndex pending) met value = let next = notify_credit config pending.number in omega arith
 pays peer one config (ReadingAvailEvent number) met value =
     let marks = event_price peer number value in
     let next = either credit (wants_doorbell (low_half value) number) RingingOffer Closed 0 (omega arith) (omega arith) in omega arith

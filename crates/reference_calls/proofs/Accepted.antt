@@ -169,8 +169,8 @@ descriptors_full_is : IsCall byte_peer_0 (end_at Run (replicate 64 frame)) (Offe
 unfolding queue_size slots_of limit_of start_of has_room ring_start footprint_of
 descriptors_full_is = playing.call byte_peer_0 (end_at Run (replicate 64 frame)) (Offer frame) full_offer (refl, refl, refl)
 
-begun_lem : (left : CallTree) × GoesAlong (tree_of peer_0 (end_at Run []) (Offer frame)) offer_begun left
-begun_lem = let cut = cuts.splits (tree_of peer_0 (end_at Run []) (Offer frame)) offer_begun offer_ended (lists.made peer_0 (end_at Run []) (Offer frame) (offer_begun ++ offer_ended) one_frame_offered_is) in (cut.0, cut.1)
+offer_is_begun : (left : CallTree) × GoesAlong (tree_of peer_0 (end_at Run []) (Offer frame)) offer_begun left
+offer_is_begun = let cut = cuts.splits (tree_of peer_0 (end_at Run []) (Offer frame)) offer_begun offer_ended (lists.made peer_0 (end_at Run []) (Offer frame) (offer_begun ++ offer_ended) one_frame_offered_is) in (cut.0, cut.1)
 
 pub accepted : RowsAreCalls
 accepted = record {
@@ -196,7 +196,7 @@ accepted = record {
   each_descriptor_flags = each_descriptor_flags_is;
   hostile_returns_id = hostile_returns_id_is;
   hostile_returns_index = hostile_returns_index_is;
-  reset_in_mid_offer_begun = begun_lem;
+  reset_in_mid_offer_begun = offer_is_begun;
   reset_in_mid_offer_stays = reset_in_mid_offer_stays_is;
   reset_in_mid_offer_follows = reset_in_mid_offer_follows_is;
   stop = stop_is;

@@ -7,7 +7,7 @@ use native.Mathlib.Decide.{ℕ_discrete}
 use Rattle.ivs_base.specs.Numbers.{up64}
 use Rattle.split_ring.specs.Layout.{Sizes, IsQueue, FrameSlot, is_byte_ring, data_area_len, slot_of, limit_of, data_area_start, offset_of}
 use Rattle.split_ring.specs.Frames.{footprint_of, ring_start, start_of, AreApart, is_apart_from, has_room}
-use Rattle.split_ring.proofs.Frames.{after_is, apart_of, are_apart_of, each_apart}
+use Rattle.split_ring.proofs.FramesAreLaidOut.{after_is, apart_of, are_apart_of, each_apart}
 use Rattle.reference_calls.specs.declared.ends.EndConfig.{EndConfig}
 use Rattle.reference_calls.specs.declared.places.Begun.{Begun}
 use Rattle.reference_calls.specs.declared.frames.Blocks.{Blocks}

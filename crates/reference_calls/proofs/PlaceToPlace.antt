@@ -25,12 +25,12 @@ from_played : (config : EndConfig) (place : Place) (steps : List Step) → IsRep
 from_played config place [] p = sym p
 from_played config place (step ∷ steps) p = (p.0, p.1, from_played config (next_place config place step.value) steps p.2)
 
-goes_lem : (config : EndConfig) (place to : Place) (steps : List Step) → Along config place steps to → GoesAlong (remaining config place) steps (remaining config to)
-goes_lem config place to [] a = ap (remaining config) a
-goes_lem config place to (step ∷ steps) a = (
+along_leads : (config : EndConfig) (place to : Place) (steps : List Step) → Along config place steps to → GoesAlong (remaining config place) steps (remaining config to)
+along_leads config place to [] a = ap (remaining config) a
+along_leads config place to (step ∷ steps) a = (
   remaining config (next_place config place step.value),
   subst (λ (s : Step). Goes (remaining config place) s (remaining config (next_place config place step.value))) (sym a.1) (following.comes config place step.value a.0),
-  goes_lem config (next_place config place step.value) to steps a.2,
+  along_leads config (next_place config place step.value) to steps a.2,
 )
 
 -- A step without a read has one next place.
@@ -42,24 +42,24 @@ opened : (config : EndConfig) (place : Place) (step : Step) (left : CallTree) �
 opened config Closed step left g = absurd g
 opened config place step left g = refl
 
-along_lem : (config : EndConfig) (place : Place) (steps : List Step) (left : CallTree) → GoesAlong (remaining config place) steps left → (to : Place) × Along config place steps to
-along_lem config place [] left g = (place, refl)
-along_lem config place (step ∷ steps) left g =
+leads_along : (config : EndConfig) (place : Place) (steps : List Step) (left : CallTree) → GoesAlong (remaining config place) steps left → (to : Place) × Along config place steps to
+leads_along config place [] left g = (place, refl)
+leads_along config place (step ∷ steps) left g =
     let g₁ = following.goes config place step g.0 g.1 in let v = g₁.0 in
     let value : step.value ≡ value_given (access_at config place) v = ap (λ (s : Step). s.value) g₁.1 in
     let same = given config place v in
     let step_is : step ≡ step_at config place step.value = g₁.1 ∙ (sym same.0 ∙ ap (step_at config place) (sym value)) in
     let next_is : g.0 ≡ remaining config (next_place config place step.value) = g₁.2 ∙ ap (remaining config) (sym same.1 ∙ ap (next_place config place) (sym value)) in
-    let rest = along_lem config (next_place config place step.value) steps left (subst (λ (t : CallTree). GoesAlong t steps left) next_is g.2) in
+    let rest = leads_along config (next_place config place step.value) steps left (subst (λ (t : CallTree). GoesAlong t steps left) next_is g.2) in
     (rest.0, (opened config place step g.0 g.1, step_is, rest.1))
 
-more_lem : (config : EndConfig) (place to new : Place) (steps : List Step) (step : Step) → Along config place steps to → Along config place (steps ++ step ∷ []) new → Along config to (step ∷ []) new
-more_lem config place to new [] step a b = subst (λ (p : Place). Along config p (step ∷ []) new) (sym a) b
-more_lem config place to new (first ∷ steps) step a b = more_lem config (next_place config place first.value) to new steps step a.2 b.2
+along_with_step : (config : EndConfig) (place to new : Place) (steps : List Step) (step : Step) → Along config place steps to → Along config place (steps ++ step ∷ []) new → Along config to (step ∷ []) new
+along_with_step config place to new [] step a b = subst (λ (p : Place). Along config p (step ∷ []) new) (sym a) b
+along_with_step config place to new (first ∷ steps) step a b = along_with_step config (next_place config place first.value) to new steps step a.2 b.2
 
-joined_lem : (config : EndConfig) (place to new : Place) (steps : List Step) (step : Step) → Along config place steps to → Along config to (step ∷ []) new → Along config place (steps ++ step ∷ []) new
-joined_lem config place to new [] step a b = subst (λ (p : Place). Along config p (step ∷ []) new) a b
-joined_lem config place to new (first ∷ steps) step a b = (a.0, a.1, joined_lem config (next_place config place first.value) to new steps step a.2 b)
+along_joined : (config : EndConfig) (place to new : Place) (steps : List Step) (step : Step) → Along config place steps to → Along config to (step ∷ []) new → Along config place (steps ++ step ∷ []) new
+along_joined config place to new [] step a b = subst (λ (p : Place). Along config p (step ∷ []) new) a b
+along_joined config place to new (first ∷ steps) step a b = (a.0, a.1, along_joined config (next_place config place first.value) to new steps step a.2 b)
 
 -- A place without an open call is `Closed`.
 pub closed : (place : Place) → is_open place ≡ false → place ≡ Closed
@@ -92,15 +92,15 @@ from_tree config end call first steps left e g = subst (λ (t : CallTree). GoesA
 -- No step is next after steps that don't replay.
 pub none_unplayed : (config : EndConfig) (end : End) (call : Call) (steps : List Step) (value : ℕ) (begun : Begun) (first : Place) → first ≡ first_place config end call → IsAfter config begun first steps None → IsNext config end call steps value None
 none_unplayed config end call steps value begun first e after = λ step left g.
-    let a = along_lem config first (steps ++ step ∷ []) left (from_tree config end call first (steps ++ step ∷ []) left e g) in
+    let a = leads_along config first (steps ++ step ∷ []) left (from_tree config end call first (steps ++ step ∷ []) left e g) in
     let p = prefix config first a.0 steps step a.1 in after p.0 p.1
 
 -- No step is next after the end of the call.
 pub none_closed : (config : EndConfig) (end : End) (call : Call) (steps : List Step) (value : ℕ) (begun : Begun) (first : Place) (place : plain.Place) → first ≡ first_place config end call → IsAfter config begun first steps (Some place) →
     is_open (place_view begun place) ≡ false → IsNext config end call steps value None
 none_closed config end call steps value begun first place e after shut = λ step left g.
-    let a = along_lem config first (steps ++ step ∷ []) left (from_tree config end call first (steps ++ step ∷ []) left e g) in
-    let m = more_lem config first (place_view begun place) a.0 steps step after.0 a.1 in
+    let a = leads_along config first (steps ++ step ∷ []) left (from_tree config end call first (steps ++ step ∷ []) left e g) in
+    let m = along_with_step config first (place_view begun place) a.0 steps step after.0 a.1 in
     let o : is_open (place_view begun place) ≡ true = m.0 in cc
 
 -- The step at the place after the steps is the next step of the call.
@@ -114,8 +114,8 @@ some_next config end call steps value begun first place next e after shown acces
     let same = given config to value in
     let step_is : step_view next ≡ step_at config to next.value = is ∙ (sym same.0 ∙ ap (step_at config to) (sym v)) in
     let last : Along config to (step_view next ∷ []) (next_place config to next.value) = (shown, step_is, refl) in
-    let all = joined_lem config first to (next_place config to next.value) steps (step_view next) after.0 last in
-    let goes = goes_lem config first (next_place config to next.value) (steps ++ step_view next ∷ []) all in
+    let all = along_joined config first to (next_place config to next.value) steps (step_view next) after.0 last in
+    let goes = along_leads config first (next_place config to next.value) (steps ++ step_view next ∷ []) all in
     let tree : remaining config first ≡ tree_of config end call = ap (remaining config) e ∙ following.begins config end call in
     ((remaining config (next_place config to next.value), subst (λ (t : CallTree). GoesAlong t (steps ++ step_view next ∷ []) (remaining config (next_place config to next.value))) tree goes), gives)
 

@@ -17,7 +17,7 @@ use Rattle.reference_calls.specs.declared.steps.Mark.TheVariants.{Saw, Reclaim, 
 use Rattle.reference_calls.specs.declared.steps.Step.{Step}
 
 abbrev pub config_view : EndConfig → calls.EndConfig
-config_view config = record { me = config.me; other = config.other; own = config.own; theirs = config.theirs; words = config.words; sizes = config.queue; vector = config.vector }
+config_view config = record { me = config.me; other = config.other; own = config.own; other_start = config.other_start; words = config.words; sizes = config.queue; vector = config.vector }
 
 -- The value that these writes, listed newest first, left in a word, or 0.
 abbrev pub stored : List Store → ℕ → ℕ

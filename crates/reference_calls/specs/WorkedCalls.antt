@@ -14,13 +14,13 @@ use Rattle.call_grammar.specs.Calls.{Tick, Stop, Offer, Poll, tree_of, IsCall}
 
 -- Peer 0 and peer 1 of the link, and peer 0 of a link whose sections have three words.
 abbrev pub peer_0 : EndConfig
-peer_0 = record { me = 0; other = 1; own = 1024; theirs = 5120; words = 4096; sizes = record { version = 1; out = 16384; mtu = 256 }; vector = 1 }
+peer_0 = record { me = 0; other = 1; own = 1024; other_start = 5120; words = 4096; sizes = record { version = 1; out = 16384; mtu = 256 }; vector = 1 }
 
 abbrev pub peer_1 : EndConfig
-peer_1 = record { me = 1; other = 0; own = 5120; theirs = 1024; words = 4096; sizes = record { version = 1; out = 16384; mtu = 256 }; vector = 1 }
+peer_1 = record { me = 1; other = 0; own = 5120; other_start = 1024; words = 4096; sizes = record { version = 1; out = 16384; mtu = 256 }; vector = 1 }
 
 abbrev pub small_peer_0 : EndConfig
-small_peer_0 = record { me = 0; other = 1; own = 1024; theirs = 5120; words = 3; sizes = record { version = 1; out = 16384; mtu = 256 }; vector = 1 }
+small_peer_0 = record { me = 0; other = 1; own = 1024; other_start = 5120; words = 3; sizes = record { version = 1; out = 16384; mtu = 256 }; vector = 1 }
 
 -- Peer 0 and peer 1 of the same link with events: the word with the avail_event of peer 1 is 5,553.
 abbrev pub event_peer_0 : EndConfig

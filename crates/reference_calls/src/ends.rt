@@ -16,7 +16,7 @@ pub struct EndConfig {
     /// The first word of its own section.
     pub own: u32,
     /// The first word of the other's section.
-    pub theirs: u32,
+    pub other_start: u32,
     /// The number of words of each section.
     pub words: u32,
     /// The queue of both sections.

@@ -134,7 +134,7 @@ pub fn access_at(config: &EndConfig, begun: &Begun, place: &Place) -> Access
     ensures { access_view result ≡ access_at (config_view config.now) (place_view begun.now place.now) }
 {
     let own = u64::from(config.own);
-    let theirs = u64::from(config.theirs);
+    let other_start = u64::from(config.other_start);
     let queue = &config.queue;
     let number = u64::from(begun.number);
     match place {
@@ -143,9 +143,9 @@ pub fn access_at(config: &EndConfig, begun: &Begun, place: &Place) -> Access
         Place::Clearing { at, .. } => Access::Write(*at, 0),
         Place::WritingState { state } => Access::State(*state),
         Place::Refusing => Access::State(0),
-        Place::ReadingUsedIndex => Access::Read(theirs + used_word(queue)),
+        Place::ReadingUsedIndex => Access::Read(other_start + used_word(queue)),
         Place::ReadingUsedId { freed, .. } => Access::Read(
-            theirs + used_id_word(queue, entry_of(config, *freed)),
+            other_start + used_id_word(queue, entry_of(config, *freed)),
         ),
         Place::WritingFrameWord { at, .. } => {
             let start = start_at(config, begun) / 4;
@@ -183,27 +183,29 @@ pub fn access_at(config: &EndConfig, begun: &Begun, place: &Place) -> Access
             own + avail_index_word(queue),
             index_word(number + 1),
         ),
-        Place::ReadingAvailEvent => Access::Read(theirs + avail_event_word(queue)),
+        Place::ReadingAvailEvent => Access::Read(other_start + avail_event_word(queue)),
         Place::RingingOffer | Place::RingingPoll => Access::Ring {
             target: config.other,
             vector: config.vector,
         },
-        Place::ReadingAvailIndex { .. } => Access::Read(theirs + avail_index_word(queue)),
+        Place::ReadingAvailIndex { .. } => Access::Read(other_start + avail_index_word(queue)),
         Place::WritingAvailEvent => Access::Write(
             own + avail_event_word(queue),
             u64::from(begun.taken) % 65_536,
         ),
         Place::ReadingAvailEntry { number, .. } => Access::Read(
-            theirs + entry_word(queue, entry_of(config, *number)),
+            other_start + entry_word(queue, entry_of(config, *number)),
         ),
-        Place::ReadingDescAddressLow { entry, .. } => Access::Read(theirs + address_word(*entry)),
+        Place::ReadingDescAddressLow { entry, .. } => Access::Read(
+            other_start + address_word(*entry),
+        ),
         Place::ReadingDescAddressHigh { entry, .. } => Access::Read(
-            theirs + address_word(*entry) + 1,
+            other_start + address_word(*entry) + 1,
         ),
-        Place::ReadingDescLength { entry, .. } => Access::Read(theirs + length_word(*entry)),
-        Place::ReadingDescFlags { entry, .. } => Access::Read(theirs + flags_word(*entry)),
+        Place::ReadingDescLength { entry, .. } => Access::Read(other_start + length_word(*entry)),
+        Place::ReadingDescFlags { entry, .. } => Access::Read(other_start + flags_word(*entry)),
         Place::ReadingFrameWord { address, read, .. } => Access::Read(
-            theirs + (*address / 4 + read.len() as u64),
+            other_start + (*address / 4 + read.len() as u64),
         ),
         Place::WritingUsedId { number, entry, .. } => Access::Write(
             own + used_id_word(queue, entry_of(config, *number)),

@@ -70,23 +70,23 @@ impl Mark {
     {
         match self {
             Mark::Saw(mine) => match mark {
-                Mark::Saw(theirs) => mine == theirs,
+                Mark::Saw(other_start) => mine == other_start,
                 _ => false,
             },
             Mark::Reclaim(mine) => match mark {
-                Mark::Reclaim(theirs) => mine == theirs,
+                Mark::Reclaim(other_start) => mine == other_start,
                 _ => false,
             },
             Mark::Look(mine) => match mark {
-                Mark::Look(theirs) => mine == theirs,
+                Mark::Look(other_start) => mine == other_start,
                 _ => false,
             },
             Mark::Accept(mine) => match mark {
-                Mark::Accept(theirs) => mine == theirs,
+                Mark::Accept(other_start) => mine == other_start,
                 _ => false,
             },
             Mark::Deliver(mine) => match mark {
-                Mark::Deliver(theirs) => mine == theirs,
+                Mark::Deliver(other_start) => mine == other_start,
                 _ => false,
             },
             Mark::Full => matches!(mark, Mark::Full),
@@ -95,7 +95,8 @@ impl Mark {
             Mark::Down => matches!(mark, Mark::Down),
             Mark::Over => matches!(mark, Mark::Over),
             Mark::Refuse(mine) => match mark {
-                Mark::Refuse(theirs) => mine.field == theirs.field && mine.value == theirs.value,
+                Mark::Refuse(other_start) => mine.field == other_start.field
+                    && mine.value == other_start.value,
                 _ => false,
             },
         }

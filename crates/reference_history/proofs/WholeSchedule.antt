@@ -62,24 +62,24 @@ last_or (y ∷ xs) x (suc k) found at P all here = last_or xs x k found at P (λ
 two_more : (count : ℕ) → 2 * count + 2 ≡ 2 * (count + 1)
 two_more count = omega arith
 
-peers_on : (world : World) (count : ℕ) (event : Event) (moment : HistoryState) (items : List Peer) (new : Peer) → length items ≡ length moment.peers → event_peer event < length moment.peers →
-    ((p : ℕ) (peer : Peer) → slice_get items p ≡ Some peer → IsPeer (config_of world p) (2 * count) peer (peer_at moment p)) →
-    IsPeer (config_of world (event_peer event)) (2 * count + 2) new (peer_after world moment event) →
-    (k : ℕ) (found : Peer) (b : Bool) → (event_peer event == k) ≡ b → slice_get (slice_set items (event_peer event) new) k ≡ Some found → IsPeer (config_of world k) (2 * (count + 1)) found (peer_at (after_event world moment event) k)
-peers_on world count event moment items new same inside refines here k found true is at =
+peers_on : (world : World) (count : ℕ) (event : Event) (so_far : HistoryState) (items : List Peer) (new : Peer) → length items ≡ length so_far.peers → event_peer event < length so_far.peers →
+    ((p : ℕ) (peer : Peer) → slice_get items p ≡ Some peer → IsPeer (config_of world p) (2 * count) peer (peer_at so_far p)) →
+    IsPeer (config_of world (event_peer event)) (2 * count + 2) new (peer_after world so_far event) →
+    (k : ℕ) (found : Peer) (b : Bool) → (event_peer event == k) ≡ b → slice_get (slice_set items (event_peer event) new) k ≡ Some found → IsPeer (config_of world k) (2 * (count + 1)) found (peer_at (after_event world so_far event) k)
+peers_on world count event so_far items new same inside refines here k found true is at =
     let p = event_peer event in
     let at_p : p ≡ k = is_same p k is in
-    let now : peer_at (after_event world moment event) p ≡ peer_after world moment event = get_or-set_same moment.peers p (peer_after world moment event) at_start inside in
+    let now : peer_at (after_event world so_far event) p ≡ peer_after world so_far event = get_or-set_same so_far.peers p (peer_after world so_far event) at_start inside in
     let new_is : new ≡ found = set_at items p k new found (sym at_p) at in
-    let P : ℕ → Peer → Type 0 = λ q x. IsPeer (config_of world q) (2 * (count + 1)) x (peer_at (after_event world moment event) q) in
-    let all : P p new = subst (λ (x : history.Peer). IsPeer (config_of world p) (2 * (count + 1)) new x) (sym now) (subst (λ n. IsPeer (config_of world p) n new (peer_after world moment event)) (two_more count) here) in
+    let P : ℕ → Peer → Type 0 = λ q x. IsPeer (config_of world q) (2 * (count + 1)) x (peer_at (after_event world so_far event) q) in
+    let all : P p new = subst (λ (x : history.Peer). IsPeer (config_of world p) (2 * (count + 1)) new x) (sym now) (subst (λ n. IsPeer (config_of world p) n new (peer_after world so_far event)) (two_more count) here) in
     subst (λ q. P q found) at_p (subst (λ (x : Peer). P p x) new_is all)
-peers_on world count event moment items new same inside refines here k found false is at =
+peers_on world count event so_far items new same inside refines here k found false is at =
     let p = event_peer event in
     let other : k ≢ p = is_other p k is in
-    let now : peer_at (after_event world moment event) k ≡ peer_at moment k = get_or-set_other moment.peers p k (peer_after world moment event) at_start other in
+    let now : peer_at (after_event world so_far event) k ≡ peer_at so_far k = get_or-set_other so_far.peers p k (peer_after world so_far event) at_start other in
     let old : slice_get items k ≡ Some found = sym (set_beside items p k new other) ∙ at in
-    peer_wider (config_of world k) (2 * count) (2 * (count + 1)) found (peer_at (after_event world moment event) k) (omega arith) (subst (λ (x : history.Peer). IsPeer (config_of world k) (2 * count) found x) (sym now) (refines k found old))
+    peer_wider (config_of world k) (2 * count) (2 * (count + 1)) found (peer_at (after_event world so_far event) k) (omega arith) (subst (λ (x : history.Peer). IsPeer (config_of world k) (2 * count) found x) (sym now) (refines k found old))
 
 one_loss : (p q n count : ℕ) (b : Bool) → n ≤ count → (if b then n + 1 else n) ≤ count + 1
 one_loss p q n count true few = omega arith
@@ -97,25 +97,25 @@ losses_few (DeviceAccessed p a) losses count q few = omega arith
 losses_few (InterruptRepeated p vector) losses count q few = omega arith
 
 -- One more event.
-pub moment_on : (world : World) (lines : List Line) (count : ℕ) (event : Event) (moment : HistoryState) (s s' : plain.ReferenceState) (new : Peer) → RefinesState world lines count moment s → event_peer event < world.geometry.peers →
-    Reads lines (after_event world moment event).past (Some s'.read) → AllFitDevices world.geometry.peers (after_event world moment event).past →
+pub moment_on : (world : World) (lines : List Line) (count : ℕ) (event : Event) (so_far : HistoryState) (s s' : plain.ReferenceState) (new : Peer) → RefinesState world lines count so_far s → event_peer event < world.geometry.peers →
+    Reads lines (after_event world so_far event).past (Some s'.read) → AllFitDevices world.geometry.peers (after_event world so_far event).past →
     ((lost : ℕ → ℕ) → HasLosses s.losses lost → HasLosses s'.losses (losses_with event lost)) → length s'.losses ≡ 8 → s'.peers.items ≡ slice_set s.peers.items (event_peer event) new →
-    IsPeer (config_of world (event_peer event)) (2 * count + 2) new (peer_after world moment event) → RefinesState world lines (count + 1) (after_event world moment event) s'
-moment_on world lines count event moment s s' new is there reads recorded losses loss_counts items here = record {
+    IsPeer (config_of world (event_peer event)) (2 * count + 2) new (peer_after world so_far event) → RefinesState world lines (count + 1) (after_event world so_far event) s'
+moment_on world lines count event so_far s s' new is there reads recorded losses loss_counts items here = record {
   reads = reads;
   recorded = recorded;
-  losses = losses moment.losses is.losses;
+  losses = losses so_far.losses is.losses;
   loss_counts = loss_counts;
-  few = λ q. losses_few event moment.losses count q (is.few q);
-  same = ap length items ∙ length-set s.peers.items (event_peer event) new ∙ is.same ∙ sym (length-set moment.peers (event_peer event) (peer_after world moment event));
-  all = length-set moment.peers (event_peer event) (peer_after world moment event) ∙ is.all;
-  peers = λ k found at. peers_on world count event moment s.peers.items new is.same (omega (arith, is.all)) is.peers here k found (event_peer event == k) refl (subst (λ (xs : List Peer). slice_get xs k ≡ Some found) items at);
+  few = λ q. losses_few event so_far.losses count q (is.few q);
+  same = ap length items ∙ length-set s.peers.items (event_peer event) new ∙ is.same ∙ sym (length-set so_far.peers (event_peer event) (peer_after world so_far event));
+  all = length-set so_far.peers (event_peer event) (peer_after world so_far event) ∙ is.all;
+  peers = λ k found at. peers_on world count event so_far s.peers.items new is.same (omega (arith, is.all)) is.peers here k found (event_peer event == k) refl (subst (λ (xs : List Peer). slice_get xs k ≡ Some found) items at);
 }
 
 -- The peer of an event.
-pub its_peer : (world : World) (lines : List Line) (count : ℕ) (moment : HistoryState) (s : plain.ReferenceState) (p : ℕ) (peer : Peer) → RefinesState world lines count moment s → p < world.geometry.peers → peer ≡ get_or s.peers.items p peer →
-    IsPeer (config_of world p) (2 * count) peer (peer_at moment p)
-its_peer world lines count moment s p peer is there at =
+pub its_peer : (world : World) (lines : List Line) (count : ℕ) (so_far : HistoryState) (s : plain.ReferenceState) (p : ℕ) (peer : Peer) → RefinesState world lines count so_far s → p < world.geometry.peers → peer ≡ get_or s.peers.items p peer →
+    IsPeer (config_of world p) (2 * count) peer (peer_at so_far p)
+its_peer world lines count so_far s p peer is there at =
     let same = is.same in
     let all = is.all in
     is.peers p peer (slice_get-get_or s.peers.items p peer (omega arith) ∙ ap Some (sym at))
@@ -142,15 +142,15 @@ moment_at_start world lines s read losses count start = record {
 
 -- Events in order
 
-run-append : (world : World) (xs ys : List Event) (moment : HistoryState) → run world (xs ++ ys) moment ≡ run world ys (run world xs moment)
-run-append world [] ys moment = refl
-run-append world (x ∷ xs) ys moment = run-append world xs ys (after_event world moment x)
+run-append : (world : World) (xs ys : List Event) (so_far : HistoryState) → run world (xs ++ ys) so_far ≡ run world ys (run world xs so_far)
+run-append world [] ys so_far = refl
+run-append world (x ∷ xs) ys so_far = run-append world xs ys (after_event world so_far x)
 
 -- Lines that don't begin with a past don't begin with one that it leads to.
-pub none_run : (world : World) (lines : List Line) (events : List Event) (moment : HistoryState) → Reads lines moment.past None → Reads lines (run world events moment).past None
-none_run world lines [] moment none = none
-none_run world lines (event ∷ events) moment none =
-    none_run world lines events (after_event world moment event) (none_more lines moment.past (lines_of (entry_of world moment event)) none)
+pub none_run : (world : World) (lines : List Line) (events : List Event) (so_far : HistoryState) → Reads lines so_far.past None → Reads lines (run world events so_far).past None
+none_run world lines [] so_far none = none
+none_run world lines (event ∷ events) so_far none =
+    none_run world lines events (after_event world so_far event) (none_more lines so_far.past (lines_of (entry_of world so_far event)) none)
 
 -- The acts that can happen
 
@@ -226,11 +226,11 @@ replicate_more n k x inside =
     take_more (replicate n x) k x (omega arith) ∙ ap (λ (y : Event). take k (replicate n x) ++ y ∷ []) (get_or-replicate n k x x inside)
 
 -- One more event of an act.
-pub one_event : (world : World) (act : Act) (e : Event) (k : ℕ) (moment : HistoryState) → events_of act ≡ replicate (cost act) e → k < cost act → run world (take (k + 1) (events_of act)) moment ≡ after_event world (run world (take k (events_of act)) moment) e
-one_event world act e k moment same inside =
+pub one_event : (world : World) (act : Act) (e : Event) (k : ℕ) (so_far : HistoryState) → events_of act ≡ replicate (cost act) e → k < cost act → run world (take (k + 1) (events_of act)) so_far ≡ after_event world (run world (take k (events_of act)) so_far) e
+one_event world act e k so_far same inside =
     let more : take (k + 1) (events_of act) ≡ take k (events_of act) ++ e ∷ [] =
     ap (λ (es : List Event). take (k + 1) es) same ∙ replicate_more (cost act) k e inside ∙ ap (λ (es : List Event). take k es ++ e ∷ []) (sym same) in
-    ap (λ (es : List Event). run world es moment) more ∙ run-append world (take k (events_of act)) (e ∷ []) moment
+    ap (λ (es : List Event). run world es so_far) more ∙ run-append world (take k (events_of act)) (e ∷ []) so_far
 
 -- The number of events of an act is the number for which it counts.
 events_count : (act : Act) → length (events_of act) ≡ cost act
@@ -260,25 +260,25 @@ pub all_events : (act : Act) (k : ℕ) → k ≡ cost act → take k (events_of 
 all_events act k is = let count = events_count act in take_all k (events_of act) (omega arith)
 
 -- If the lines of one of an act's events aren't there, the lines of the act aren't.
-pub not_act : (world : World) (lines : List Line) (events : List Event) (k : ℕ) (moment : HistoryState) → Reads lines (run world (take k events) moment).past None → Reads lines (run world events moment).past None
-not_act world lines events k moment none =
-    subst (λ (m : HistoryState). Reads lines m.past None) (sym (run-append world (take k events) (drop k events) moment) ∙ ap (λ (es : List Event). run world es moment) (take-append-drop k events))
-    (none_run world lines (drop k events) (run world (take k events) moment) none)
+pub not_act : (world : World) (lines : List Line) (events : List Event) (k : ℕ) (so_far : HistoryState) → Reads lines (run world (take k events) so_far).past None → Reads lines (run world events so_far).past None
+not_act world lines events k so_far none =
+    subst (λ (m : HistoryState). Reads lines m.past None) (sym (run-append world (take k events) (drop k events) so_far) ∙ ap (λ (es : List Event). run world es so_far) (take-append-drop k events))
+    (none_run world lines (drop k events) (run world (take k events) so_far) none)
 
 -- The schedule
 
-pub one_act : (world : World) (acts : List Act) (i : ℕ) (a : Act) (moment : HistoryState) → i < length acts → a ≡ get_or acts i a →
-    run world (schedule (take (i + 1) acts)) moment ≡ run world (events_of a) (run world (schedule (take i acts)) moment)
-one_act world acts i a moment inside is =
+pub one_act : (world : World) (acts : List Act) (i : ℕ) (a : Act) (so_far : HistoryState) → i < length acts → a ≡ get_or acts i a →
+    run world (schedule (take (i + 1) acts)) so_far ≡ run world (events_of a) (run world (schedule (take i acts)) so_far)
+one_act world acts i a so_far inside is =
     let whole : schedule (take (i + 1) acts) ≡ schedule (take i acts) ++ events_of a =
     ap (λ (xs : List Act). schedule xs) (take_more acts i a inside ∙ ap (λ (x : Act). take i acts ++ x ∷ []) (sym is)) ∙ flat_map-append events_of (take i acts) (a ∷ []) ∙ ap (λ es. schedule (take i acts) ++ es) (append-nil (events_of a)) in
-    ap (λ (es : List Event). run world es moment) whole ∙ run-append world (schedule (take i acts)) (events_of a) moment
+    ap (λ (es : List Event). run world es so_far) whole ∙ run-append world (schedule (take i acts)) (events_of a) so_far
 
-pub not_schedule : (world : World) (lines : List Line) (acts : List Act) (i : ℕ) (moment : HistoryState) → Reads lines (run world (schedule (take i acts)) moment).past None → Reads lines (run world (schedule acts) moment).past None
-not_schedule world lines acts i moment none =
+pub not_schedule : (world : World) (lines : List Line) (acts : List Act) (i : ℕ) (so_far : HistoryState) → Reads lines (run world (schedule (take i acts)) so_far).past None → Reads lines (run world (schedule acts) so_far).past None
+not_schedule world lines acts i so_far none =
     let whole : schedule acts ≡ schedule (take i acts) ++ schedule (drop i acts) = ap (λ (xs : List Act). schedule xs) (sym (take-append-drop i acts)) ∙ flat_map-append events_of (take i acts) (drop i acts) in
-    subst (λ (m : HistoryState). Reads lines m.past None) (sym (run-append world (schedule (take i acts)) (schedule (drop i acts)) moment) ∙ ap (λ (es : List Event). run world es moment) (sym whole))
-    (none_run world lines (schedule (drop i acts)) (run world (schedule (take i acts)) moment) none)
+    subst (λ (m : HistoryState). Reads lines m.past None) (sym (run-append world (schedule (take i acts)) (schedule (drop i acts)) so_far) ∙ ap (λ (es : List Event). run world es so_far) (sym whole))
+    (none_run world lines (schedule (drop i acts)) (run world (schedule (take i acts)) so_far) none)
 
 pub turns_more : (acts : List Act) (i : ℕ) (a : Act) → i < length acts → a ≡ get_or acts i a → turns_of (take (i + 1) acts) ≡ turns_of (take i acts) + cost a
 turns_more acts i a inside is = ap (λ (xs : List Act). turns_of xs) (take_more acts i a inside ∙ ap (λ (x : Act). take i acts ++ x ∷ []) (sym is)) ∙ sum_by_push cost (take i acts) a

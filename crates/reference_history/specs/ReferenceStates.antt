@@ -31,17 +31,17 @@ GoesBy world lines losses event read old new to =
 
 -- After `count` events: the lines record the past of the moment, and the losses and the peers are
 -- the moment's.
-pub record RefinesState (world : World) (lines : List Line) (count : ℕ) (moment : history.HistoryState) (seen : ReferenceState) : Type 0 where
-  pub reads : Reads lines moment.past (Some seen.read)
-  pub recorded : AllFitDevices world.geometry.peers moment.past
-  pub losses : HasLosses seen.losses moment.losses
+pub record RefinesState (world : World) (lines : List Line) (count : ℕ) (so_far : history.HistoryState) (seen : ReferenceState) : Type 0 where
+  pub reads : Reads lines so_far.past (Some seen.read)
+  pub recorded : AllFitDevices world.geometry.peers so_far.past
+  pub losses : HasLosses seen.losses so_far.losses
   pub loss_counts : length seen.losses ≡ 8
-  pub few : (peer : ℕ) → moment.losses peer ≤ count
-  pub same : length seen.peers.items ≡ length moment.peers
-  pub all : length moment.peers ≡ world.geometry.peers
-  pub peers : (p : ℕ) (peer : Peer) → slice_get seen.peers.items p ≡ Some peer → IsPeer (config_of world p) (2 * count) peer (peer_at moment p)
+  pub few : (peer : ℕ) → so_far.losses peer ≤ count
+  pub same : length seen.peers.items ≡ length so_far.peers
+  pub all : length so_far.peers ≡ world.geometry.peers
+  pub peers : (p : ℕ) (peer : Peer) → slice_get seen.peers.items p ≡ Some peer → IsPeer (config_of world p) (2 * count) peer (peer_at so_far p)
 
 -- The lines lead to the moment, or they don't begin with its past.
 abbrev pub GoesOn : World → List Line → ℕ → history.HistoryState → ReferenceState → Bool → Type 0
-GoesOn world lines count moment seen true = RefinesState world lines count moment seen
-GoesOn world lines count moment seen false = Reads lines moment.past None
+GoesOn world lines count so_far seen true = RefinesState world lines count so_far seen
+GoesOn world lines count so_far seen false = Reads lines so_far.past None

@@ -59,19 +59,19 @@ fn read_act(
     alloc: Global,
     scenario: &Scenario,
     lines: &[Line],
-    moment: &mut ReferenceState,
+    so_far: &mut ReferenceState,
     act: &Act,
 ) -> Result<bool, NoMemory>
     requires act { IsAct (world_of scenario.now) act.now }
     requires here { (count : ℕ) × (at : history.HistoryState) ×
-        RefinesState (world_of scenario.now) lines.now count at moment.old × (count + cost act.now ≤ MOST_ACTS) }
+        RefinesState (world_of scenario.now) lines.now count at so_far.old × (count + cost act.now ≤ MOST_ACTS) }
     ensures { let world = world_of scenario.now in
-        IfOk result (λ yes. (count : ℕ) (at : history.HistoryState) → RefinesState world lines.now count at moment.old →
-        GoesOn world lines.now (count + cost act.now) (run world (events_of act.now) at) moment.new yes) }
+        IfOk result (λ yes. (count : ℕ) (at : history.HistoryState) → RefinesState world lines.now count at so_far.old →
+        GoesOn world lines.now (count + cost act.now) (run world (events_of act.now) at) so_far.new yes) }
 {
     for _k in 0..act.cost() {
         let event = event_of(alloc, act)?;
-        let goes_on = moment.read(alloc, scenario, lines, event)?;
+        let goes_on = so_far.read(alloc, scenario, lines, event)?;
         if !goes_on {
             return Ok(false);
         }
@@ -85,14 +85,14 @@ fn is_history(alloc: Global, scenario: Scenario, lines: &[Line]) -> Result<bool,
 {
     one_history();
     history_is_lawful();
-    let mut moment = ReferenceState::beginning(alloc, &scenario)?;
+    let mut so_far = ReferenceState::beginning(alloc, &scenario)?;
     for act in scenario.acts.items() {
-        let goes_on = read_act(alloc, &scenario, lines, &mut moment, act)?;
+        let goes_on = read_act(alloc, &scenario, lines, &mut so_far, act)?;
         if !goes_on {
             return Ok(false);
         }
     }
-    Ok(moment.read == lines.len())
+    Ok(so_far.read == lines.len())
 }
 
 /// Whether these lines are a record's lines, in this version, of a lawful history of the scenario.

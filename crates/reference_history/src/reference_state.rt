@@ -46,8 +46,8 @@ fn count_loss(losses: &mut [u64; 8], event: &Event)
 impl ReferenceState {
     /// Returns the beginning of the history.
     pub fn beginning(alloc: Global, scenario: &Scenario) -> Result<ReferenceState, NoMemory>
-        ensures { IfOk result (λ moment. (lines : List lines.Line) →
-            RefinesState (world_of scenario.now) lines 0 (initial_state (world_of scenario.now)) moment) }
+        ensures { IfOk result (λ so_far. (lines : List lines.Line) →
+            RefinesState (world_of scenario.now) lines 0 (initial_state (world_of scenario.now)) so_far) }
     {
         let mut peers = Vec::new(alloc);
         for _p in 0..scenario.geometry.peers() {
@@ -69,11 +69,11 @@ impl ReferenceState {
         event: Event,
     ) -> Result<bool, NoMemory>
         requires can { CanHappen (world_of scenario.now) (event_view event) }
-        requires here { (count : ℕ) × (moment : history.HistoryState) ×
-            RefinesState (world_of scenario.now) lines.now count moment self.old × (count < MOST_ACTS) }
-        ensures { IfOk result (λ yes. (count : ℕ) (moment : history.HistoryState) →
-            RefinesState (world_of scenario.now) lines.now count moment self.old →
-            GoesOn (world_of scenario.now) lines.now (count + 1) (after_event (world_of scenario.now) moment (event_view event)) self.new yes) }
+        requires here { (count : ℕ) × (so_far : history.HistoryState) ×
+            RefinesState (world_of scenario.now) lines.now count so_far self.old × (count < MOST_ACTS) }
+        ensures { IfOk result (λ yes. (count : ℕ) (so_far : history.HistoryState) →
+            RefinesState (world_of scenario.now) lines.now count so_far self.old →
+            GoesOn (world_of scenario.now) lines.now (count + 1) (after_event (world_of scenario.now) so_far (event_view event)) self.new yes) }
     {
         let losses = self.losses;
         count_loss(&mut self.losses, &event);

@@ -18,7 +18,7 @@ pub fn config_of(scenario: &Scenario, me: u32) -> EndConfig
         me,
         other,
         own: geometry.section_start(me),
-        theirs: geometry.section_start(other),
+        other_start: geometry.section_start(other),
         words: geometry.out_words(),
         queue: scenario.queue,
         vector: scenario.traffic_vector(),

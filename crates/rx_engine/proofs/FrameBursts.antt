@@ -24,11 +24,11 @@ use Rattle.rx_engine.proofs.FrameReads.{word_delivers, word_goes}
 
 -- The reads of the words left.
 reads : (config : EndConfig) (number more entry address bytes : ℕ) (read : List ℕ) (words : ℕ) (values : List ℕ) → length values ≤ words →
-    laws.access_at config (place_after config (laws.ReadingFrameWord number more entry address bytes read words) values) ≡ access.Read (config.theirs + (address / 4 + (length read + length values)))
-reads config number more entry address bytes read words [] few = ap (λ n. access.Read (config.theirs + (address / 4 + n))) (omega arith)
+    laws.access_at config (place_after config (laws.ReadingFrameWord number more entry address bytes read words) values) ≡ access.Read (config.other_start + (address / 4 + (length read + length values)))
+reads config number more entry address bytes read words [] few = ap (λ n. access.Read (config.other_start + (address / 4 + n))) (omega arith)
 reads config number more entry address bytes read zero (value ∷ values) few = absurd (omega (arith, few))
 reads config number more entry address bytes read (suc words) (value ∷ values) few =
-    reads config number more entry address bytes (read ++ value ∷ []) words values (omega (arith, few)) ∙ ap (λ n. access.Read (config.theirs + (address / 4 + n))) (grind (arith, common_steps))
+    reads config number more entry address bytes (read ++ value ∷ []) words values (omega (arith, few)) ∙ ap (λ n. access.Read (config.other_start + (address / 4 + n))) (grind (arith, common_steps))
 
 abbrev word_of_read : Access → ℕ
 word_of_read (access.Read word) = word
@@ -38,7 +38,7 @@ pub reads_on : (rx : Receiver) (config : EndConfig) (end : End) (place : laws.Pl
     RefinesAt rx config end place → laws.access_at config place ≡ access.Read word → ReadsBurst config place word count
 reads_on rx config end place word more entry address bytes at count at_word count_is refines first values few =
     let here : place ≡ laws.ReadingFrameWord end.returned more entry address bytes refines.read (words_for bytes - (at + 1)) = refines.place_is ∙ ap (place_view end.returned refines.read) at_word in
-    let word_is : config.theirs + (address / 4 + length refines.read) ≡ word = ap word_of_read (sym (ap (laws.access_at config) here) ∙ first) in
+    let word_is : config.other_start + (address / 4 + length refines.read) ≡ word = ap word_of_read (sym (ap (laws.access_at config) here) ∙ first) in
     let enough : length values ≤ words_for bytes - (at + 1) = omega (arith, few, count_is) in
     ap (λ p. laws.access_at config (place_after config p values)) here ∙ reads config _ more entry address bytes refines.read _ values enough ∙ ap access.Read (omega (arith, word_is))
 

@@ -5,7 +5,7 @@ use Rattle.std.proofs.Math.Nat.{mod-mod_of_dvd}
 
 -- The position in the ring, from the number modulo 65,536.
 pub ring_place : (number size : ℕ) → 65536 % size ≡ 0 → number % 65536 % size ≡ number % size
-ring_place number size turns = mod-mod_of_dvd size number (dvd_of_mod-eq-zero size turns)
+ring_place number size divides = mod-mod_of_dvd size number (dvd_of_mod-eq-zero size divides)
 
 -- The position in the ring is even exactly if the number is even.
 pub ring_parity : (number size : ℕ) → size % 64 ≡ 0 → number % 65536 % 2 ≡ number % size % 2

@@ -17,7 +17,7 @@ use Rattle.rx_engine.specs.declared.place.Place.TheVariants.{Closed, ReadingDesc
 pub record Receiver : Type 0 where
   pub sizes : Sizes
   pub own : ℕ
-  pub theirs : ℕ
+  pub other_start : ℕ
   pub target : ℕ
   pub vector : ℕ
   pub returned : ℕ
@@ -27,11 +27,11 @@ pub record Receiver : Type 0 where
   pub gathered : List ℕ
 
 -- A receiver with these parameters that delivered no frame.
-abbrev pub fresh_receiver : Sizes → (own theirs target vector : ℕ) → Receiver
-fresh_receiver sizes own theirs target vector = record {
+abbrev pub fresh_receiver : Sizes → (own other_start target vector : ℕ) → Receiver
+fresh_receiver sizes own other_start target vector = record {
   sizes = sizes;
   own = own;
-  theirs = theirs;
+  other_start = other_start;
   target = target;
   vector = vector;
   returned = 0;
@@ -43,7 +43,7 @@ fresh_receiver sizes own theirs target vector = record {
 
 -- The receiver at the start of a session: only the frame delivered last stays.
 abbrev pub renewed : Receiver → Receiver
-renewed rx = record (fresh_receiver rx.sizes rx.own rx.theirs rx.target rx.vector) { frame = rx.frame }
+renewed rx = record (fresh_receiver rx.sizes rx.own rx.other_start rx.target rx.vector) { frame = rx.frame }
 
 -- The first read of the available index is the last one of a poll that begins now if it finds no
 -- frame: avail_event isn't written.
@@ -108,6 +108,6 @@ IsReached q _ = Unit {0}
 pub record KeepsNumbers (old new : Receiver) : Type 0 where
   pub sizes : new.sizes ≡ old.sizes
   pub own : new.own ≡ old.own
-  pub theirs : new.theirs ≡ old.theirs
+  pub other_start : new.other_start ≡ old.other_start
   pub target : new.target ≡ old.target
   pub vector : new.vector ≡ old.vector

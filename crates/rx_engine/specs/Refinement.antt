@@ -33,7 +33,7 @@ place_view number read Refusing = laws.Refusing
 pub record IsMadeFor (rx : Receiver) (config : EndConfig) : Type 0 where
   pub sizes : config.sizes ≡ rx.sizes
   pub own : config.own ≡ rx.own
-  pub theirs : config.theirs ≡ rx.theirs
+  pub other_start : config.other_start ≡ rx.other_start
   pub target : config.other ≡ rx.target
   pub vector : config.vector ≡ rx.vector
 

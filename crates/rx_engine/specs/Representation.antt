@@ -15,7 +15,7 @@ abbrev pub receiver_of : Inside → Receiver
 receiver_of a = record {
   sizes = a.queue;
   own = a.own;
-  theirs = a.theirs;
+  other_start = a.other_start;
   target = a.target;
   vector = a.vector;
   returned = a.returned;
@@ -31,7 +31,7 @@ pub record IsWellFormed (a : Inside) : Type 0 where
   pub queue : IsQueue a.queue
   pub bounds : HasBounds a.queue
   pub own : 4 * a.own + a.queue.out ≤ LARGEST_REGION
-  pub theirs : 4 * a.theirs + a.queue.out ≤ LARGEST_REGION
+  pub other_start : 4 * a.other_start + a.queue.out ≤ LARGEST_REGION
   pub room : length a.buffer.items ≡ longest_frame a.queue
   pub last : length a.last.items ≡ longest_frame a.queue
   pub frame : a.delivered ≤ length a.last.items

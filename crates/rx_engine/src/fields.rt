@@ -16,10 +16,10 @@ impl Rx {
     fn descriptor_read(&self, entry: u32, at: u32) -> NextRead
         requires entry { IsAvailEntry self.now.sizes entry }
         requires at { at < 4 }
-        ensures { result ≡ record { word = self.now.theirs + (word_offset self.now.sizes (DescAddress entry) + at); count = 0 } }
+        ensures { result ≡ record { word = self.now.other_start + (word_offset self.now.sizes (DescAddress entry) + at); count = 0 } }
     {
         NextRead {
-            word: self.theirs + (self.queue.descriptor(entry) + at),
+            word: self.other_start + (self.queue.descriptor(entry) + at),
             count: 0,
         }
     }
@@ -148,7 +148,7 @@ impl Rx {
                     at: 0,
                 });
                 Some(NextRead {
-                    word: self.theirs + address / 4,
+                    word: self.other_start + address / 4,
                     count: bytes.div_ceil(4),
                 })
             }

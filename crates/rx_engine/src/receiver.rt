@@ -37,7 +37,7 @@ use std::mem::swap;
 pub struct Rx {
     pub(crate) queue: Queue,
     own: u32,
-    pub(crate) theirs: u32,
+    pub(crate) other_start: u32,
     target: u32,
     vector: u32,
     pub(crate) returned: u16,
@@ -62,7 +62,7 @@ impl Model for Rx {
 
 impl Rx {
     /// Returns a receiver for a peer whose own section begins at word `own` of the region, and the
-    /// other's at word `theirs`. Its doorbells have the target `target` and the vector
+    /// other's at word `other_start`. Its doorbells have the target `target` and the vector
     /// `vector`. Returns `Err(NoMemory)` if an allocation fails.
     // claim value, refines with Rx::reset.value, Rx::reset.refines: A new receiver, and one that
     //    was reset, represents each end with a fresh session.
@@ -70,13 +70,13 @@ impl Rx {
         alloc: Global,
         queue: &Queue,
         own: u32,
-        theirs: u32,
+        other_start: u32,
         target: u32,
         vector: u32,
     ) -> Result<Rx, NoMemory>
         requires own { 4 * own + queue.now.out ≤ LARGEST_REGION }
-        requires theirs { 4 * theirs + queue.now.out ≤ LARGEST_REGION }
-        ensures value { IfOk result (λ rx. rx ≡ fresh_receiver queue.now own theirs target vector) }
+        requires other_start { 4 * other_start + queue.now.out ≤ LARGEST_REGION }
+        ensures value { IfOk result (λ rx. rx ≡ fresh_receiver queue.now own other_start target vector) }
         ensures refines { IfOk result (λ rx. (config : EndConfig) (end : End) → IsMadeFor rx config → IsFreshSession end → RefinesAt rx config end laws.Closed) }
     {
         let longest = LONGEST_FRAME.min(queue.out() - queue.payload());
@@ -85,7 +85,7 @@ impl Rx {
         Ok(Rx {
             queue: *queue,
             own,
-            theirs,
+            other_start,
             target,
             vector,
             returned: 0,
@@ -139,26 +139,26 @@ impl Rx {
         ensures access { (config : EndConfig) (end : End) (place : laws.Place) → RefinesAt self.now config end place → result ≡ laws.access_at config place }
         ensures reach { (config : EndConfig) (end : End) (place : laws.Place) → HasSections config → RefinesAt self.now config end place → IsPermittedAccess config result }
     {
-        let (queue, own, theirs) = (&self.queue, self.own, self.theirs);
+        let (queue, own, other_start) = (&self.queue, self.own, self.other_start);
         let number = u32::from(self.returned);
         match self.place {
-            Place::ReadingAvailIndex { .. } => Access::Read(theirs + queue.avail_word()),
+            Place::ReadingAvailIndex { .. } => Access::Read(other_start + queue.avail_word()),
             Place::WritingAvailEvent => Access::Write(own + queue.avail_event_word(), number),
-            Place::ReadingAvailEntry { .. } => Access::Read(theirs + queue.entry_word(number)),
+            Place::ReadingAvailEntry { .. } => Access::Read(other_start + queue.entry_word(number)),
             Place::ReadingDescAddressLow { entry, .. } => Access::Read(
-                theirs + queue.descriptor(entry),
+                other_start + queue.descriptor(entry),
             ),
             Place::ReadingDescAddressHigh { entry, .. } => Access::Read(
-                theirs + queue.descriptor(entry) + 1,
+                other_start + queue.descriptor(entry) + 1,
             ),
             Place::ReadingDescLength { entry, .. } => Access::Read(
-                theirs + queue.descriptor(entry) + 2,
+                other_start + queue.descriptor(entry) + 2,
             ),
             Place::ReadingDescFlags { entry, .. } => Access::Read(
-                theirs + queue.descriptor(entry) + 3,
+                other_start + queue.descriptor(entry) + 3,
             ),
             Place::ReadingFrameWord { address, at, .. } => Access::Read(
-                theirs + (address / 4 + at),
+                other_start + (address / 4 + at),
             ),
             Place::WritingUsedId { entry, .. } => Access::Write(own + queue.used_id(number), entry),
             Place::WritingUsedLength { .. } => Access::Write(own + queue.used_id(number) + 1, 1),

@@ -6,7 +6,7 @@ use Rattle.std.specs.List.{AllByRecursion}
 use Rattle.std.proofs.lemmas.Bool.{eqb-true, eqb-false, ne_eqb, cases_lt}
 use Rattle.section_map.specs.Geometry.{section_start}
 use Rattle.section_map.specs.MayWrite.{InSection}
-use Rattle.section_map.proofs.Apart.{stand_apart}
+use Rattle.section_map.proofs.SectionsAreApart.{sections_are_apart}
 use Rattle.call_grammar.specs.Words.{words_for, frame_word}
 use Rattle.port_text.specs.Scenario.{World, IsWorld}
 use Rattle.sampling_port.specs.declared.place.Place.{Place}
@@ -123,7 +123,7 @@ Same world q past new = (word : ℕ) → InSection world.geometry q word → las
 
 -- A write into another section doesn't change them.
 pub same_beside : (world : World) (q p at value : ℕ) (past : List Line) → p ≢ q → InSection world.geometry p at → Same world q past (Wrote p at value ∷ past)
-same_beside world q p at value past other there = λ word inside. wrote_other p at value word past (λ e. stand_apart world.geometry p q at other there (subst (λ (w : ℕ). InSection world.geometry q w) e inside))
+same_beside world q p at value past other there = λ word inside. wrote_other p at value word past (λ e. sections_are_apart world.geometry p q at other there (subst (λ (w : ℕ). InSection world.geometry q w) e inside))
 
 pub spells_same : (world : World) (q : ℕ) (past new : List Line) (number : ℕ) (m : List ℕ) → IsWorld world → length m ≤ world.most → Same world q past new → Spells world q past number m → Spells world q new number m
 spells_same world q past new number m is few same spells = (

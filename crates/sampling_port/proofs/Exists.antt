@@ -303,56 +303,56 @@ event_law world n peer_state past (Poked p word value) small kept law = poke_law
 -- The whole history
 
 abbrev pub entries_of : World → List Event → HistoryState → List EventRecord
-entries_of world [] moment = []
-entries_of world (event ∷ events) moment = entry_of world.geometry moment event ∷ entries_of world events (after_event world.geometry moment event)
+entries_of world [] so_far = []
+entries_of world (event ∷ events) so_far = entry_of world.geometry so_far event ∷ entries_of world events (after_event world.geometry so_far event)
 
 abbrev pub AreKept : World → ℕ → HistoryState → Type 0
-AreKept world n moment = (p : ℕ) → p < world.geometry.peers → Kept world p n (moment.peer_states p)
+AreKept world n so_far = (p : ℕ) → p < world.geometry.peers → Kept world p n (so_far.peer_states p)
 
-pub kept_one : (world : World) (n : ℕ) (moment : HistoryState) (event : Event) → n < MOST_TURNS → IsPermittedEvent world event → AreKept world n moment → AreKept world (n + 1) (after_event world.geometry moment event)
-kept_one world n moment event small there kept = λ p below. kept_on world world.geometry (event ∷ []) n moment (omega arith) (there, tt) kept p below
+pub kept_one : (world : World) (n : ℕ) (so_far : HistoryState) (event : Event) → n < MOST_TURNS → IsPermittedEvent world event → AreKept world n so_far → AreKept world (n + 1) (after_event world.geometry so_far event)
+kept_one world n so_far event small there kept = λ p below. kept_on world world.geometry (event ∷ []) n so_far (omega arith) (there, tt) kept p below
 
-record Found (world : World) (events : List Event) (moment : HistoryState) : Type 0 where
-  scheduled : map event_of (entries_of world events moment) ≡ events
-  lines : reverse (flat_map lines_of (entries_of world events moment)) ++ moment.past ≡ (run world.geometry events moment).past
-  law : MemoryLaw world.geometry (run world.geometry events moment).past
+record Found (world : World) (events : List Event) (so_far : HistoryState) : Type 0 where
+  scheduled : map event_of (entries_of world events so_far) ≡ events
+  lines : reverse (flat_map lines_of (entries_of world events so_far)) ++ so_far.past ≡ (run world.geometry events so_far).past
+  law : MemoryLaw world.geometry (run world.geometry events so_far).past
 
 lines_go : (s new : List Line) (past all : List Line) → reverse new ++ (reverse s ++ past) ≡ all → reverse (s ++ new) ++ past ≡ all
 lines_go s new past all is = ap (λ r. r ++ past) (reverse-append s new) ∙ append_assoc (reverse new) (reverse s) past ∙ is
 
-found : (world : World) (events : List Event) (n : ℕ) (moment : HistoryState) → n + length events ≤ MOST_TURNS → AllByRecursion (IsPermittedEvent world) events → AreKept world n moment → MemoryLaw world.geometry moment.past → Found world events moment
-found world [] n moment few there kept law = record { scheduled = refl; lines = refl; law = law }
-found world (event ∷ events) n moment few there kept law =
-    let now = event_law world n (moment.peer_states (event_peer event)) moment.past event (omega arith) (kept (event_peer event) (there_below world event there.0)) law in
-    let rest = found world events (n + 1) (after_event world.geometry moment event) (omega arith) there.1 (kept_one world n moment event (omega arith) there.0 kept) now in
+found : (world : World) (events : List Event) (n : ℕ) (so_far : HistoryState) → n + length events ≤ MOST_TURNS → AllByRecursion (IsPermittedEvent world) events → AreKept world n so_far → MemoryLaw world.geometry so_far.past → Found world events so_far
+found world [] n so_far few there kept law = record { scheduled = refl; lines = refl; law = law }
+found world (event ∷ events) n so_far few there kept law =
+    let now = event_law world n (so_far.peer_states (event_peer event)) so_far.past event (omega arith) (kept (event_peer event) (there_below world event there.0)) law in
+    let rest = found world events (n + 1) (after_event world.geometry so_far event) (omega arith) there.1 (kept_one world n so_far event (omega arith) there.0 kept) now in
     record {
       scheduled = ap (λ es. event ∷ es) rest.scheduled;
-      lines = ap (λ (ls : List Line). reverse ls ++ moment.past) (flat_map-cons lines_of (entry_of world.geometry moment event) (entries_of world events (after_event world.geometry moment event)))
-          ∙ lines_go (lines_of (entry_of world.geometry moment event)) (flat_map lines_of (entries_of world events (after_event world.geometry moment event))) moment.past _ rest.lines;
+      lines = ap (λ (ls : List Line). reverse ls ++ so_far.past) (flat_map-cons lines_of (entry_of world.geometry so_far event) (entries_of world events (after_event world.geometry so_far event)))
+          ∙ lines_go (lines_of (entry_of world.geometry so_far event)) (flat_map lines_of (entries_of world events (after_event world.geometry so_far event))) so_far.past _ rest.lines;
       law = rest.law;
     }
 
 -- The event records of a peer from an event on.
-serves_from : PortsFollowCalls → (world : World) (n : ℕ) (moment : HistoryState) (event : Event) (others : List EventRecord) (q : ℕ) (peer : Progress) → world.geometry.peers ≤ 8 → n < MOST_TURNS → IsPermittedEvent world event → AreKept world n moment → Keeps world q (moment.peer_states q) peer →
-    ((next : Progress) → Keeps world q ((after_event world.geometry moment event).peer_states q) next → (end : Progress) × IsCallSequence world q next (own_entries q others) end) → (b : Bool) → (event_peer event == q) ≡ b →
-    (end : Progress) × IsCallSequence world q peer (if b then entry_of world.geometry moment event ∷ own_entries q others else own_entries q others) end
-serves_from follow world n moment event others q peer eight small there kept keeps rest true is =
+serves_from : PortsFollowCalls → (world : World) (n : ℕ) (so_far : HistoryState) (event : Event) (others : List EventRecord) (q : ℕ) (peer : Progress) → world.geometry.peers ≤ 8 → n < MOST_TURNS → IsPermittedEvent world event → AreKept world n so_far → Keeps world q (so_far.peer_states q) peer →
+    ((next : Progress) → Keeps world q ((after_event world.geometry so_far event).peer_states q) next → (end : Progress) × IsCallSequence world q next (own_entries q others) end) → (b : Bool) → (event_peer event == q) ≡ b →
+    (end : Progress) × IsCallSequence world q peer (if b then entry_of world.geometry so_far event ∷ own_entries q others else own_entries q others) end
+serves_from follow world n so_far event others q peer eight small there kept keeps rest true is =
     let p = event_peer event in
     let same : p ≡ q = eqb-true p q is in
-    let mine : Keeps world p (moment.peer_states p) peer = subst (λ (k : ℕ). Keeps world k (moment.peer_states k) peer) (sym same) keeps in
-    let on = event_keeps follow world n (moment.peer_states p) peer moment.past event eight (omega arith) (kept p (there_below world event there)) mine in
-    let here : Keeps world q (peer_state_in (moment.peer_states p) moment.past event) (noted on.0 (entry_of world.geometry moment event)) = subst (λ (k : ℕ). Keeps world k (peer_state_in (moment.peer_states p) moment.past event) (noted on.0 (entry_of world.geometry moment event))) same on.2 in
-    let then_ : Keeps world q ((after_event world.geometry moment event).peer_states q) (noted on.0 (entry_of world.geometry moment event)) = rw is here in
-    let others_served = rest (noted on.0 (entry_of world.geometry moment event)) then_ in
-    (others_served.0, (on.0, subst (λ (k : ℕ). EventStep world k peer event (step_in world.geometry (moment.peer_states p) moment.past event) on.0) same on.1, others_served.1))
-serves_from follow world n moment event others q peer eight small there kept keeps rest false is = rest peer (rw is keeps)
+    let mine : Keeps world p (so_far.peer_states p) peer = subst (λ (k : ℕ). Keeps world k (so_far.peer_states k) peer) (sym same) keeps in
+    let on = event_keeps follow world n (so_far.peer_states p) peer so_far.past event eight (omega arith) (kept p (there_below world event there)) mine in
+    let here : Keeps world q (peer_state_in (so_far.peer_states p) so_far.past event) (noted on.0 (entry_of world.geometry so_far event)) = subst (λ (k : ℕ). Keeps world k (peer_state_in (so_far.peer_states p) so_far.past event) (noted on.0 (entry_of world.geometry so_far event))) same on.2 in
+    let then_ : Keeps world q ((after_event world.geometry so_far event).peer_states q) (noted on.0 (entry_of world.geometry so_far event)) = rw is here in
+    let others_served = rest (noted on.0 (entry_of world.geometry so_far event)) then_ in
+    (others_served.0, (on.0, subst (λ (k : ℕ). EventStep world k peer event (step_in world.geometry (so_far.peer_states p) so_far.past event) on.0) same on.1, others_served.1))
+serves_from follow world n so_far event others q peer eight small there kept keeps rest false is = rest peer (rw is keeps)
 
-served : PortsFollowCalls → (world : World) (events : List Event) (n : ℕ) (moment : HistoryState) (q : ℕ) (peer : Progress) → world.geometry.peers ≤ 8 → n + length events ≤ MOST_TURNS → AllByRecursion (IsPermittedEvent world) events → AreKept world n moment →
-    Keeps world q (moment.peer_states q) peer → (end : Progress) × IsCallSequence world q peer (own_entries q (entries_of world events moment)) end
-served follow world [] n moment q peer eight few there kept keeps = (peer, refl)
-served follow world (event ∷ events) n moment q peer eight few there kept keeps =
-    serves_from follow world n moment event (entries_of world events (after_event world.geometry moment event)) q peer eight (omega arith) there.0 kept keeps
-    (λ next on. served follow world events (n + 1) (after_event world.geometry moment event) q next eight (omega arith) there.1 (kept_one world n moment event (omega arith) there.0 kept) on) (event_peer event == q) refl
+served : PortsFollowCalls → (world : World) (events : List Event) (n : ℕ) (so_far : HistoryState) (q : ℕ) (peer : Progress) → world.geometry.peers ≤ 8 → n + length events ≤ MOST_TURNS → AllByRecursion (IsPermittedEvent world) events → AreKept world n so_far →
+    Keeps world q (so_far.peer_states q) peer → (end : Progress) × IsCallSequence world q peer (own_entries q (entries_of world events so_far)) end
+served follow world [] n so_far q peer eight few there kept keeps = (peer, refl)
+served follow world (event ∷ events) n so_far q peer eight few there kept keeps =
+    serves_from follow world n so_far event (entries_of world events (after_event world.geometry so_far event)) q peer eight (omega arith) there.0 kept keeps
+    (λ next on. served follow world events (n + 1) (after_event world.geometry so_far event) q next eight (omega arith) there.1 (kept_one world n so_far event (omega arith) there.0 kept) on) (event_peer event == q) refl
 
 fresh_keeps : (world : World) (p : ℕ) → Keeps world p ((initial_state world).peer_states p) initial_progress
 fresh_keeps world p = record { left_is = refl; waiting = refl; begun = omega arith; published = refl; lasts = λ from few. none from }
@@ -360,20 +360,20 @@ fresh_keeps world p = record { left_is = refl; waiting = refl; begun = omega ari
     none : (from : ℕ) → slice_index (replicate 8 0) from ≡ 0
     none from = grind (arith, common_steps)
 
-pub history_lem : PortsFollowCalls → HistoryIsLawful
-history_lem follow world is =
+pub history_is_lawful : PortsFollowCalls → HistoryIsLawful
+history_is_lawful follow world is =
     let events = schedule world.acts in
-    let moment = initial_state world in
+    let so_far = initial_state world in
     let few : 0 + length events ≤ MOST_TURNS = few_events world is in
     let there = all_there world is in
-    let kept : AreKept world 0 moment = λ p below. fresh_kept world p is below in
-    let f = found world events 0 moment few there kept tt in
-    let entries = entries_of world events moment in (
+    let kept : AreKept world 0 so_far = λ p below. fresh_kept world p is below in
+    let f = found world events 0 so_far few there kept tt in
+    let entries = entries_of world events so_far in (
       entries,
       record {
         events = f.scheduled;
         recorded = sym (reverse-reverse (flat_map lines_of entries)) ∙ ap reverse (sym (append-nil (reverse (flat_map lines_of entries))) ∙ f.lines);
         memory = rw reverse-reverse f.law;
-        calls = λ p. served follow world events 0 moment p initial_progress is.few few there kept (fresh_keeps world p);
+        calls = λ p. served follow world events 0 so_far p initial_progress is.few few there kept (fresh_keeps world p);
       },
     )

@@ -214,10 +214,10 @@ mark_highest reader writer me (Some mark) past b is = rw is refl
 
 -- Events
 
-record Calm (world : World) (n : ℕ) (moment : HistoryState) : Type 0 where
-  all : NeverFallen moment.past
-  kept : AreKept world n moment
-  lasts : (p : ℕ) → p < world.geometry.peers → Lasts p (moment.peer_states p).port moment.past
+record Calm (world : World) (n : ℕ) (so_far : HistoryState) : Type 0 where
+  all : NeverFallen so_far.past
+  kept : AreKept world n so_far
+  lasts : (p : ℕ) → p < world.geometry.peers → Lasts p (so_far.peer_states p).port so_far.past
 
 opened_lasts : (p : ℕ) (peer_state : PeerState) (past : List Line) (b : Bool) (waiting : List PortCall) → Lasts p peer_state.port past → Lasts p (opened_by peer_state b waiting).port past
 opened_lasts p peer_state past true waiting lasts = lasts
@@ -252,19 +252,19 @@ turn_calm world me n peer_state past true busy kept lasts all =
     })
 turn_calm world me n peer_state past false busy kept lasts all = record { all = (tt, all); mine = record { lasts = lasts.lasts; place = lasts.place }; others = λ p writer other. refl }
 
-turned : (world : World) (n me : ℕ) (moment : HistoryState) → n < MOST_TURNS → me < world.geometry.peers → Calm world n moment → Calm world (n + 1) (after_event world.geometry moment (TurnTaken me))
-turned world n me moment small there calm =
-    let peer_state = moment.peer_states me in
-    let t = turn_calm world me n (opened peer_state) moment.past _ refl (opened_kept world me n peer_state _ _ refl refl (omega arith) (calm.kept me there)) (opened_lasts me peer_state moment.past _ _ (calm.lasts me there)) calm.all in
+turned : (world : World) (n me : ℕ) (so_far : HistoryState) → n < MOST_TURNS → me < world.geometry.peers → Calm world n so_far → Calm world (n + 1) (after_event world.geometry so_far (TurnTaken me))
+turned world n me so_far small there calm =
+    let peer_state = so_far.peer_states me in
+    let t = turn_calm world me n (opened peer_state) so_far.past _ refl (opened_kept world me n peer_state _ _ refl refl (omega arith) (calm.kept me there)) (opened_lasts me peer_state so_far.past _ _ (calm.lasts me there)) calm.all in
     record {
       all = t.all;
-      kept = kept_one world n moment (TurnTaken me) small there calm.kept;
+      kept = kept_one world n so_far (TurnTaken me) small there calm.kept;
       lasts = λ p below. each t p below _ refl;
     }
   where
-    each : Turn me moment.past (after_event world.geometry moment (TurnTaken me)).past (peer_state_in (moment.peer_states me) moment.past (TurnTaken me)).port → (p : ℕ) → p < world.geometry.peers → (b : Bool) → (me == p) ≡ b →
-        Lasts p (if b then peer_state_in (moment.peer_states me) moment.past (TurnTaken me) else moment.peer_states p).port (after_event world.geometry moment (TurnTaken me)).past
-    each t p below true is = subst (λ (k : ℕ). Lasts k (peer_state_in (moment.peer_states me) moment.past (TurnTaken me)).port (after_event world.geometry moment (TurnTaken me)).past) (eqb-true me p is) t.mine
+    each : Turn me so_far.past (after_event world.geometry so_far (TurnTaken me)).past (peer_state_in (so_far.peer_states me) so_far.past (TurnTaken me)).port → (p : ℕ) → p < world.geometry.peers → (b : Bool) → (me == p) ≡ b →
+        Lasts p (if b then peer_state_in (so_far.peer_states me) so_far.past (TurnTaken me) else so_far.peer_states p).port (after_event world.geometry so_far (TurnTaken me)).past
+    each t p below true is = subst (λ (k : ℕ). Lasts k (peer_state_in (so_far.peer_states me) so_far.past (TurnTaken me)).port (after_event world.geometry so_far (TurnTaken me)).past) (eqb-true me p is) t.mine
     each t p below false is = let old = calm.lasts p below in record { lasts = λ writer few. old.lasts writer few ∙ sym (t.others p writer is); place = old.place }
 
 asked_peer_state : (me p : ℕ) (peer_state other : PeerState) (call : PortCall) (past : List Line) (b : Bool) → (me == p) ≡ b → Lasts p other.port past → (b ≡ true → Lasts p peer_state.port past) →
@@ -273,8 +273,8 @@ asked_peer_state me p peer_state other call past true is lasts mine = let m = mi
 asked_peer_state me p peer_state other call past false is lasts mine = lasts
 
 poked_peer_state : (me p : ℕ) (peer_state other : PeerState) (past : List Line) (b : Bool) → (b ≡ true → Lasts p peer_state.port past) → Lasts p other.port past → Lasts p (if b then peer_state else other).port past
-poked_peer_state me p peer_state other past true mine theirs = mine refl
-poked_peer_state me p peer_state other past false mine theirs = theirs
+poked_peer_state me p peer_state other past true mine other_start = mine refl
+poked_peer_state me p peer_state other past false mine other_start = other_start
 
 poked_all : (me word value : ℕ) (past : List Line) (b : Bool) → NeverFallen past → NeverFallen (reverse (lines_by (Poked me word value) (if b then Some (port_step (access.Write word value) 0 None) else None)) ++ past)
 poked_all me word value past true all = (tt, all)
@@ -284,29 +284,29 @@ poked_highest : (p writer me word value : ℕ) (past : List Line) (b : Bool) →
 poked_highest p writer me word value past true = refl
 poked_highest p writer me word value past false = refl
 
-calm_on : (world : World) (n : ℕ) (moment : HistoryState) (event : Event) → n < MOST_TURNS → IsPermittedEvent world event → Calm world n moment → Calm world (n + 1) (after_event world.geometry moment event)
-calm_on world n moment (CallQueued me call) small there calm = record {
+calm_on : (world : World) (n : ℕ) (so_far : HistoryState) (event : Event) → n < MOST_TURNS → IsPermittedEvent world event → Calm world n so_far → Calm world (n + 1) (after_event world.geometry so_far event)
+calm_on world n so_far (CallQueued me call) small there calm = record {
   all = calm.all;
-  kept = kept_one world n moment (CallQueued me call) small there calm.kept;
-  lasts = λ p below. asked_peer_state me p (moment.peer_states me) (moment.peer_states p) call moment.past _ refl (calm.lasts p below) (λ is. subst (λ (k : ℕ). Lasts p (moment.peer_states k).port moment.past) (sym (eqb-true me p is)) (calm.lasts p below));
+  kept = kept_one world n so_far (CallQueued me call) small there calm.kept;
+  lasts = λ p below. asked_peer_state me p (so_far.peer_states me) (so_far.peer_states p) call so_far.past _ refl (calm.lasts p below) (λ is. subst (λ (k : ℕ). Lasts p (so_far.peer_states k).port so_far.past) (sym (eqb-true me p is)) (calm.lasts p below));
 }
-calm_on world n moment (TurnTaken me) small there calm = turned world n me moment small there calm
-calm_on world n moment (Poked me word value) small there calm =
+calm_on world n so_far (TurnTaken me) small there calm = turned world n me so_far small there calm
+calm_on world n so_far (Poked me word value) small there calm =
     let b = may_write world.geometry me word in
     record {
-      all = poked_all me word value moment.past b calm.all;
-      kept = kept_one world n moment (Poked me word value) small there calm.kept;
+      all = poked_all me word value so_far.past b calm.all;
+      kept = kept_one world n so_far (Poked me word value) small there calm.kept;
       lasts = λ p below.
           let old = calm.lasts p below in
-          let new : Lasts p (moment.peer_states p).port (after_event world.geometry moment (Poked me word value)).past = record { lasts = λ writer few. old.lasts writer few ∙ sym (poked_highest p writer me word value moment.past b); place = old.place } in
-          poked_peer_state me p (moment.peer_states me) (moment.peer_states p) _ _ (λ is. subst (λ (k : ℕ). Lasts p (moment.peer_states k).port (after_event world.geometry moment (Poked me word value)).past) (sym (eqb-true me p is)) new) new;
+          let new : Lasts p (so_far.peer_states p).port (after_event world.geometry so_far (Poked me word value)).past = record { lasts = λ writer few. old.lasts writer few ∙ sym (poked_highest p writer me word value so_far.past b); place = old.place } in
+          poked_peer_state me p (so_far.peer_states me) (so_far.peer_states p) _ _ (λ is. subst (λ (k : ℕ). Lasts p (so_far.peer_states k).port (after_event world.geometry so_far (Poked me word value)).past) (sym (eqb-true me p is)) new) new;
     }
 
-calm_run : (world : World) (events : List Event) (n : ℕ) (moment : HistoryState) → n + length events ≤ MOST_TURNS → AllByRecursion (IsPermittedEvent world) events → Calm world n moment → Calm world (n + length events) (run world.geometry events moment)
-calm_run world [] n moment few there calm = subst (λ (k : ℕ). Calm world k moment) (omega arith) calm
-calm_run world (event ∷ events) n moment few there calm =
-    subst (λ (k : ℕ). Calm world k (run world.geometry events (after_event world.geometry moment event))) (omega arith)
-    (calm_run world events (n + 1) (after_event world.geometry moment event) (omega arith) there.1 (calm_on world n moment event (omega arith) there.0 calm))
+calm_run : (world : World) (events : List Event) (n : ℕ) (so_far : HistoryState) → n + length events ≤ MOST_TURNS → AllByRecursion (IsPermittedEvent world) events → Calm world n so_far → Calm world (n + length events) (run world.geometry events so_far)
+calm_run world [] n so_far few there calm = subst (λ (k : ℕ). Calm world k so_far) (omega arith) calm
+calm_run world (event ∷ events) n so_far few there calm =
+    subst (λ (k : ℕ). Calm world k (run world.geometry events (after_event world.geometry so_far event))) (omega arith)
+    (calm_run world events (n + 1) (after_event world.geometry so_far event) (omega arith) there.1 (calm_on world n so_far event (omega arith) there.0 calm))
 
 calm_at_first : (world : World) → IsWorld world → Calm world 0 (initial_state world)
 calm_at_first world is = record {
@@ -331,8 +331,8 @@ past_is one lawful world lines is here =
 pub split_past : (before after : List Line) (line : Line) → reverse (before ++ line ∷ after) ≡ reverse after ++ line ∷ reverse before
 split_past before after line = reverse-append before (line ∷ after) ∙ ap (λ r. r ++ reverse before) (reverse-append (line ∷ []) after) ∙ append_assoc (reverse after) (line ∷ []) (reverse before)
 
-pub numbers_lem : HasOneHistory → HistoryIsLawful → NumbersNeverFall
-numbers_lem one lawful world before mid after reader writer number later message other is here =
+pub numbers_never_fall : HasOneHistory → HistoryIsLawful → NumbersNeverFall
+numbers_never_fall one lawful world before mid after reader writer number later message other is here =
     let first = Marked reader (Got writer number message) in
     let second = Marked reader (Got writer later other) in
     let past = past_is one lawful world (before ++ first ∷ mid ++ second ∷ after) is here in

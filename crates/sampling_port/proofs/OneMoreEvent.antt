@@ -36,9 +36,9 @@ use Rattle.sampling_port.specs.declared.lines.Form.TheVariants.{Head, End}
 use Rattle.sampling_port.specs.LineRows.{pieces_of_line}
 use Rattle.sampling_port.specs.Record.{text_of_lines, record_of}
 
-pub run-snoc : (g : Shape) (events : List Event) (event : Event) (moment : HistoryState) → run g (events ++ event ∷ []) moment ≡ after_event g (run g events moment) event
-run-snoc g [] event moment = refl
-run-snoc g (x ∷ events) event moment = run-snoc g events event (after_event g moment x)
+pub run-snoc : (g : Shape) (events : List Event) (event : Event) (so_far : HistoryState) → run g (events ++ event ∷ []) so_far ≡ after_event g (run g events so_far) event
+run-snoc g [] event so_far = refl
+run-snoc g (x ∷ events) event so_far = run-snoc g events event (after_event g so_far x)
 
 pub there-snoc : (P : Event → Type 0) (events : List Event) (event : Event) → AllByRecursion P events → P event → AllByRecursion P (events ++ event ∷ [])
 there-snoc P [] event all here = (here, tt)
@@ -67,13 +67,13 @@ few_lines (TurnTaken peer) (Some step) = two_lines peer step
 few_lines (Poked peer word value) None = omega arith
 few_lines (Poked peer word value) (Some step) = two_lines peer step
 
-pub count_few : (g : Shape) (events : List Event) (moment : HistoryState) → length (run g events moment).past ≤ length moment.past + 2 * length events
-count_few g [] moment = omega arith
-count_few g (event ∷ events) moment =
-    let new = lines_of (entry_of g moment event) in
-    let few = few_lines event (entry_of g moment event).went in
-    let later = count_few g events (after_event g moment event) in
-    let both = length-append (reverse new) moment.past in
+pub count_few : (g : Shape) (events : List Event) (so_far : HistoryState) → length (run g events so_far).past ≤ length so_far.past + 2 * length events
+count_few g [] so_far = omega arith
+count_few g (event ∷ events) so_far =
+    let new = lines_of (entry_of g so_far event) in
+    let few = few_lines event (entry_of g so_far event).went in
+    let later = count_few g events (after_event g so_far event) in
+    let both = length-append (reverse new) so_far.past in
     let same = length-reverse new in
     omega arith
 
@@ -219,15 +219,15 @@ with_kept : (world : World) (p me n : ℕ) (peer_state : PeerState) (peer_states
 with_kept world p me n peer_state peer_states true is here other = here refl
 with_kept world p me n peer_state peer_states false is here other = other refl
 
-pub kept_on : (world : World) (g : Shape) (events : List Event) (n : ℕ) (moment : HistoryState) → n + length events ≤ MOST_TURNS → AllByRecursion (IsPermittedEvent world) events → ((p : ℕ) → p < world.geometry.peers → Kept world p n (moment.peer_states p)) →
-    (p : ℕ) → p < world.geometry.peers → Kept world p (n + length events) ((run g events moment).peer_states p)
-kept_on world g [] n moment few there kept p below = subst (λ (k : ℕ). Kept world p k (moment.peer_states p)) (omega arith) (kept p below)
-kept_on world g (event ∷ events) n moment few there kept p below =
-    subst (λ (k : ℕ). Kept world p k ((run g events (after_event g moment event)).peer_states p)) (omega arith)
-    (kept_on world g events (n + 1) (after_event g moment event) (omega arith) there.1
-    (λ q inside. with_kept world q (event_peer event) (n + 1) _ moment.peer_states _ refl
-    (λ same. let is : event_peer event ≡ q = eqb-true _ _ same in subst (λ (k : ℕ). Kept world q (n + 1) (peer_state_in (moment.peer_states k) moment.past event)) (sym is) (peer_state_kept world q n (moment.peer_states q) moment.past event (omega arith) there.0 (kept q inside)))
-    (λ other. later world q n (moment.peer_states q) (kept q inside))) p below)
+pub kept_on : (world : World) (g : Shape) (events : List Event) (n : ℕ) (so_far : HistoryState) → n + length events ≤ MOST_TURNS → AllByRecursion (IsPermittedEvent world) events → ((p : ℕ) → p < world.geometry.peers → Kept world p n (so_far.peer_states p)) →
+    (p : ℕ) → p < world.geometry.peers → Kept world p (n + length events) ((run g events so_far).peer_states p)
+kept_on world g [] n so_far few there kept p below = subst (λ (k : ℕ). Kept world p k (so_far.peer_states p)) (omega arith) (kept p below)
+kept_on world g (event ∷ events) n so_far few there kept p below =
+    subst (λ (k : ℕ). Kept world p k ((run g events (after_event g so_far event)).peer_states p)) (omega arith)
+    (kept_on world g events (n + 1) (after_event g so_far event) (omega arith) there.1
+    (λ q inside. with_kept world q (event_peer event) (n + 1) _ so_far.peer_states _ refl
+    (λ same. let is : event_peer event ≡ q = eqb-true _ _ same in subst (λ (k : ℕ). Kept world q (n + 1) (peer_state_in (so_far.peer_states k) so_far.past event)) (sym is) (peer_state_kept world q n (so_far.peer_states q) so_far.past event (omega arith) there.0 (kept q inside)))
+    (λ other. later world q n (so_far.peer_states q) (kept q inside))) p below)
 
 pub fresh_kept : (world : World) (p : ℕ) → IsWorld world → p < world.geometry.peers → Kept world p 0 ((initial_state world).peer_states p)
 fresh_kept world p is below = record {
@@ -280,11 +280,11 @@ set_beside (z ∷ xs) (suc p) zero x other = refl
 set_beside (z ∷ xs) (suc p) (suc k) x other = set_beside xs p k x (λ e. other (ap suc e))
 
 -- One event of a peer, with the peer state and the world state after it.
-pub record OneMore (world : World) (front : List ℕ) (moment : HistoryState) (event : Event) (s s' : Simulator) (peer_state : sits.PeerState) : Type 0 where
+pub record OneMore (world : World) (front : List ℕ) (so_far : HistoryState) (event : Event) (s s' : Simulator) (peer_state : sits.PeerState) : Type 0 where
   pub items : s'.peer_states.items ≡ slice_set s.peer_states.items (event_peer event) peer_state
   pub shape : s'.world_state.region.shape ≡ s.world_state.region.shape
-  pub after : WorldStateAfter front (after_event world.geometry moment event).past s'.world_state
-  pub peer_state_is : peer_state_of peer_state ≡ peer_state_in (moment.peer_states (event_peer event)) moment.past event
+  pub after : WorldStateAfter front (after_event world.geometry so_far event).past s'.world_state
+  pub peer_state_is : peer_state_of peer_state ≡ peer_state_in (so_far.peer_states (event_peer event)) so_far.past event
 
 peer_state_there : (world : World) (front : List ℕ) (events : List Event) (event : Event) (s s' : Simulator) (peer_state : sits.PeerState) → OneMore world front (history_state_after world events) event s s' peer_state → RunsTo world front events s →
     (k : ℕ) (found : sits.PeerState) (b : Bool) → (event_peer event == k) ≡ b → slice_get (slice_set s.peer_states.items (event_peer event) peer_state) k ≡ Some found →

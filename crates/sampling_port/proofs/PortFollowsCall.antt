@@ -10,7 +10,7 @@ use Rattle.sampling_port.specs.declared.place.Place.TheVariants.{Closed, Writing
 use Rattle.sampling_port.specs.Marks.{PortMark, Got, Nothing, Again, Refuse, marked}
 use Rattle.sampling_port.specs.Trees.{PortTree, Ended, PortStep, port_step, Goes}
 use Rattle.sampling_port.specs.Calls.{write_words, read_words, read_length, is_length}
-use Rattle.sampling_port.specs.Views.{PortView, is_open, from_at, own, theirs, writing_place, reading_place, access_at, note_at, port_after, closed, got, left_at, left}
+use Rattle.sampling_port.specs.Views.{PortView, is_open, from_at, own, other_start, writing_place, reading_place, access_at, note_at, port_after, closed, got, left_at, left}
 use Rattle.sampling_port.specs.Laws.{PortsFollowCalls}
 
 -- The rest of the call at the places after a step.
@@ -19,7 +19,7 @@ writes_left : (port : PortView) (at count : ℕ) → left_at port (writing_place
 writes_left port at zero = refl
 writes_left port at (suc more) = refl
 
-reads_left : (port : PortView) (from sequence bytes at count : ℕ) → left_at port (reading_place from sequence bytes at count) ≡ read_words from (theirs port from) port.most sequence bytes port.hand at count
+reads_left : (port : PortView) (from sequence bytes at count : ℕ) → left_at port (reading_place from sequence bytes at count) ≡ read_words from (other_start port from) port.most sequence bytes port.hand at count
 reads_left port from sequence bytes at zero = refl
 reads_left port from sequence bytes at (suc more) = refl
 
@@ -55,11 +55,11 @@ abbrev step_at : PortView → Place → ℕ → PortStep
 step_at port place value = port_step (access_at port place) value (marked (from_at place) port.hand (note_at port place value))
 
 sequence_left : (port : PortView) (from value : ℕ) →
-    left (port_after port (AtSequence from) value) ≡ (if nat_lt value (slice_index port.lasts from) then Ended else if value == 0 then Ended else read_length from (theirs port from) port.most value)
+    left (port_after port (AtSequence from) value) ≡ (if nat_lt value (slice_index port.lasts from) then Ended else if value == 0 then Ended else read_length from (other_start port from) port.most value)
 sequence_left port from value = either (nat_lt value (slice_index port.lasts from)) (closed port) _ Ended _ refl (either (value == 0) (closed port) _ Ended _ refl refl)
 
 length_left : (port : PortView) (from sequence value : ℕ) →
-    left (port_after port (AtLength from sequence) value) ≡ (if is_length port.most value then read_words from (theirs port from) port.most sequence value [] 0 (words_for value) else Ended)
+    left (port_after port (AtLength from sequence) value) ≡ (if is_length port.most value then read_words from (other_start port from) port.most sequence value [] 0 (words_for value) else Ended)
 length_left port from sequence value =
     either (is_length port.most value) _ (closed port) _ Ended (reads_left (record port { place = reading_place from sequence value 0 (words_for value); hand = [] }) from sequence value 0 (words_for value)) refl
 

@@ -22,7 +22,7 @@ use Rattle.sampling_port.specs.declared.place.Place.TheVariants as place
 use Rattle.sampling_port.specs.Layout.{length_place, data_place}
 use Rattle.sampling_port.specs.Marks.{Publish, Got, Nothing, Again, Refuse, marked}
 use Rattle.sampling_port.specs.Trees.{port_step}
-use Rattle.sampling_port.specs.Views.{PortView, IsPlace, is_open, is_busy, from_at, access_at, note_at, port_after, own, theirs, writing_place}
+use Rattle.sampling_port.specs.Views.{PortView, IsPlace, is_open, is_busy, from_at, access_at, note_at, port_after, own, other_start, writing_place}
 use Rattle.sampling_port.specs.Laws.{step_of_port}
 use Rattle.sampling_port.specs.Schedule.{PortCall, Event, CallQueued, TurnTaken, Poked, event_peer, events_of, schedule}
 use Rattle.sampling_port.specs.Schedule as call
@@ -69,13 +69,13 @@ step_at world q me messages past port done place.WritingSequence is there before
     subst (λ (w : ℕ). Stepped world q me messages past (Marked me (Publish (port.published + 1)) ∷ Wrote me w (port.published + 1) ∷ past) port (port_after port place.WritingSequence 0) done) (sym word_is)
     (sequence_stepped world q me messages past port done is before refines at _ refl)
 step_at world q me messages past port done (place.AtSequence from) is there before refines at opens place_is =
-    sample_stepped world q me messages past port done (place.AtSequence from) (theirs port from) _ is there before refines at place_is refl refl
+    sample_stepped world q me messages past port done (place.AtSequence from) (other_start port from) _ is there before refines at place_is refl refl
 step_at world q me messages past port done (place.AtLength from sequence) is there before refines at opens place_is =
-    sample_stepped world q me messages past port done (place.AtLength from sequence) (theirs port from + length_place port.most sequence) _ is there before refines at place_is refl refl
+    sample_stepped world q me messages past port done (place.AtLength from sequence) (other_start port from + length_place port.most sequence) _ is there before refines at place_is refl refl
 step_at world q me messages past port done (place.AtWord from sequence bytes k more) is there before refines at opens place_is =
-    sample_stepped world q me messages past port done (place.AtWord from sequence bytes k more) (theirs port from + data_place port.most sequence + k) _ is there before refines at place_is refl refl
+    sample_stepped world q me messages past port done (place.AtWord from sequence bytes k more) (other_start port from + data_place port.most sequence + k) _ is there before refines at place_is refl refl
 step_at world q me messages past port done (place.AtSecond from sequence) is there before refines at opens place_is =
-    sample_stepped world q me messages past port done (place.AtSecond from sequence) (theirs port from) _ is there before refines at place_is refl refl
+    sample_stepped world q me messages past port done (place.AtSecond from sequence) (other_start port from) _ is there before refines at place_is refl refl
 
 -- A turn without a step
 
@@ -168,14 +168,14 @@ FairEvent world (CallQueued peer call) = is_honest world peer ≡ true
 FairEvent world (TurnTaken peer) = Unit {0}
 FairEvent world (Poked peer word value) = is_honest world peer ≡ false
 
-pub record Good (world : World) (q : ℕ) (messages : List (List ℕ)) (events : List Event) (n : ℕ) (moment : HistoryState) (done : List (List ℕ)) : Type 0 where
-  pub kept : AreKept world n moment
-  pub writer : Writer world q moment.past (moment.peer_states q).port done
-  pub counted : published_by q moment.past ≡ length done
-  pub facts : Facts world q messages None moment.past
-  pub order : messages ≡ reverse done ++ (pending (moment.peer_states q) ++ asked q events)
-  pub readers : (p : ℕ) → p < world.geometry.peers → Reader world q p moment.past (moment.peer_states p).port done
-  pub quiet : (p : ℕ) → is_honest world p ≡ false → (is_busy (moment.peer_states p).port ≡ false) × ((moment.peer_states p).waiting ≡ [])
+pub record Good (world : World) (q : ℕ) (messages : List (List ℕ)) (events : List Event) (n : ℕ) (so_far : HistoryState) (done : List (List ℕ)) : Type 0 where
+  pub kept : AreKept world n so_far
+  pub writer : Writer world q so_far.past (so_far.peer_states q).port done
+  pub counted : published_by q so_far.past ≡ length done
+  pub facts : Facts world q messages None so_far.past
+  pub order : messages ≡ reverse done ++ (pending (so_far.peer_states q) ++ asked q events)
+  pub readers : (p : ℕ) → p < world.geometry.peers → Reader world q p so_far.past (so_far.peer_states p).port done
+  pub quiet : (p : ℕ) → is_honest world p ≡ false → (is_busy (so_far.peer_states p).port ≡ false) × ((so_far.peer_states p).waiting ≡ [])
 
 all_right : {A : Type 0} (P : A → Type 0) (xs ys : List A) → AllByRecursion P (xs ++ ys) → AllByRecursion P ys
 all_right P [] ys all = all
@@ -194,8 +194,8 @@ newest_is messages done rest is m older here =
     let whole : messages ≡ reverse older ++ m ∷ rest = is ∙ ap (λ ds. reverse ds ++ rest) here ∙ ap (λ r. r ++ rest) (reverse-append (m ∷ []) older) ∙ append_assoc (reverse older) (m ∷ []) rest in
     ap (λ ms. slice_get ms (length older)) whole ∙ ap (λ k. slice_get (reverse older ++ m ∷ rest) k) (sym (length-reverse older)) ∙ get_at (reverse older) rest m
 
-before_of : (world : World) (q n : ℕ) (messages : List (List ℕ)) (events : List Event) (moment : HistoryState) (done : List (List ℕ)) → Good world q messages events n moment done → Before world q messages moment.past done
-before_of world q n messages events moment done good = record {
+before_of : (world : World) (q n : ℕ) (messages : List (List ℕ)) (events : List Event) (so_far : HistoryState) (done : List (List ℕ)) → Good world q messages events n so_far done → Before world q messages so_far.past done
+before_of world q n messages events so_far done good = record {
   sequence = good.writer.sequence;
   latest = good.writer.latest;
   lengths = good.writer.lengths;
@@ -231,20 +231,20 @@ turn_stepped world q me messages past port done false is there before refines bu
 hand_message : (world : World) (port : PortView) (p : Place) (m : List ℕ) → AllByRecursion (IsMessage world) (hand_messages port) → port.place ≡ p → hand_at port p ≡ m ∷ [] → IsMessage world m
 hand_message world port p m all at is = (subst (λ (ms : List (List ℕ)). AllByRecursion (IsMessage world) ms) (ap (hand_at port) at ∙ is) all).0
 
-stands_opened : (world : World) (q me n : ℕ) (messages : List (List ℕ)) (events : List Event) (moment : HistoryState) (done : List (List ℕ)) → IsWorld world → me < world.geometry.peers → n < MOST_TURNS → AllByRecursion (IsMessage world) messages → Good world q messages events n moment done →
-    Stands world q me (opened (moment.peer_states me)).port moment.past done
-stands_opened world q me n messages events moment done is below small all good =
-    let peer_state = moment.peer_states me in
+stands_opened : (world : World) (q me n : ℕ) (messages : List (List ℕ)) (events : List Event) (so_far : HistoryState) (done : List (List ℕ)) → IsWorld world → me < world.geometry.peers → n < MOST_TURNS → AllByRecursion (IsMessage world) messages → Good world q messages events n so_far done →
+    Stands world q me (opened (so_far.peer_states me)).port so_far.past done
+stands_opened world q me n messages events so_far done is below small all good =
+    let peer_state = so_far.peer_states me in
     let kept = opened_kept world me n peer_state _ _ refl refl (omega arith) (good.kept me below) in
     record {
       port_is = kept.port;
       shape = kept.shape;
       me_is = kept.me_is;
       most = kept.most;
-      reader = reader_opened world q me moment.past peer_state done _ _ (good.readers me below);
-      writer = λ same. writer_opened world q moment.past peer_state done _ _ is (subst (λ (k : ℕ). Writer world q moment.past (moment.peer_states k).port done) (sym same) good.writer);
+      reader = reader_opened world q me so_far.past peer_state done _ _ (good.readers me below);
+      writer = λ same. writer_opened world q so_far.past peer_state done _ _ is (subst (λ (k : ℕ). Writer world q so_far.past (so_far.peer_states k).port done) (sym same) good.writer);
       message = λ same p at m hand.
-          let mine : messages ≡ reverse done ++ (pending (moment.peer_states me) ++ asked q events) = subst (λ (k : ℕ). messages ≡ reverse done ++ (pending (moment.peer_states k) ++ asked q events)) (sym same) good.order in
+          let mine : messages ≡ reverse done ++ (pending (so_far.peer_states me) ++ asked q events) = subst (λ (k : ℕ). messages ≡ reverse done ++ (pending (so_far.peer_states k) ++ asked q events)) (sym same) good.order in
           let whole : messages ≡ reverse done ++ (pending (opened peer_state) ++ asked q events) = mine ∙ ap (λ ms. reverse done ++ (ms ++ asked q events)) (sym (pending_opened peer_state _ _ refl refl)) in
           let here = all_left (IsMessage world) (pending (opened peer_state)) (asked q events) (all_right (IsMessage world) (reverse done) _ (subst (λ (ms : List (List ℕ)). AllByRecursion (IsMessage world) ms) whole all)) in
           hand_message world (opened peer_state).port p m (all_left (IsMessage world) (hand_messages (opened peer_state).port) _ here) at hand;
@@ -256,15 +256,15 @@ regroup a b c d = ap (λ r. a ++ r) (append_assoc b c d) ∙ sym (append_assoc a
 still_quiet : (peer_state : PeerState) (past : List Line) → is_busy peer_state.port ≡ false → peer_state.waiting ≡ [] → peer_state_in peer_state past (TurnTaken 0) ≡ peer_state
 still_quiet peer_state past busy none = let o : opened peer_state ≡ peer_state = rw (busy, none) refl in rw (o, busy) refl
 
-pub turn_good : (world : World) (q me n : ℕ) (messages : List (List ℕ)) (events : List Event) (moment : HistoryState) (done : List (List ℕ)) → IsWorld world → q < world.geometry.peers → me < world.geometry.peers → n < MOST_TURNS → AllByRecursion (IsMessage world) messages →
-    Good world q messages (TurnTaken me ∷ events) n moment done → (more : List (List ℕ)) × Good world q messages events (n + 1) (after_event world.geometry moment (TurnTaken me)) more
-turn_good world q me n messages events moment done is there below small all good =
-    let refines = stands_opened world q me n messages (TurnTaken me ∷ events) moment done is below small all good in
-    let before = before_of world q n messages (TurnTaken me ∷ events) moment done good in
-    let stepped = turn_stepped world q me messages moment.past (opened (moment.peer_states me)).port done _ is there before refines refl in (
+pub turn_good : (world : World) (q me n : ℕ) (messages : List (List ℕ)) (events : List Event) (so_far : HistoryState) (done : List (List ℕ)) → IsWorld world → q < world.geometry.peers → me < world.geometry.peers → n < MOST_TURNS → AllByRecursion (IsMessage world) messages →
+    Good world q messages (TurnTaken me ∷ events) n so_far done → (more : List (List ℕ)) × Good world q messages events (n + 1) (after_event world.geometry so_far (TurnTaken me)) more
+turn_good world q me n messages events so_far done is there below small all good =
+    let refines = stands_opened world q me n messages (TurnTaken me ∷ events) so_far done is below small all good in
+    let before = before_of world q n messages (TurnTaken me ∷ events) so_far done good in
+    let stepped = turn_stepped world q me messages so_far.past (opened (so_far.peer_states me)).port done _ is there before refines refl in (
       stepped.then_done,
       record {
-        kept = kept_one world n moment (TurnTaken me) small below good.kept;
+        kept = kept_one world n so_far (TurnTaken me) small below good.kept;
         writer = writer stepped _ refl;
         counted = stepped.counted;
         facts = stepped.facts;
@@ -275,82 +275,82 @@ turn_good world q me n messages events moment done is there below small all good
     )
   where
     S : PeerState
-    S = opened (moment.peer_states me)
+    S = opened (so_far.peer_states me)
 
     new : PortView
-    new = (peer_state_in (moment.peer_states me) moment.past (TurnTaken me)).port
+    new = (peer_state_in (so_far.peer_states me) so_far.past (TurnTaken me)).port
 
     next : List Line
-    next = (after_event world.geometry moment (TurnTaken me)).past
+    next = (after_event world.geometry so_far (TurnTaken me)).past
 
     T : Type 0
-    T = Stepped world q me messages moment.past next S.port new done
+    T = Stepped world q me messages so_far.past next S.port new done
 
-    writer : (t : T) (b : Bool) → (me == q) ≡ b → Writer world q next (if b then peer_state_in (moment.peer_states me) moment.past (TurnTaken me) else moment.peer_states q).port t.then_done
+    writer : (t : T) (b : Bool) → (me == q) ≡ b → Writer world q next (if b then peer_state_in (so_far.peer_states me) so_far.past (TurnTaken me) else so_far.peer_states q).port t.then_done
     writer t true e = (t.mine (eqb-true _ _ e)).0
     writer t false e =
         let beside = t.beside (eqb-false _ _ e) in
         let kept = good.kept q there in
-        let port = (moment.peer_states q).port in
+        let port = (so_far.peer_states q).port in
         subst (λ (ds : List (List ℕ)). Writer world q next port ds) (sym beside.1)
-        (writer_same world q moment.past next port port done is beside.0 good.writer refl (opened_same world q moment.past next port port.place is kept.most kept.port.hand kept.port.place beside.0 good.writer.writing))
+        (writer_same world q so_far.past next port port done is beside.0 good.writer refl (opened_same world q so_far.past next port port.place is kept.most kept.port.hand kept.port.place beside.0 good.writer.writing))
 
-    order : (t : T) (b : Bool) → (me == q) ≡ b → messages ≡ reverse t.then_done ++ (pending (if b then peer_state_in (moment.peer_states me) moment.past (TurnTaken me) else moment.peer_states q) ++ asked q events)
+    order : (t : T) (b : Bool) → (me == q) ≡ b → messages ≡ reverse t.then_done ++ (pending (if b then peer_state_in (so_far.peer_states me) so_far.past (TurnTaken me) else so_far.peer_states q) ++ asked q events)
     order t true e =
         let same : me ≡ q = eqb-true _ _ e in
-        let mine : messages ≡ reverse done ++ (pending (moment.peer_states me) ++ asked q events) = subst (λ (k : ℕ). messages ≡ reverse done ++ (pending (moment.peer_states k) ++ asked q events)) (sym same) good.order in
-        let whole : messages ≡ reverse done ++ (pending S ++ asked q events) = mine ∙ ap (λ ms. reverse done ++ (ms ++ asked q events)) (sym (pending_opened (moment.peer_states me) _ _ refl refl)) in
+        let mine : messages ≡ reverse done ++ (pending (so_far.peer_states me) ++ asked q events) = subst (λ (k : ℕ). messages ≡ reverse done ++ (pending (so_far.peer_states k) ++ asked q events)) (sym same) good.order in
+        let whole : messages ≡ reverse done ++ (pending S ++ asked q events) = mine ∙ ap (λ ms. reverse done ++ (ms ++ asked q events)) (sym (pending_opened (so_far.peer_states me) _ _ refl refl)) in
         whole ∙ regroup (reverse done) (hand_messages S.port) (waiting_messages S.waiting) (asked q events) ∙ ap (λ ms. ms ++ (waiting_messages S.waiting ++ asked q events)) (sym (t.mine same).1)
         ∙ sym (regroup (reverse t.then_done) (hand_messages new) (waiting_messages S.waiting) (asked q events))
-    order t false e = let beside = t.beside (eqb-false _ _ e) in good.order ∙ ap (λ ds. reverse ds ++ (pending (moment.peer_states q) ++ asked q events)) (sym beside.1)
+    order t false e = let beside = t.beside (eqb-false _ _ e) in good.order ∙ ap (λ ds. reverse ds ++ (pending (so_far.peer_states q) ++ asked q events)) (sym beside.1)
 
-    reader : (t : T) (p : ℕ) → p < world.geometry.peers → (b : Bool) → (me == p) ≡ b → Reader world q p next (if b then peer_state_in (moment.peer_states me) moment.past (TurnTaken me) else moment.peer_states p).port t.then_done
+    reader : (t : T) (p : ℕ) → p < world.geometry.peers → (b : Bool) → (me == p) ≡ b → Reader world q p next (if b then peer_state_in (so_far.peer_states me) so_far.past (TurnTaken me) else so_far.peer_states p).port t.then_done
     reader t p inside true e = subst (λ (k : ℕ). Reader world q k next new t.then_done) (eqb-true _ _ e) t.reader
-    reader t p inside false e = t.others p (moment.peer_states p).port (λ same. eqb-false _ _ e (sym same)) (good.readers p inside)
+    reader t p inside false e = t.others p (so_far.peer_states p).port (λ same. eqb-false _ _ e (sym same)) (good.readers p inside)
 
     quiet : (p : ℕ) → is_honest world p ≡ false → (b : Bool) → (me == p) ≡ b →
-        (is_busy (if b then peer_state_in (moment.peer_states me) moment.past (TurnTaken me) else moment.peer_states p).port ≡ false) × ((if b then peer_state_in (moment.peer_states me) moment.past (TurnTaken me) else moment.peer_states p).waiting ≡ [])
+        (is_busy (if b then peer_state_in (so_far.peer_states me) so_far.past (TurnTaken me) else so_far.peer_states p).port ≡ false) × ((if b then peer_state_in (so_far.peer_states me) so_far.past (TurnTaken me) else so_far.peer_states p).waiting ≡ [])
     quiet p hostile true e =
         let q0 = good.quiet p hostile in
         let same : me ≡ p = eqb-true _ _ e in
-        let busy : is_busy (moment.peer_states me).port ≡ false = subst (λ (k : ℕ). is_busy (moment.peer_states k).port ≡ false) (sym same) q0.0 in
-        let none : (moment.peer_states me).waiting ≡ [] = subst (λ (k : ℕ). (moment.peer_states k).waiting ≡ []) (sym same) q0.1 in
-        let still : peer_state_in (moment.peer_states me) moment.past (TurnTaken me) ≡ moment.peer_states me = still_quiet (moment.peer_states me) moment.past busy none in
+        let busy : is_busy (so_far.peer_states me).port ≡ false = subst (λ (k : ℕ). is_busy (so_far.peer_states k).port ≡ false) (sym same) q0.0 in
+        let none : (so_far.peer_states me).waiting ≡ [] = subst (λ (k : ℕ). (so_far.peer_states k).waiting ≡ []) (sym same) q0.1 in
+        let still : peer_state_in (so_far.peer_states me) so_far.past (TurnTaken me) ≡ so_far.peer_states me = still_quiet (so_far.peer_states me) so_far.past busy none in
         (ap (λ (s : PeerState). is_busy s.port) still ∙ busy, ap (λ (s : PeerState). s.waiting) still ∙ none)
     quiet p hostile false e = good.quiet p hostile
 
 -- A call is queued for a peer
 
-asked_port : (me p : ℕ) (moment : HistoryState) (c : PortCall) (b : Bool) → (me == p) ≡ b → (moment.peer_states p).port ≡ (if b then record (moment.peer_states me) { waiting = (moment.peer_states me).waiting ++ c ∷ [] } else moment.peer_states p).port
-asked_port me p moment c true e = ap (λ k. (moment.peer_states k).port) (sym (eqb-true me p e))
-asked_port me p moment c false e = refl
+asked_port : (me p : ℕ) (so_far : HistoryState) (c : PortCall) (b : Bool) → (me == p) ≡ b → (so_far.peer_states p).port ≡ (if b then record (so_far.peer_states me) { waiting = (so_far.peer_states me).waiting ++ c ∷ [] } else so_far.peer_states p).port
+asked_port me p so_far c true e = ap (λ k. (so_far.peer_states k).port) (sym (eqb-true me p e))
+asked_port me p so_far c false e = refl
 
-asked_order : (q me : ℕ) (messages : List (List ℕ)) (events : List Event) (moment : HistoryState) (done : List (List ℕ)) (c : PortCall) (b : Bool) → (me == q) ≡ b → messages ≡ reverse done ++ (pending (moment.peer_states q) ++ (asked_message q (CallQueued me c) ++ asked q events)) →
-    messages ≡ reverse done ++ (pending (if b then record (moment.peer_states me) { waiting = (moment.peer_states me).waiting ++ c ∷ [] } else moment.peer_states q) ++ asked q events)
-asked_order q me messages events moment done (call.Sample from) true e order =
+asked_order : (q me : ℕ) (messages : List (List ℕ)) (events : List Event) (so_far : HistoryState) (done : List (List ℕ)) (c : PortCall) (b : Bool) → (me == q) ≡ b → messages ≡ reverse done ++ (pending (so_far.peer_states q) ++ (asked_message q (CallQueued me c) ++ asked q events)) →
+    messages ≡ reverse done ++ (pending (if b then record (so_far.peer_states me) { waiting = (so_far.peer_states me).waiting ++ c ∷ [] } else so_far.peer_states q) ++ asked q events)
+asked_order q me messages events so_far done (call.Sample from) true e order =
     let same : me ≡ q = eqb-true _ _ e in
-    let ws = (moment.peer_states me).waiting in
+    let ws = (so_far.peer_states me).waiting in
     let w : waiting_messages (ws ++ call.Sample from ∷ []) ≡ waiting_messages ws = waiting-append ws (call.Sample from ∷ []) ∙ append-nil (waiting_messages ws) in
-    order ∙ ap (λ k. reverse done ++ (pending (moment.peer_states k) ++ asked q events)) (sym same) ∙ ap (λ ms. reverse done ++ ((hand_messages (moment.peer_states me).port ++ ms) ++ asked q events)) (sym w)
-asked_order q me messages events moment done (call.Sample from) false e order = order
-asked_order q me messages events moment done (call.Publish m) true e order =
+    order ∙ ap (λ k. reverse done ++ (pending (so_far.peer_states k) ++ asked q events)) (sym same) ∙ ap (λ ms. reverse done ++ ((hand_messages (so_far.peer_states me).port ++ ms) ++ asked q events)) (sym w)
+asked_order q me messages events so_far done (call.Sample from) false e order = order
+asked_order q me messages events so_far done (call.Publish m) true e order =
     let same : me ≡ q = eqb-true _ _ e in
-    let ws = (moment.peer_states me).waiting in
-    let hs = hand_messages (moment.peer_states me).port in
+    let ws = (so_far.peer_states me).waiting in
+    let hs = hand_messages (so_far.peer_states me).port in
     let w : waiting_messages (ws ++ call.Publish m ∷ []) ≡ waiting_messages ws ++ m ∷ [] = waiting-append ws (call.Publish m ∷ []) in
-    let mine : messages ≡ reverse done ++ ((hs ++ waiting_messages ws) ++ (m ∷ [] ++ asked q events)) = (rw e at order) ∙ ap (λ k. reverse done ++ (pending (moment.peer_states k) ++ (m ∷ [] ++ asked q events))) (sym same) in
+    let mine : messages ≡ reverse done ++ ((hs ++ waiting_messages ws) ++ (m ∷ [] ++ asked q events)) = (rw e at order) ∙ ap (λ k. reverse done ++ (pending (so_far.peer_states k) ++ (m ∷ [] ++ asked q events))) (sym same) in
     mine ∙ ap (λ r. reverse done ++ r) (sym (append_assoc (hs ++ waiting_messages ws) (m ∷ []) (asked q events)) ∙ ap (λ r. r ++ asked q events) (append_assoc hs (waiting_messages ws) (m ∷ []) ∙ ap (λ r. hs ++ r) (sym w)))
-asked_order q me messages events moment done (call.Publish m) false e order = rw e at order
+asked_order q me messages events so_far done (call.Publish m) false e order = rw e at order
 
-pub asked_good : (world : World) (q me n : ℕ) (c : PortCall) (messages : List (List ℕ)) (events : List Event) (moment : HistoryState) (done : List (List ℕ)) → IsPermittedEvent world (CallQueued me c) → n < MOST_TURNS → is_honest world me ≡ true →
-    Good world q messages (CallQueued me c ∷ events) n moment done → Good world q messages events (n + 1) (after_event world.geometry moment (CallQueued me c)) done
-asked_good world q me n c messages events moment done there small honest good = record {
-  kept = kept_one world n moment (CallQueued me c) small there good.kept;
-  writer = subst (λ (port : PortView). Writer world q moment.past port done) (asked_port me q moment c _ refl) good.writer;
+pub asked_good : (world : World) (q me n : ℕ) (c : PortCall) (messages : List (List ℕ)) (events : List Event) (so_far : HistoryState) (done : List (List ℕ)) → IsPermittedEvent world (CallQueued me c) → n < MOST_TURNS → is_honest world me ≡ true →
+    Good world q messages (CallQueued me c ∷ events) n so_far done → Good world q messages events (n + 1) (after_event world.geometry so_far (CallQueued me c)) done
+asked_good world q me n c messages events so_far done there small honest good = record {
+  kept = kept_one world n so_far (CallQueued me c) small there good.kept;
+  writer = subst (λ (port : PortView). Writer world q so_far.past port done) (asked_port me q so_far c _ refl) good.writer;
   counted = good.counted;
   facts = good.facts;
-  order = asked_order q me messages events moment done c _ refl good.order;
-  readers = λ p below. subst (λ (port : PortView). Reader world q p moment.past port done) (asked_port me p moment c _ refl) (good.readers p below);
+  order = asked_order q me messages events so_far done c _ refl good.order;
+  readers = λ p below. subst (λ (port : PortView). Reader world q p so_far.past port done) (asked_port me p so_far c _ refl) (good.readers p below);
   quiet = λ p hostile. quiet p hostile _ refl;
 }
   where
@@ -358,15 +358,15 @@ asked_good world q me n c messages events moment done there small honest good = 
     never same hostile = let h : true ≡ false = sym honest ∙ ap (is_honest world) same ∙ hostile in cc
 
     quiet : (p : ℕ) → is_honest world p ≡ false → (b : Bool) → (me == p) ≡ b →
-        (is_busy (if b then record (moment.peer_states me) { waiting = (moment.peer_states me).waiting ++ c ∷ [] } else moment.peer_states p).port ≡ false) × ((if b then record (moment.peer_states me) { waiting = (moment.peer_states me).waiting ++ c ∷ [] } else moment.peer_states p).waiting ≡ [])
+        (is_busy (if b then record (so_far.peer_states me) { waiting = (so_far.peer_states me).waiting ++ c ∷ [] } else so_far.peer_states p).port ≡ false) × ((if b then record (so_far.peer_states me) { waiting = (so_far.peer_states me).waiting ++ c ∷ [] } else so_far.peer_states p).waiting ≡ [])
     quiet p hostile true e = absurd (never (eqb-true _ _ e) hostile)
     quiet p hostile false e = good.quiet p hostile
 
 -- A hostile peer writes a word
 
-poked_peer_state : (me p : ℕ) (moment : HistoryState) (b : Bool) → (me == p) ≡ b → moment.peer_states p ≡ (if b then moment.peer_states me else moment.peer_states p)
-poked_peer_state me p moment true e = ap moment.peer_states (sym (eqb-true me p e))
-poked_peer_state me p moment false e = refl
+poked_peer_state : (me p : ℕ) (so_far : HistoryState) (b : Bool) → (me == p) ≡ b → so_far.peer_states p ≡ (if b then so_far.peer_states me else so_far.peer_states p)
+poked_peer_state me p so_far true e = ap so_far.peer_states (sym (eqb-true me p e))
+poked_peer_state me p so_far false e = refl
 
 own_section : (world : World) (me word : ℕ) → IsWorld world → MayWrite world.geometry me word → InSection world.geometry me word
 own_section world me word is (inl here) = here
@@ -394,50 +394,50 @@ poking world q me word value messages past done false is other may before = reco
   others = λ p port away r. reader_past world q p past port done (Denied me word) (not_denied p me word away) refl r;
 }
 
-pub poked_good : (world : World) (q me n word value : ℕ) (messages : List (List ℕ)) (events : List Event) (moment : HistoryState) (done : List (List ℕ)) → IsWorld world → q < world.geometry.peers → is_honest world q ≡ true → IsPermittedEvent world (Poked me word value) → n < MOST_TURNS → is_honest world me ≡ false →
-    Good world q messages (Poked me word value ∷ events) n moment done → Good world q messages events (n + 1) (after_event world.geometry moment (Poked me word value)) done
-poked_good world q me n word value messages events moment done is below honest there small hostile good =
-    let before = before_of world q n messages (Poked me word value ∷ events) moment done good in
+pub poked_good : (world : World) (q me n word value : ℕ) (messages : List (List ℕ)) (events : List Event) (so_far : HistoryState) (done : List (List ℕ)) → IsWorld world → q < world.geometry.peers → is_honest world q ≡ true → IsPermittedEvent world (Poked me word value) → n < MOST_TURNS → is_honest world me ≡ false →
+    Good world q messages (Poked me word value ∷ events) n so_far done → Good world q messages events (n + 1) (after_event world.geometry so_far (Poked me word value)) done
+poked_good world q me n word value messages events so_far done is below honest there small hostile good =
+    let before = before_of world q n messages (Poked me word value ∷ events) so_far done good in
     let other : me ≢ q = λ e. never e in
-    let t = poking world q me word value messages moment.past done _ is other refl before in
+    let t = poking world q me word value messages so_far.past done _ is other refl before in
     let kept = good.kept q below in
-    let port = (moment.peer_states q).port in
+    let port = (so_far.peer_states q).port in
     record {
-      kept = kept_one world n moment (Poked me word value) small there good.kept;
-      writer = subst (λ (s : PeerState). Writer world q next s.port done) (poked_peer_state me q moment _ refl)
-          (writer_same world q moment.past next port port done is t.same good.writer refl (opened_same world q moment.past next port port.place is kept.most kept.port.hand kept.port.place t.same good.writer.writing));
+      kept = kept_one world n so_far (Poked me word value) small there good.kept;
+      writer = subst (λ (s : PeerState). Writer world q next s.port done) (poked_peer_state me q so_far _ refl)
+          (writer_same world q so_far.past next port port done is t.same good.writer refl (opened_same world q so_far.past next port port.place is kept.most kept.port.hand kept.port.place t.same good.writer.writing));
       counted = t.counted;
       facts = t.facts;
-      order = good.order ∙ ap (λ (s : PeerState). reverse done ++ (pending s ++ asked q events)) (poked_peer_state me q moment _ refl);
-      readers = λ p inside. subst (λ (s : PeerState). Reader world q p next s.port done) (poked_peer_state me p moment _ refl) (reader t p inside _ refl);
-      quiet = λ p bad. subst (λ (s : PeerState). (is_busy s.port ≡ false) × (s.waiting ≡ [])) (poked_peer_state me p moment _ refl) (good.quiet p bad);
+      order = good.order ∙ ap (λ (s : PeerState). reverse done ++ (pending s ++ asked q events)) (poked_peer_state me q so_far _ refl);
+      readers = λ p inside. subst (λ (s : PeerState). Reader world q p next s.port done) (poked_peer_state me p so_far _ refl) (reader t p inside _ refl);
+      quiet = λ p bad. subst (λ (s : PeerState). (is_busy s.port ≡ false) × (s.waiting ≡ [])) (poked_peer_state me p so_far _ refl) (good.quiet p bad);
     }
   where
     next : List Line
-    next = (after_event world.geometry moment (Poked me word value)).past
+    next = (after_event world.geometry so_far (Poked me word value)).past
 
     never : me ≡ q → ⊥
     never e = let h : true ≡ false = sym honest ∙ ap (is_honest world) (sym e) ∙ hostile in cc
 
-    reader : Poking world q me messages moment.past next done → (p : ℕ) → p < world.geometry.peers → (b : Bool) → (me == p) ≡ b → Reader world q p next (moment.peer_states p).port done
+    reader : Poking world q me messages so_far.past next done → (p : ℕ) → p < world.geometry.peers → (b : Bool) → (me == p) ≡ b → Reader world q p next (so_far.peer_states p).port done
     reader t p inside true e =
         let same : me ≡ p = eqb-true _ _ e in
         let busy = (good.quiet p (subst (λ (k : ℕ). is_honest world k ≡ false) same hostile)).0 in
-        record { last = (good.readers p inside).last; at = at_quiet world q p next (moment.peer_states p).port done (moment.peer_states p).port.place busy }
-    reader t p inside false e = t.others p (moment.peer_states p).port (λ same. eqb-false _ _ e (sym same)) (good.readers p inside)
+        record { last = (good.readers p inside).last; at = at_quiet world q p next (so_far.peer_states p).port done (so_far.peer_states p).port.place busy }
+    reader t p inside false e = t.others p (so_far.peer_states p).port (λ same. eqb-false _ _ e (sym same)) (good.readers p inside)
 
 -- All events
 
-good_run : (world : World) (q : ℕ) (messages : List (List ℕ)) (events : List Event) (n : ℕ) (moment : HistoryState) (done : List (List ℕ)) → IsWorld world → q < world.geometry.peers → is_honest world q ≡ true → AllByRecursion (IsMessage world) messages → n + length events ≤ MOST_TURNS →
-    AllByRecursion (IsPermittedEvent world) events → AllByRecursion (FairEvent world) events → Good world q messages events n moment done → (k : ℕ) × (more : List (List ℕ)) × Good world q messages [] k (run world.geometry events moment) more
-good_run world q messages [] n moment done is below honest all few there fair good = (n, done, good)
-good_run world q messages (CallQueued me c ∷ events) n moment done is below honest all few there fair good =
-    good_run world q messages events (n + 1) _ done is below honest all (omega arith) there.1 fair.1 (asked_good world q me n c messages events moment done there.0 (omega arith) fair.0 good)
-good_run world q messages (TurnTaken me ∷ events) n moment done is below honest all few there fair good =
-    let t = turn_good world q me n messages events moment done is below there.0 (omega arith) all good in
+good_run : (world : World) (q : ℕ) (messages : List (List ℕ)) (events : List Event) (n : ℕ) (so_far : HistoryState) (done : List (List ℕ)) → IsWorld world → q < world.geometry.peers → is_honest world q ≡ true → AllByRecursion (IsMessage world) messages → n + length events ≤ MOST_TURNS →
+    AllByRecursion (IsPermittedEvent world) events → AllByRecursion (FairEvent world) events → Good world q messages events n so_far done → (k : ℕ) × (more : List (List ℕ)) × Good world q messages [] k (run world.geometry events so_far) more
+good_run world q messages [] n so_far done is below honest all few there fair good = (n, done, good)
+good_run world q messages (CallQueued me c ∷ events) n so_far done is below honest all few there fair good =
+    good_run world q messages events (n + 1) _ done is below honest all (omega arith) there.1 fair.1 (asked_good world q me n c messages events so_far done there.0 (omega arith) fair.0 good)
+good_run world q messages (TurnTaken me ∷ events) n so_far done is below honest all few there fair good =
+    let t = turn_good world q me n messages events so_far done is below there.0 (omega arith) all good in
     good_run world q messages events (n + 1) _ t.0 is below honest all (omega arith) there.1 fair.1 t.1
-good_run world q messages (Poked me word value ∷ events) n moment done is below honest all few there fair good =
-    good_run world q messages events (n + 1) _ done is below honest all (omega arith) there.1 fair.1 (poked_good world q me n word value messages events moment done is below honest there.0 (omega arith) fair.0 good)
+good_run world q messages (Poked me word value ∷ events) n so_far done is below honest all few there fair good =
+    good_run world q messages events (n + 1) _ done is below honest all (omega arith) there.1 fair.1 (poked_good world q me n word value messages events so_far done is below honest there.0 (omega arith) fair.0 good)
 
 -- The events of the acts
 
@@ -572,31 +572,31 @@ first_of (x ∷ after) line is =
     let same : Some x ≡ Some line = sym (last_of None (reverse after) x) ∙ ap (last_or None) (sym (reverse-append (x ∷ []) after)) ∙ is in
     (after, ap (λ (l : Line). l ∷ after) (cc))
 
-pub looks_lem : HasOneHistory → HistoryIsLawful → LooksCountPublishes
-looks_lem one lawful world before after reader writer value is honest here =
+pub looks_count_publishes : HasOneHistory → HistoryIsLawful → LooksCountPublishes
+looks_count_publishes one lawful world before after reader writer value is honest here =
     let fact = fact_of one lawful world before after (Read reader (section_start world.geometry writer) value) writer is honest here in
     (fact refl).0 ∙ sum_reverse (publishes writer) before
 
-pub zero_lem : HasOneHistory → HistoryIsLawful → ZeroIsNothing
-zero_lem one lawful world before after reader writer is honest here =
+pub zero_is_nothing : HasOneHistory → HistoryIsLawful → ZeroIsNothing
+zero_is_nothing one lawful world before after reader writer is honest here =
     let fact = fact_of one lawful world before after (Read reader (section_start world.geometry writer) 0) writer is honest here in
     first_of after (Marked reader (Nothing writer)) ((fact refl).1 refl)
 
-pub nothing_lem : HasOneHistory → HistoryIsLawful → NothingIsUnpublished
-nothing_lem one lawful world before after reader writer is honest here =
+pub nothing_is_unpublished : HasOneHistory → HistoryIsLawful → NothingIsUnpublished
+nothing_is_unpublished one lawful world before after reader writer is honest here =
     let fact = fact_of one lawful world before after (Marked reader (Nothing writer)) writer is honest here in
     sym (sum_reverse (publishes writer) before) ∙ fact refl
 
-pub again_lem : HasOneHistory → HistoryIsLawful → AgainIsLater
-again_lem one lawful world before after reader writer first second is honest here =
+pub again_is_later : HasOneHistory → HistoryIsLawful → AgainIsLater
+again_is_later one lawful world before after reader writer first second is honest here =
     let fact = fact_of one lawful world before after (Marked reader (Again writer first second)) writer is honest here in
     ((fact refl).0, (fact refl).1 ∙ sum_reverse (publishes writer) before)
 
-pub refused_lem : HasOneHistory → HistoryIsLawful → HonestIsNotRefused
-refused_lem one lawful world before after reader writer value field is honest = λ here. (fact_of one lawful world before after (Marked reader (Refuse writer field value)) writer is honest here) refl
+pub honest_is_not_refused : HasOneHistory → HistoryIsLawful → HonestIsNotRefused
+honest_is_not_refused one lawful world before after reader writer value field is honest = λ here. (fact_of one lawful world before after (Marked reader (Refuse writer field value)) writer is honest here) refl
 
-pub got_lem : HasOneHistory → HistoryIsLawful → GotIsPublished
-got_lem one lawful world before after reader writer number message is honest here =
+pub got_is_published : HasOneHistory → HistoryIsLawful → GotIsPublished
+got_is_published one lawful world before after reader writer number message is honest here =
     let fact = (fact_of one lawful world before after (Marked reader (Got writer number message)) writer is honest here) refl in
     let l = fact.looked in
     let look = Read reader (head_of world writer) number in

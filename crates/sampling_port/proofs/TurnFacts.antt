@@ -9,7 +9,7 @@ use Rattle.std.proofs.lemmas.List.{append-nil, reverse-append}
 use Rattle.std.proofs.lemmas.List.Sums.{sum_by-cons}
 use Rattle.section_map.specs.Geometry.{Shape, section_start}
 use Rattle.section_map.specs.MayWrite.{InSection}
-use Rattle.section_map.proofs.Apart.{stand_apart}
+use Rattle.section_map.proofs.SectionsAreApart.{sections_are_apart}
 use Rattle.call_grammar.specs.Words.{words_for}
 use Rattle.port_text.specs.Scenario.{World, IsWorld}
 use Rattle.sampling_port.specs.declared.notes.PortField.TheVariants.{Sequence, Length}
@@ -20,7 +20,7 @@ use Rattle.sampling_port.specs.declared.place.Place.TheVariants as place
 use Rattle.sampling_port.specs.Layout.{length_place, data_place}
 use Rattle.sampling_port.specs.Marks.{PortMark, Publish, Got, Nothing, Again, Refuse, marked}
 use Rattle.sampling_port.specs.Calls.{is_length}
-use Rattle.sampling_port.specs.Views.{PortView, IsPort, IsPlace, from_at, note_at, port_after, closed, got, reading_place, writing_place, theirs}
+use Rattle.sampling_port.specs.Views.{PortView, IsPort, IsPlace, from_at, note_at, port_after, closed, got, reading_place, writing_place, other_start}
 use Rattle.sampling_port.specs.EventRecords.{Line, Read, Wrote, Marked, mark_lines}
 use Rattle.sampling_port.specs.Memory.{last_write}
 use Rattle.sampling_port.specs.HistoryLaws.{is_of, is_read_of, publishes, published_by}
@@ -110,17 +110,17 @@ look_beside : (world : World) (q p from word value : ℕ) (messages : List (List
     Looked world q p messages past word value (marked from port.hand n) new done
 look_beside world q p from word value messages n past port new done is other inside facts last same beside = record {
   reader = record { last = omega arith; at = at_beside world q p _ new done new.place beside };
-  facts = facts_beside world q p from word value messages port.hand n past other (λ e. stand_apart world.geometry from q word other inside (subst (λ (w : ℕ). InSection world.geometry q w) (sym e) (head_in world q is))) facts;
+  facts = facts_beside world q p from word value messages port.hand n past other (λ e. sections_are_apart world.geometry from q word other inside (subst (λ (w : ℕ). InSection world.geometry q w) (sym e) (head_in world q is))) facts;
 }
 
 -- A step of a sample
 
 -- The word that a sample reads next.
 abbrev pub ReadsFrom : PortView → Place → ℕ → Type 0
-ReadsFrom port (place.AtSequence from) word = word ≡ theirs port from
-ReadsFrom port (place.AtLength from sequence) word = word ≡ theirs port from + length_place port.most sequence
-ReadsFrom port (place.AtWord from sequence bytes at more) word = word ≡ theirs port from + data_place port.most sequence + at
-ReadsFrom port (place.AtSecond from sequence) word = word ≡ theirs port from
+ReadsFrom port (place.AtSequence from) word = word ≡ other_start port from
+ReadsFrom port (place.AtLength from sequence) word = word ≡ other_start port from + length_place port.most sequence
+ReadsFrom port (place.AtWord from sequence bytes at more) word = word ≡ other_start port from + data_place port.most sequence + at
+ReadsFrom port (place.AtSecond from sequence) word = word ≡ other_start port from
 ReadsFrom port _ word = ⊥
 
 set_other : (lasts : List ℕ) (from q number : ℕ) → from ≢ q → slice_index (slice_set lasts from number) q ≡ slice_index lasts q

@@ -112,8 +112,8 @@ serves_on : (world : World) (peers : ℕ → Progress) (p q : ℕ) (next : Progr
     ((end : Progress) × IsCallSequence world p next (own_entries p entries) end) →
     ((end : Progress) × IsCallSequence world q (peers q) (if b then entry ∷ own_entries q entries else own_entries q entries) end) →
     (end : Progress) × IsCallSequence world q (if b then next else peers q) (own_entries q entries) end
-serves_on world peers p q next entry entries true is mine theirs = subst (λ (k : ℕ). (end : Progress) × IsCallSequence world k next (own_entries k entries) end) (eqb-true p q is) mine
-serves_on world peers p q next entry entries false is mine theirs = theirs
+serves_on world peers p q next entry entries true is mine other_start = subst (λ (k : ℕ). (end : Progress) × IsCallSequence world k next (own_entries k entries) end) (eqb-true p q is) mine
+serves_on world peers p q next entry entries false is mine other_start = other_start
 
 first_of_all : (world : World) (past : List Line) (peers : ℕ → Progress) (entry : EventRecord) (entries : List EventRecord) → Follows world past peers (entry ∷ entries) → First world past peers entry entries
 first_of_all world past peers entry entries f =
@@ -162,7 +162,7 @@ same_entries world past peers (d ∷ ds) (d' ∷ ds') same f f' =
 follows : (world : World) (lines : List Line) (entries : List EventRecord) → IsLawfulBy world lines entries → Follows world [] (λ p. initial_progress) entries
 follows world lines entries by = record { law = rw append-nil (rw (← by.recorded) at by.memory); calls = by.calls }
 
-pub one_history_lem : HasOneHistory
-one_history_lem world lines others lawful lawful' =
+pub has_one_history : HasOneHistory
+has_one_history world lines others lawful lawful' =
     let same = same_entries world [] (λ p. initial_progress) lawful.0 lawful'.0 (lawful.1.events ∙ sym lawful'.1.events) (follows world lines lawful.0 lawful.1) (follows world others lawful'.0 lawful'.1) in
     sym lawful.1.recorded ∙ ap (λ (entries : List EventRecord). flat_map lines_of entries) same ∙ lawful'.1.recorded

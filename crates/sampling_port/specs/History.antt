@@ -76,21 +76,21 @@ peer_state_in peer_state past (TurnTaken peer) = record { port = port_of_turn (o
 peer_state_in peer_state past (Poked peer word value) = peer_state
 
 abbrev pub entry_of : Shape → HistoryState → Event → EventRecord
-entry_of g moment event = record { event = event; went = step_in g (moment.peer_states (event_peer event)) moment.past event }
+entry_of g so_far event = record { event = event; went = step_in g (so_far.peer_states (event_peer event)) so_far.past event }
 
 -- The peer states with another one for `peer`.
 abbrev pub peer_states_with : ℕ → PeerState → (ℕ → PeerState) → ℕ → PeerState
 peer_states_with peer peer_state peer_states p = if peer == p then peer_state else peer_states p
 
 abbrev pub after_event : Shape → HistoryState → Event → HistoryState
-after_event g moment event = record {
-  past = reverse (lines_of (entry_of g moment event)) ++ moment.past;
-  peer_states = peer_states_with (event_peer event) (peer_state_in (moment.peer_states (event_peer event)) moment.past event) moment.peer_states;
+after_event g so_far event = record {
+  past = reverse (lines_of (entry_of g so_far event)) ++ so_far.past;
+  peer_states = peer_states_with (event_peer event) (peer_state_in (so_far.peer_states (event_peer event)) so_far.past event) so_far.peer_states;
 }
 
 abbrev pub run : Shape → List Event → HistoryState → HistoryState
-run g [] moment = moment
-run g (event ∷ events) moment = run g events (after_event g moment event)
+run g [] so_far = so_far
+run g (event ∷ events) so_far = run g events (after_event g so_far event)
 
 -- The initial history state: each peer has a port without calls.
 abbrev pub initial_state : World → HistoryState

@@ -13,7 +13,7 @@ use Rattle.sampling_port.specs.Layout.{IsMessageSize, port_words}
 use Rattle.sampling_port.specs.Marks.{marked}
 use Rattle.sampling_port.specs.Trees.{PortTree, Ended, PortStep, port_step, Goes, Makes, unmarked, unmarked_step}
 use Rattle.sampling_port.specs.Calls.{publish, sample}
-use Rattle.sampling_port.specs.Views.{PortView, is_busy, from_at, own, theirs, access_at, note_at, port_after, left, publishing, sampling}
+use Rattle.sampling_port.specs.Views.{PortView, is_busy, from_at, own, other_start, access_at, note_at, port_after, left, publishing, sampling}
 
 -- The fault of a geometry without a port for messages of `most` bytes; sizes are in bytes.
 abbrev pub IsPortFault : Shape → ℕ → PortFault → Type 0
@@ -35,7 +35,7 @@ config_of shape me from = record {
   me = me;
   other = from;
   own = section_start shape me;
-  theirs = section_start shape from;
+  other_start = section_start shape from;
   words = shape.out;
   sizes = record { version = 1; out = 4 * shape.out; mtu = 256 };
   vector = 0;
@@ -53,8 +53,8 @@ abbrev pub IsReadOnce : ℕ → List ℕ → Type 0
 IsReadOnce sequence reads = AreDistinct reads ⊎ ((front : List ℕ) × (reads ≡ sequence ∷ (front ++ sequence ∷ [])) × AreDistinct (sequence ∷ front))
 
 abbrev pub FieldsAreReadOnce : Type 0
-FieldsAreReadOnce = (from theirs most last : ℕ) (steps : List PortStep) → Makes (sample from theirs most last) steps
-    → IsReadOnce theirs (reads_of (map unmarked_step steps))
+FieldsAreReadOnce = (from other_start most last : ℕ) (steps : List PortStep) → Makes (sample from other_start most last) steps
+    → IsReadOnce other_start (reads_of (map unmarked_step steps))
 
 -- The step of a port that read this value; a message got is the one in hand.
 abbrev pub step_of_port : PortView → ℕ → PortStep
@@ -63,7 +63,7 @@ step_of_port port value = port_step (access_at port port.place) value (marked (f
 -- A port follows its call, and nothing else.
 pub record PortsFollowCalls : Type 0 where
   pub publishes : (port : PortView) (message : List ℕ) → left (publishing port message) ≡ publish (own port) port.most (port.published + 1) message
-  pub samples : (port : PortView) (from : ℕ) → left (sampling port from) ≡ sample from (theirs port from) port.most (slice_index port.lasts from)
+  pub samples : (port : PortView) (from : ℕ) → left (sampling port from) ≡ sample from (other_start port from) port.most (slice_index port.lasts from)
   pub comes : (port : PortView) (value : ℕ) → is_busy port ≡ true → Goes (left port) (step_of_port port value) (left (port_after port port.place value))
   pub goes : (port : PortView) (step : PortStep) (rest : PortTree) → Goes (left port) step rest →
       (value : ℕ) × (step ≡ step_of_port port value) × (rest ≡ left (port_after port port.place value))

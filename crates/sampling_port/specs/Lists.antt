@@ -31,33 +31,33 @@ abbrev pub IsLength : (most bytes : ℕ) → Type 0
 IsLength most bytes = (1 ≤ bytes) × (bytes ≤ most)
 
 -- The reads of these words of a message from word `at` on.
-abbrev pub word_steps : (theirs most number at : ℕ) → List ℕ → List PortStep
-word_steps theirs most number at [] = []
-word_steps theirs most number at (word ∷ words) = read_step (theirs + data_place most number + at) word None ∷ word_steps theirs most number (at + 1) words
+abbrev pub word_steps : (other_start most number at : ℕ) → List ℕ → List PortStep
+word_steps other_start most number at [] = []
+word_steps other_start most number at (word ∷ words) = read_step (other_start + data_place most number + at) word None ∷ word_steps other_start most number (at + 1) words
 
 -- The number read is below the one got last.
-pub record RefusesSequence (from theirs last : ℕ) (steps : List PortStep) : Type 0 where
+pub record RefusesSequence (from other_start last : ℕ) (steps : List PortStep) : Type 0 where
   pub value : ℕ
   pub below : value < last
-  pub steps_are : steps ≡ read_step theirs value (Some (Refuse from Sequence value)) ∷ []
+  pub steps_are : steps ≡ read_step other_start value (Some (Refuse from Sequence value)) ∷ []
 
 -- The writer published nothing, and nothing was got before.
-pub record FindsNothing (from theirs last : ℕ) (steps : List PortStep) : Type 0 where
+pub record FindsNothing (from other_start last : ℕ) (steps : List PortStep) : Type 0 where
   pub none_before : last ≡ 0
-  pub steps_are : steps ≡ read_step theirs 0 (Some (Nothing from)) ∷ []
+  pub steps_are : steps ≡ read_step other_start 0 (Some (Nothing from)) ∷ []
 
 -- The length is out of range.
-pub record RefusesLength (from theirs most last : ℕ) (steps : List PortStep) : Type 0 where
+pub record RefusesLength (from other_start most last : ℕ) (steps : List PortStep) : Type 0 where
   pub number : ℕ
   pub not_below : last ≤ number
   pub some : number ≢ 0
   pub bytes : ℕ
   pub beyond : ¬ IsLength most bytes
-  pub steps_are : steps ≡ read_step theirs number None ∷ read_step (theirs + length_place most number) bytes (Some (Refuse from Length bytes)) ∷ []
+  pub steps_are : steps ≡ read_step other_start number None ∷ read_step (other_start + length_place most number) bytes (Some (Refuse from Length bytes)) ∷ []
 
 -- A message is read whole. Its bytes are the first of those that its words gave, and the length is
 -- their number. The message is got if the number is the same at the second look.
-pub record ReadsMessage (from theirs most last : ℕ) (steps : List PortStep) : Type 0 where
+pub record ReadsMessage (from other_start most last : ℕ) (steps : List PortStep) : Type 0 where
   pub number : ℕ
   pub not_below : last ≤ number
   pub some : number ≢ 0
@@ -66,19 +66,19 @@ pub record ReadsMessage (from theirs most last : ℕ) (steps : List PortStep) : 
   pub words : List ℕ
   pub all : length words ≡ words_for bytes
   pub second : ℕ
-  pub steps_are : steps ≡ read_step theirs number None ∷ read_step (theirs + length_place most number) bytes None ∷
-      (word_steps theirs most number 0 words ++ read_step theirs second (second_mark from number (frame_in bytes words) second) ∷ [])
+  pub steps_are : steps ≡ read_step other_start number None ∷ read_step (other_start + length_place most number) bytes None ∷
+      (word_steps other_start most number 0 words ++ read_step other_start second (second_mark from number (frame_in bytes words) second) ∷ [])
 
 -- A finished sample is one of these four lists.
-abbrev pub IsSample : (from theirs most last : ℕ) → List PortStep → Type 0
-IsSample from theirs most last steps =
-    RefusesSequence from theirs last steps ⊎ (FindsNothing from theirs last steps
-    ⊎ (RefusesLength from theirs most last steps ⊎ ReadsMessage from theirs most last steps))
+abbrev pub IsSample : (from other_start most last : ℕ) → List PortStep → Type 0
+IsSample from other_start most last steps =
+    RefusesSequence from other_start last steps ⊎ (FindsNothing from other_start last steps
+    ⊎ (RefusesLength from other_start most last steps ⊎ ReadsMessage from other_start most last steps))
 
 -- A list of steps is a whole call exactly if it is one of these.
 pub record CallsAreLists : Type 0 where
   pub published : (own most number : ℕ) (message : List ℕ) (steps : List PortStep) → Makes (publish own most number message) steps
       → steps ≡ publish_steps own most number message
   pub publishes : (own most number : ℕ) (message : List ℕ) → Makes (publish own most number message) (publish_steps own most number message)
-  pub sampled : (from theirs most last : ℕ) (steps : List PortStep) → Makes (sample from theirs most last) steps → IsSample from theirs most last steps
-  pub samples : (from theirs most last : ℕ) (steps : List PortStep) → IsSample from theirs most last steps → Makes (sample from theirs most last) steps
+  pub sampled : (from other_start most last : ℕ) (steps : List PortStep) → Makes (sample from other_start most last) steps → IsSample from other_start most last steps
+  pub samples : (from other_start most last : ℕ) (steps : List PortStep) → IsSample from other_start most last steps → Makes (sample from other_start most last) steps

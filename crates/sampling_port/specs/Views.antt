@@ -51,8 +51,8 @@ is_busy port = is_open port.place
 abbrev pub own : PortView → ℕ
 own port = section_start port.shape port.me
 
-abbrev pub theirs : PortView → ℕ → ℕ
-theirs port from = section_start port.shape from
+abbrev pub other_start : PortView → ℕ → ℕ
+other_start port from = section_start port.shape from
 
 -- The opening of a call
 
@@ -77,10 +77,10 @@ access_at port Closed = access.Nothing
 access_at port WritingLength = access.Write (own port + length_place port.most (port.published + 1)) (length port.hand)
 access_at port (WritingWord at more) = access.Write (own port + data_place port.most (port.published + 1) + at) (frame_word port.hand at)
 access_at port WritingSequence = access.Write (own port) (port.published + 1)
-access_at port (AtSequence from) = access.Read (theirs port from)
-access_at port (AtLength from sequence) = access.Read (theirs port from + length_place port.most sequence)
-access_at port (AtWord from sequence bytes at more) = access.Read (theirs port from + data_place port.most sequence + at)
-access_at port (AtSecond from sequence) = access.Read (theirs port from)
+access_at port (AtSequence from) = access.Read (other_start port from)
+access_at port (AtLength from sequence) = access.Read (other_start port from + length_place port.most sequence)
+access_at port (AtWord from sequence bytes at more) = access.Read (other_start port from + data_place port.most sequence + at)
+access_at port (AtSecond from sequence) = access.Read (other_start port from)
 
 -- The note of a step that read this value.
 abbrev pub note_at : PortView → Place → ℕ → Option PortNote
@@ -131,10 +131,10 @@ left_at port Closed = Ended
 left_at port WritingLength = publish (own port) port.most (port.published + 1) port.hand
 left_at port (WritingWord at more) = write_words (own port) port.most (port.published + 1) port.hand at (suc more)
 left_at port WritingSequence = write_sequence (own port) (port.published + 1)
-left_at port (AtSequence from) = sample from (theirs port from) port.most (slice_index port.lasts from)
-left_at port (AtLength from sequence) = read_length from (theirs port from) port.most sequence
-left_at port (AtWord from sequence bytes at more) = read_words from (theirs port from) port.most sequence bytes port.hand at (suc more)
-left_at port (AtSecond from sequence) = look_again from (theirs port from) sequence port.hand
+left_at port (AtSequence from) = sample from (other_start port from) port.most (slice_index port.lasts from)
+left_at port (AtLength from sequence) = read_length from (other_start port from) port.most sequence
+left_at port (AtWord from sequence bytes at more) = read_words from (other_start port from) port.most sequence bytes port.hand at (suc more)
+left_at port (AtSecond from sequence) = look_again from (other_start port from) sequence port.hand
 
 abbrev pub left : PortView → PortTree
 left port = left_at port port.place

@@ -27,10 +27,10 @@ within length from is = grind (arith, nat_tests)
 -- One more act that passes the test is the last one; any other doesn't change the end.
 end_added : (test : Act → Bool) (xs : List Act) (x : Act) (from next k : ℕ) → next ≡ (if test x then length xs + 1 else from) → ((j : ℕ) → list_any test (drop j xs) ≡ nat_lt j from) →
     list_any test (drop k (xs ++ x ∷ [])) ≡ nat_lt k next
-end_added test xs x from next k to tells =
-    let most : from ≤ length xs = within (length xs) from (sym (tells (length xs)) ∙ at_drop_all (list_any test) xs (length xs) (omega arith)) in
+end_added test xs x from next k to has_after =
+    let most : from ≤ length xs = within (length xs) from (sym (has_after (length xs)) ∙ at_drop_all (list_any test) xs (length xs) (omega arith)) in
     dite (dec_le k (length xs))
-    (λ le. ap (list_any test) (drop-append-le k xs (x ∷ []) le) ∙ (any_added test (drop k xs) x ∙ (ap (λ (b : Bool). b || test x) (tells k) ∙ short (test x) to le most)))
+    (λ le. ap (list_any test) (drop-append-le k xs (x ∷ []) le) ∙ (any_added test (drop k xs) x ∙ (ap (λ (b : Bool). b || test x) (has_after k) ∙ short (test x) to le most)))
     (λ gt. at_drop_all (list_any test) (xs ++ x ∷ []) k (omega (arith, length-append xs (x ∷ []))) ∙ long (test x) to (omega arith) most)
   where
     short : (b : Bool) → next ≡ (if b then length xs + 1 else from) → k ≤ length xs → from ≤ length xs → (nat_lt k from || b) ≡ nat_lt k next
@@ -44,17 +44,17 @@ end_added test xs x from next k to tells =
 pub turn_ended : (acts : List Act) (act : Act) (p k from next end : ℕ) (on : Bool) → on ≡ is_turn_of (peer_of act) act → next ≡ (if on && eqb (peer_of act) p then end else from) → end ≡ length acts + 1 →
     ((j : ℕ) → has_turn (drop j acts) p ≡ nat_lt j from) → has_turn (drop k (acts ++ act ∷ [])) p ≡ nat_lt k next
 unfolding has_turn
-turn_ended acts act p k from next end on is to at tells = end_added (is_turn_of p) acts act from next k (to ∙ rw (is, at, ← turn_at act p) refl) tells
+turn_ended acts act p k from next end on is to at has_after = end_added (is_turn_of p) acts act from next k (to ∙ rw (is, at, ← turn_at act p) refl) has_after
 
 pub reset_ended : (acts : List Act) (act : Act) (p k from next end : ℕ) (on : Bool) → on ≡ is_reset_of (peer_of act) act → next ≡ (if on && eqb (peer_of act) p then end else from) → end ≡ length acts + 1 →
     ((j : ℕ) → has_reset (drop j acts) p ≡ nat_lt j from) → has_reset (drop k (acts ++ act ∷ [])) p ≡ nat_lt k next
 unfolding has_reset
-reset_ended acts act p k from next end on is to at tells = end_added (is_reset_of p) acts act from next k (to ∙ rw (is, at, ← reset_at act p) refl) tells
+reset_ended acts act p k from next end on is to at has_after = end_added (is_reset_of p) acts act from next k (to ∙ rw (is, at, ← reset_at act p) refl) has_after
 
 pub other_ended : (acts : List Act) (act : Act) (k from next end : ℕ) (on : Bool) → on ≡ is_other act → next ≡ (if on then end else from) → end ≡ length acts + 1 → ((j : ℕ) → has_other (drop j acts) ≡ nat_lt j from) →
     has_other (drop k (acts ++ act ∷ [])) ≡ nat_lt k next
 unfolding has_other
-other_ended acts act k from next end on is to at tells = end_added is_other acts act from next k (to ∙ rw (is, at) refl) tells
+other_ended acts act k from next end on is to at has_after = end_added is_other acts act from next k (to ∙ rw (is, at) refl) has_after
 
 -- ---- no acts
 

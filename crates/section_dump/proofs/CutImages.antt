@@ -20,11 +20,11 @@ number_from image j k i (suc n) within =
 number : (image : List ℕ) (j k n : ℕ) → k + n ≤ j → little_number n (drop k (take j image)) ≡ little_number n (drop k image)
 number image j k n within = number_from image j k 0 n (omega (arith, within))
 
-pub header_lem : CutHeadersAreBad
-header_lem image j few has = omega (arith, has.0, length-take j image)
+pub cut_headers_are_bad : CutHeadersAreBad
+cut_headers_are_bad image j few has = omega (arith, has.0, length-take j image)
 
-pub short_lem : CutImagesAreShort
-short_lem image j is whole cut =
+pub cut_images_are_short : CutImagesAreShort
+cut_images_are_short image j is whole cut =
     let count : length (take j image) ≡ j = length-take-le j image (omega (arith, cut)) in
     let peers : peers_in (take j image) ≡ peers_in image = number image j 8 4 (omega (arith, whole)) in
     let table : table_in (take j image) ≡ table_in image = number image j 12 4 (omega (arith, whole)) in

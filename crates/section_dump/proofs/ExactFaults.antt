@@ -27,12 +27,12 @@ no_region peers table common out (TooLarge n) h s =
     let room = s.3.room in let words = pages_in_words peers out s.2.1 in let many = h.5 in let bytes = h.6 in
     let table_whole = s.0.1 in let common_whole = s.1 in omega arith
 
-pub no_image_lem : FaultsAreOfNoImage
-no_image_lem image BadHeader ne h i = h i.header
-no_image_lem image (Geometry fault) ne h i = no_region (peers_in image) (table_in image) (common_in image) (out_in image) fault h.1 i.sizes
-no_image_lem image (ShortImage need found) ne h i = let whole = i.whole in let less = h.2 in let due = h.3 in let is = h.4 in omega arith
-no_image_lem image (LongImage need found) ne h i = let whole = i.whole in let more = h.2 in let due = h.3 in let is = h.4 in omega arith
-no_image_lem image NoMemory ne h i = ne refl
+pub faults_are_of_no_image : FaultsAreOfNoImage
+faults_are_of_no_image image BadHeader ne h i = h i.header
+faults_are_of_no_image image (Geometry fault) ne h i = no_region (peers_in image) (table_in image) (common_in image) (out_in image) fault h.1 i.sizes
+faults_are_of_no_image image (ShortImage need found) ne h i = let whole = i.whole in let less = h.2 in let due = h.3 in let is = h.4 in omega arith
+faults_are_of_no_image image (LongImage need found) ne h i = let whole = i.whole in let more = h.2 in let due = h.3 in let is = h.4 in omega arith
+faults_are_of_no_image image NoMemory ne h i = ne refl
 
 one_sizes : (peers table common out : ℕ) (a b : GeometryFault) → IsFirstFault peers table common out a → IsFirstFault peers table common out b → a ≡ b
 one_sizes peers table common out (BadPeers n) (BadPeers n') h g = ap BadPeers (h.1 ∙ sym g.1)
@@ -72,25 +72,25 @@ one_sizes peers table common out (TooLarge n) (BadPage Out n') h g = absurd (g.3
 one_sizes peers table common out (TooLarge n) (TableTooSmall n' m') h g = absurd (let few = g.4 in let many = h.4 in omega arith)
 one_sizes peers table common out (TooLarge n) (TooLarge n') h g = ap TooLarge (h.6 ∙ sym g.6)
 
-pub one_lem : FaultsAreOne
-one_lem image BadHeader BadHeader m n h g = refl
-one_lem image BadHeader (Geometry b) m n h g = absurd (h g.0)
-one_lem image BadHeader (ShortImage need found) m n h g = absurd (h g.0)
-one_lem image BadHeader (LongImage need found) m n h g = absurd (h g.0)
-one_lem image (Geometry a) BadHeader m n h g = absurd (g h.0)
-one_lem image (Geometry a) (Geometry b) m n h g = ap Geometry (one_sizes (peers_in image) (table_in image) (common_in image) (out_in image) a b h.1 g.1)
-one_lem image (Geometry a) (ShortImage need found) m n h g = absurd (no_region (peers_in image) (table_in image) (common_in image) (out_in image) a h.1 g.1)
-one_lem image (Geometry a) (LongImage need found) m n h g = absurd (no_region (peers_in image) (table_in image) (common_in image) (out_in image) a h.1 g.1)
-one_lem image (ShortImage need found) BadHeader m n h g = absurd (g h.0)
-one_lem image (ShortImage need found) (Geometry b) m n h g = absurd (no_region (peers_in image) (table_in image) (common_in image) (out_in image) b g.1 h.1)
-one_lem image (ShortImage need found) (ShortImage more there) m n h g = ap (λ k. ShortImage k found) (h.3 ∙ sym g.3) ∙ ap (ShortImage more) (h.4 ∙ sym g.4)
-one_lem image (ShortImage need found) (LongImage more there) m n h g = let a = h.2 in let b = h.3 in let c = h.4 in let d = g.2 in let e = g.3 in let f = g.4 in absurd (omega arith)
-one_lem image (LongImage need found) BadHeader m n h g = absurd (g h.0)
-one_lem image (LongImage need found) (Geometry b) m n h g = absurd (no_region (peers_in image) (table_in image) (common_in image) (out_in image) b g.1 h.1)
-one_lem image (LongImage need found) (ShortImage more there) m n h g = let a = h.2 in let b = h.3 in let c = h.4 in let d = g.2 in let e = g.3 in let f = g.4 in absurd (omega arith)
-one_lem image (LongImage need found) (LongImage more there) m n h g = ap (λ k. LongImage k found) (h.3 ∙ sym g.3) ∙ ap (LongImage more) (h.4 ∙ sym g.4)
-one_lem image NoMemory b m n h g = absurd (m refl)
-one_lem image BadHeader NoMemory m n h g = absurd (n refl)
-one_lem image (Geometry a) NoMemory m n h g = absurd (n refl)
-one_lem image (ShortImage need found) NoMemory m n h g = absurd (n refl)
-one_lem image (LongImage need found) NoMemory m n h g = absurd (n refl)
+pub faults_are_one : FaultsAreOne
+faults_are_one image BadHeader BadHeader m n h g = refl
+faults_are_one image BadHeader (Geometry b) m n h g = absurd (h g.0)
+faults_are_one image BadHeader (ShortImage need found) m n h g = absurd (h g.0)
+faults_are_one image BadHeader (LongImage need found) m n h g = absurd (h g.0)
+faults_are_one image (Geometry a) BadHeader m n h g = absurd (g h.0)
+faults_are_one image (Geometry a) (Geometry b) m n h g = ap Geometry (one_sizes (peers_in image) (table_in image) (common_in image) (out_in image) a b h.1 g.1)
+faults_are_one image (Geometry a) (ShortImage need found) m n h g = absurd (no_region (peers_in image) (table_in image) (common_in image) (out_in image) a h.1 g.1)
+faults_are_one image (Geometry a) (LongImage need found) m n h g = absurd (no_region (peers_in image) (table_in image) (common_in image) (out_in image) a h.1 g.1)
+faults_are_one image (ShortImage need found) BadHeader m n h g = absurd (g h.0)
+faults_are_one image (ShortImage need found) (Geometry b) m n h g = absurd (no_region (peers_in image) (table_in image) (common_in image) (out_in image) b g.1 h.1)
+faults_are_one image (ShortImage need found) (ShortImage more there) m n h g = ap (λ k. ShortImage k found) (h.3 ∙ sym g.3) ∙ ap (ShortImage more) (h.4 ∙ sym g.4)
+faults_are_one image (ShortImage need found) (LongImage more there) m n h g = let a = h.2 in let b = h.3 in let c = h.4 in let d = g.2 in let e = g.3 in let f = g.4 in absurd (omega arith)
+faults_are_one image (LongImage need found) BadHeader m n h g = absurd (g h.0)
+faults_are_one image (LongImage need found) (Geometry b) m n h g = absurd (no_region (peers_in image) (table_in image) (common_in image) (out_in image) b g.1 h.1)
+faults_are_one image (LongImage need found) (ShortImage more there) m n h g = let a = h.2 in let b = h.3 in let c = h.4 in let d = g.2 in let e = g.3 in let f = g.4 in absurd (omega arith)
+faults_are_one image (LongImage need found) (LongImage more there) m n h g = ap (λ k. LongImage k found) (h.3 ∙ sym g.3) ∙ ap (LongImage more) (h.4 ∙ sym g.4)
+faults_are_one image NoMemory b m n h g = absurd (m refl)
+faults_are_one image BadHeader NoMemory m n h g = absurd (n refl)
+faults_are_one image (Geometry a) NoMemory m n h g = absurd (n refl)
+faults_are_one image (ShortImage need found) NoMemory m n h g = absurd (n refl)
+faults_are_one image (LongImage need found) NoMemory m n h g = absurd (n refl)

@@ -114,5 +114,5 @@ one_body image a b h g =
     (one_sections image (queue_size (out_in image)) h.sections g.sections h.are_sections g.are_sections)
     ∙ sym g.lines_are
 
-pub listings_lem : ListingsAreOne
-listings_lem image a b h g = h.text_is ∙ ap (λ body. text_of (head_lines image ++ body ++ End ∷ [])) (one_body image h.body g.body h.is_body g.is_body) ∙ sym g.text_is
+pub listings_are_one : ListingsAreOne
+listings_are_one image a b h g = h.text_is ∙ ap (λ body. text_of (head_lines image ++ body ++ End ∷ [])) (one_body image h.body g.body h.is_body g.is_body) ∙ sym g.text_is

@@ -1,3 +1,3 @@
-pub mod Rooms
-pub mod Apart
-pub mod Tests
+pub mod SizesAreShape
+pub mod SectionsAreApart
+pub mod TestDecidesWrites

@@ -5,24 +5,24 @@ use Rattle.section_map.specs.MayWrite.{InSection, InCommon, InTable, MayWrite, m
 use Rattle.section_map.specs.declared.sizes.Section.{Section}
 
 -- Two different peers' output sections share no word.
-abbrev pub StandApart : Shape → Type 0
-StandApart g = (p q word : ℕ) → p ≢ q → InSection g p word → ¬ InSection g q word
+abbrev pub SectionsAreApart : Shape → Type 0
+SectionsAreApart g = (p q word : ℕ) → p ≢ q → InSection g p word → ¬ InSection g q word
 
 -- No peer may write a word of the State Table.
-abbrev pub KeepsTable : Shape → Type 0
-KeepsTable g = (peer word : ℕ) → MayWrite g peer word → ¬ InTable g word
+abbrev pub TableIsReadOnly : Shape → Type 0
+TableIsReadOnly g = (peer word : ℕ) → MayWrite g peer word → ¬ InTable g word
 
 -- Each word that a peer may write is in the region.
-abbrev pub StaysInside : Shape → Type 0
-StaysInside g = (peer word : ℕ) → peer < g.peers → MayWrite g peer word → word < word_count g
+abbrev pub WritesStayInside : Shape → Type 0
+WritesStayInside g = (peer word : ℕ) → peer < g.peers → MayWrite g peer word → word < word_count g
 
 -- A word that two different peers may write is in the common section.
-abbrev pub SharesCommon : Shape → Type 0
-SharesCommon g = (p q word : ℕ) → p ≢ q → MayWrite g p word → MayWrite g q word → InCommon g word
+abbrev pub OnlyCommonIsShared : Shape → Type 0
+OnlyCommonIsShared g = (p q word : ℕ) → p ≢ q → MayWrite g p word → MayWrite g q word → InCommon g word
 
 -- A word is in one section alone.
-abbrev pub LiesInOne : Shape → Type 0
-LiesInOne g = (word : ℕ) (s t : Section) → IsSectionOf g word s → IsSectionOf g word t → s ≡ t
+abbrev pub WordHasOneSection : Shape → Type 0
+WordHasOneSection g = (word : ℕ) (s t : Section) → IsSectionOf g word s → IsSectionOf g word t → s ≡ t
 
 -- The test decides which words a peer may write.
 abbrev pub TestDecidesWrites : Type 0

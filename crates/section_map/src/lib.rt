@@ -21,7 +21,7 @@ mod limits;
 mod regions;
 mod sizes;
 
-pub use laws::{sections_stand_apart, test_decides_writes};
+pub use laws::{sections_are_apart, test_decides_writes};
 pub use limits::{LARGEST_REGION, LEAST_PEERS, MOST_PEERS, PAGE, PAGE_WORDS, REGION_WORDS};
 pub use regions::{Denied, Outside, Region};
 pub use sizes::{Geometry, GeometryFault, Part, Section};

@@ -187,7 +187,7 @@ impl Geometry {
     }
 
     /// Returns the section that holds `word`.
-    // claim with sections_stand_apart.one: Each word lies in the section that is returned, and in
+    // claim with sections_are_apart.one: Each word lies in the section that is returned, and in
     //    no other.
     pub fn section_of(&self, word: u32) -> Section
         requires { word < word_count self.now }

@@ -32,8 +32,8 @@ at_within (x ∷ xs) zero a e = omega arith
 at_within (x ∷ xs) (suc k) a e = omega (arith, at_within xs k a e)
 
 -- The peer `from`, in the range of the holder `id`, made the action a.
-module _ (n : ℕ) (seat : ℕ → ℕ) (acc : ℕ → List (Action (MemoryOp CallAccess))) (id from : ℕ) (l : List (Action (MemoryOp CallAccess))) (ls : List (List (Action (MemoryOp CallAccess)))) (a : Action (MemoryOp CallAccess)) where
-  own : Fits n seat acc id (view from (l ∷ ls)) → Fits n seat (put acc from (l ++ a ∷ [])) id (view from ((l ++ a ∷ []) ∷ ls))
+module _ (n : ℕ) (holder : ℕ → ℕ) (acc : ℕ → List (Action (MemoryOp CallAccess))) (id from : ℕ) (l : List (Action (MemoryOp CallAccess))) (ls : List (List (Action (MemoryOp CallAccess)))) (a : Action (MemoryOp CallAccess)) where
+  own : Fits n holder acc id (view from (l ∷ ls)) → Fits n holder (put acc from (l ++ a ∷ [])) id (view from ((l ++ a ∷ []) ∷ ls))
   own f = record {
     inside = f.inside;
     mine = f.mine;
@@ -44,18 +44,18 @@ module _ (n : ℕ) (seat : ℕ → ℕ) (acc : ℕ → List (Action (MemoryOp Ca
       known zero m at = put_here acc from (from + 0) _ (omega arith) ∙ some-injective _ _ at
       known (suc k) m at = put_else acc from (from + suc k) _ (λ e. omega arith) ∙ f.known (suc k) m at
 
-  other : (j : ℕ) (v : View) → j ≢ id → seat from ≡ id → Fits n seat acc j v → Fits n seat (put acc from (l ++ a ∷ [])) j v
+  other : (j : ℕ) (v : View) → j ≢ id → holder from ≡ id → Fits n holder acc j v → Fits n holder (put acc from (l ++ a ∷ [])) j v
   other j v ne mine f = record {
     inside = f.inside;
     mine = f.mine;
-    known = λ k m at. put_else acc from (v.from + k) _ (λ e. ne (sym (f.mine k (at_within v.lists k m at)) ∙ (ap seat e ∙ mine))) ∙ f.known k m at;
+    known = λ k m at. put_else acc from (v.from + k) _ (λ e. ne (sym (f.mine k (at_within v.lists k m at)) ∙ (ap holder e ∙ mine))) ∙ f.known k m at;
   }
 
-  fits_after : (views : List View) → ((j : ℕ) (v : View) → get_elem? views j ≡ some v → Fits n seat acc j v) → get_elem? views id ≡ some (view from (l ∷ ls))
-      → (j : ℕ) (v : View) → get_elem? (set views id (view from ((l ++ a ∷ []) ∷ ls))) j ≡ some v → Fits n seat (put acc from (l ++ a ∷ [])) j v
+  fits_after : (views : List View) → ((j : ℕ) (v : View) → get_elem? views j ≡ some v → Fits n holder acc j v) → get_elem? views id ≡ some (view from (l ∷ ls))
+      → (j : ℕ) (v : View) → get_elem? (set views id (view from ((l ++ a ∷ []) ∷ ls))) j ≡ some v → Fits n holder (put acc from (l ++ a ∷ [])) j v
   fits_after views fits at j v e = let was = fits id _ at in ⊎_elim
-      (λ t. subst (λ i. Fits n seat (put acc from (l ++ a ∷ [])) i v) (sym t.0) (subst (Fits n seat (put acc from (l ++ a ∷ [])) id) t.1 (own was)))
-      (λ t. other j v t.0 (ap seat (omega arith) ∙ was.mine 0 (omega arith)) (fits j v t.1))
+      (λ t. subst (λ i. Fits n holder (put acc from (l ++ a ∷ [])) i v) (sym t.0) (subst (Fits n holder (put acc from (l ++ a ∷ [])) id) t.1 (own was)))
+      (λ t. other j v t.0 (ap holder (omega arith) ∙ was.mine 0 (omega arith)) (fits j v t.1))
       (at_set views id j _ v e)
 
   grows : acc from ≡ l → Appends acc (put acc from (l ++ a ∷ [])) from a
@@ -75,14 +75,14 @@ step_allowed key d f learned slots id i from (l ∷ ls) c room keep s k homes at
     let next = put k.acc from (l ++ a ∷ []) in
     let p : from < key.geometry.peers = let h = was.inside in omega arith in
     let mine : k.acc from ≡ l = ap k.acc (omega arith) ∙ was.known 0 l refl in
-    let kept : Memory key (set s.words i (f n)) next × learned n (more (view from (l ∷ ls)) a, c) = keep s.words k.acc next n refl k.fit p mine (grows key.geometry.peers k.seat k.acc id from l ls a mine) (put_here k.acc from from (l ++ a ∷ []) refl) k.memory in (
+    let kept : Memory key (set s.words i (f n)) next × learned n (more (view from (l ∷ ls)) a, c) = keep s.words k.acc next n refl k.fit p mine (grows key.geometry.peers k.holder k.acc id from l ls a mine) (put_here k.acc from from (l ++ a ∷ []) refl) k.memory in (
       more (view from (l ∷ ls)) a,
       keeps,
       tt,
       record {
-        seat = k.seat;
+        holder = k.holder;
         acc = next;
-        fits = fits_after key.geometry.peers k.seat k.acc id from l ls a s.views k.fits at;
+        fits = fits_after key.geometry.peers k.holder k.acc id from l ls a s.views k.fits at;
         fit = k.fit;
         memory = kept.0;
       },

@@ -62,22 +62,22 @@ module _ {A : Type 0} where
   at_drop (suc n) (y ∷ l) k x e = let h : suc n + k ≡ suc (n + k) = omega arith in ap (get_elem? (y ∷ l)) h ∙ at_drop n l k x e
 
 -- The holder of each peer in the range of the holder `id` is `id`.
-has_seat : (m : ℕ) (seat : ℕ → ℕ) (acc : ℕ → List (Action (MemoryOp CallAccess))) (id : ℕ) (v : View) (q : ℕ) → Fits m seat acc id v → v.from ≤ q → q < v.from + length v.lists → seat q ≡ id
-has_seat m seat acc id v q f lo hi = let e : q ≡ v.from + (q - v.from) = omega arith in ap seat e ∙ f.mine (q - v.from) (omega arith)
+has_holder : (m : ℕ) (holder : ℕ → ℕ) (acc : ℕ → List (Action (MemoryOp CallAccess))) (id : ℕ) (v : View) (q : ℕ) → Fits m holder acc id v → v.from ≤ q → q < v.from + length v.lists → holder q ≡ id
+has_holder m holder acc id v q f lo hi = let e : q ≡ v.from + (q - v.from) = omega arith in ap holder e ∙ f.mine (q - v.from) (omega arith)
 
 -- The view of another holder j, when a range of peers goes from the holder `was` to the holder n.
-beside : (m : ℕ) (seat : ℕ → ℕ) (acc : ℕ → List (Action (MemoryOp CallAccess))) (p e n was j : ℕ) (v : View) → ((q : ℕ) → p ≤ q → q < e → seat q ≡ was) → j ≢ was → Fits m seat acc j v → Fits m (moved seat p e n) acc j v
-beside m seat acc p e n was j v all ne f = record {
+beside : (m : ℕ) (holder : ℕ → ℕ) (acc : ℕ → List (Action (MemoryOp CallAccess))) (p e n was j : ℕ) (v : View) → ((q : ℕ) → p ≤ q → q < e → holder q ≡ was) → j ≢ was → Fits m holder acc j v → Fits m (moved holder p e n) acc j v
+beside m holder acc p e n was j v all ne f = record {
   inside = f.inside;
-  mine = λ k lt. moved_out seat p e n (v.from + k) (λ a b. ne (sym (f.mine k lt) ∙ all (v.from + k) a b)) ∙ f.mine k lt;
+  mine = λ k lt. moved_out holder p e n (v.from + k) (λ a b. ne (sym (f.mine k lt) ∙ all (v.from + k) a b)) ∙ f.mine k lt;
   known = f.known;
 }
 
 pub split_allowed : (key : RunSetup) (id from p : ℕ) (lists : List (List (Action (MemoryOp CallAccess)))) → from ≤ p → p ≤ from + length lists → Splits (TableInvariant key) id (view from lists) (lower p (view from lists)) (upper p (view from lists))
 split_allowed key id from p lists lo hi s k at = record {
-  seat = next;
+  holder = next;
   acc = k.acc;
-  fits = λ j v e. ⊎_elim (λ h. ⊎_elim (λ t. subst (λ i. Fits key.geometry.peers next k.acc i v) (sym t.0) (subst (Fits key.geometry.peers next k.acc id) t.1 left)) (λ t. beside key.geometry.peers k.seat k.acc p end n id j v all t.0 (k.fits j v t.1)) (at_set s.views id j _ v h))
+  fits = λ j v e. ⊎_elim (λ h. ⊎_elim (λ t. subst (λ i. Fits key.geometry.peers next k.acc i v) (sym t.0) (subst (Fits key.geometry.peers next k.acc id) t.1 left)) (λ t. beside key.geometry.peers k.holder k.acc p end n id j v all t.0 (k.fits j v t.1)) (at_set s.views id j _ v h))
       (λ t. let last = at_single _ v t.0 t.2 in let i = last.0 in let h = t.1 in let same : j ≡ n = omega (arith, length-set s.views id (lower p (view from lists))) in subst (λ i. Fits key.geometry.peers next k.acc i v) (sym same) (subst (Fits key.geometry.peers next k.acc n) last.1 right))
       (at_append (set s.views id (lower p (view from lists))) _ j v e);
   fit = k.fit;
@@ -91,34 +91,34 @@ split_allowed key id from p lists lo hi s k at = record {
     end = from + length lists
 
     next : ℕ → ℕ
-    next = moved k.seat p end n
+    next = moved k.holder p end n
 
-    was : Fits key.geometry.peers k.seat k.acc id (view from lists)
+    was : Fits key.geometry.peers k.holder k.acc id (view from lists)
     was = k.fits id _ at
 
-    all : (q : ℕ) → p ≤ q → q < end → k.seat q ≡ id
-    all q a b = has_seat key.geometry.peers k.seat k.acc id _ q was (omega arith) b
+    all : (q : ℕ) → p ≤ q → q < end → k.holder q ≡ id
+    all q a b = has_holder key.geometry.peers k.holder k.acc id _ q was (omega arith) b
 
     left : Fits key.geometry.peers next k.acc id (view from (take (p - from) lists))
     left = record {
       inside = let i = was.inside in omega (arith, length-take (p - from) lists);
-      mine = λ k' lt. moved_out k.seat p end n (from + k') (λ a b. omega (arith, length-take (p - from) lists)) ∙ was.mine k' (omega (arith, length-take (p - from) lists));
+      mine = λ k' lt. moved_out k.holder p end n (from + k') (λ a b. omega (arith, length-take (p - from) lists)) ∙ was.mine k' (omega (arith, length-take (p - from) lists));
       known = λ k' l e. was.known k' l (at_take (p - from) lists k' l e);
     }
 
     right : Fits key.geometry.peers next k.acc n (view p (drop (p - from) lists))
     right = record {
       inside = let i = was.inside in omega (arith, length-drop (p - from) lists);
-      mine = λ k' lt. moved_in k.seat p end n (p + k') (omega arith) (omega (arith, length-drop (p - from) lists));
+      mine = λ k' lt. moved_in k.holder p end n (p + k') (omega arith) (omega (arith, length-drop (p - from) lists));
       known = λ k' l e. let h : p + k' ≡ from + ((p - from) + k') = omega arith in ap k.acc h ∙ was.known ((p - from) + k') l (at_drop (p - from) lists k' l e);
     }
 
 pub join_allowed : (key : RunSetup) (id other : ℕ) (v u : View) → u.from ≡ v.from + length v.lists → Joins (TableInvariant key) id v other u (joined v u) (view 0 [])
 join_allowed key id other v u exchange_session_number s k at ne at_other = record {
-  seat = next;
+  holder = next;
   acc = k.acc;
   fits = λ j x e. ⊎_elim (λ t. subst (λ i. Fits key.geometry.peers next k.acc i x) (sym t.0) (subst (Fits key.geometry.peers next k.acc other) t.1 spent))
-      (λ t. ⊎_elim (λ y. subst (λ i. Fits key.geometry.peers next k.acc i x) (sym y.0) (subst (Fits key.geometry.peers next k.acc id) y.1 both)) (λ y. beside key.geometry.peers k.seat k.acc u.from end id other j x all t.0 (k.fits j x y.1)) (at_set s.views id j _ x t.1))
+      (λ t. ⊎_elim (λ y. subst (λ i. Fits key.geometry.peers next k.acc i x) (sym y.0) (subst (Fits key.geometry.peers next k.acc id) y.1 both)) (λ y. beside key.geometry.peers k.holder k.acc u.from end id other j x all t.0 (k.fits j x y.1)) (at_set s.views id j _ x t.1))
       (at_set (set s.views id (joined v u)) other j _ x e);
   fit = k.fit;
   memory = k.memory;
@@ -128,23 +128,23 @@ join_allowed key id other v u exchange_session_number s k at ne at_other = recor
     end = u.from + length u.lists
 
     next : ℕ → ℕ
-    next = moved k.seat u.from end id
+    next = moved k.holder u.from end id
 
-    was : Fits key.geometry.peers k.seat k.acc id v
+    was : Fits key.geometry.peers k.holder k.acc id v
     was = k.fits id _ at
 
-    theirs : Fits key.geometry.peers k.seat k.acc other u
-    theirs = k.fits other _ (⊎_elim (λ t. absurd (ne t.0)) (λ t. t.1) (at_set s.views id other _ _ at_other))
+    opposite : Fits key.geometry.peers k.holder k.acc other u
+    opposite = k.fits other _ (⊎_elim (λ t. absurd (ne t.0)) (λ t. t.1) (at_set s.views id other _ _ at_other))
 
-    all : (q : ℕ) → u.from ≤ q → q < end → k.seat q ≡ other
-    all q a b = has_seat key.geometry.peers k.seat k.acc other _ q theirs a b
+    all : (q : ℕ) → u.from ≤ q → q < end → k.holder q ≡ other
+    all q a b = has_holder key.geometry.peers k.holder k.acc other _ q opposite a b
 
     spent : Fits key.geometry.peers next k.acc other (view 0 [])
     spent = record { inside = omega arith; mine = λ k' lt. absurd (omega arith); known = λ k' l e. absurd (some-ne-none l (sym e)) }
 
     both : Fits key.geometry.peers next k.acc id (view v.from (v.lists ++ u.lists))
     both = record {
-      inside = let i = theirs.inside in omega (arith, length-append v.lists u.lists);
-      mine = λ k' lt. dite (dec_lt k' (length v.lists)) (λ a. moved_out k.seat u.from end id (v.from + k') (λ b c. omega arith) ∙ was.mine k' a) (λ a. moved_in k.seat u.from end id (v.from + k') (omega arith) (omega (arith, length-append v.lists u.lists)));
-      known = λ k' l e. ⊎_elim (λ h. was.known k' l h) (λ t. let h : v.from + k' ≡ u.from + t.0 = let g = t.1 in omega arith in ap k.acc h ∙ theirs.known t.0 l t.2) (at_append v.lists u.lists k' l e);
+      inside = let i = opposite.inside in omega (arith, length-append v.lists u.lists);
+      mine = λ k' lt. dite (dec_lt k' (length v.lists)) (λ a. moved_out k.holder u.from end id (v.from + k') (λ b c. omega arith) ∙ was.mine k' a) (λ a. moved_in k.holder u.from end id (v.from + k') (omega arith) (omega (arith, length-append v.lists u.lists)));
+      known = λ k' l e. ⊎_elim (λ h. was.known k' l h) (λ t. let h : v.from + k' ≡ u.from + t.0 = let g = t.1 in omega arith in ap k.acc h ∙ opposite.known t.0 l t.2) (at_append v.lists u.lists k' l e);
     }

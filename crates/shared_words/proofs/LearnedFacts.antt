@@ -46,7 +46,7 @@ at_all (suc n) a x (suc i) e = at_all n a x i e
 
 pub starts : (key : RunSetup) → IsFit key → TableInvariant key (opening (words_at_start key) [] (initial_view key))
 starts key fit = record {
-  seat = λ _. 0;
+  holder = λ _. 0;
   acc = λ _. [];
   fits = λ id v e. let t = at_only (initial_view key) v id e in subst (Fits key.geometry.peers (λ _. 0) (λ _. []) id) t.1 record {
     inside = let nil : List (Action (MemoryOp CallAccess)) = [] in omega (arith, length-replicate key.geometry.peers nil);
@@ -65,14 +65,14 @@ starts key fit = record {
 -- The pass of the words that were opened.
 pub opened_of : (key made : RunSetup) (t u : TableId) (me : Me ℕ View) (items : List ℕ) → IsFit key → items ≡ words_at_start key → t.words ≡ length items → u ≡ t → me ≡ (initial_view key, []) → made ≡ key →
     IsPassOf t made (held u me.0.from me.0.lists) × (me.0.from ≡ 0) × (length me.0.lists ≡ made.geometry.peers)
-opened_of key made t u me items fit same words seat me_is made_is = let nil : List (Action (MemoryOp CallAccess)) = [] in let size : length (replicate key.geometry.peers nil) ≡ key.geometry.peers = length-replicate key.geometry.peers nil in
+opened_of key made t u me items fit same words holder me_is made_is = let nil : List (Action (MemoryOp CallAccess)) = [] in let size : length (replicate key.geometry.peers nil) ≡ key.geometry.peers = length-replicate key.geometry.peers nil in
     subst (λ (k : RunSetup). IsPassOf t k (held u me.0.from me.0.lists) × (me.0.from ≡ 0) × (length me.0.lists ≡ k.geometry.peers)) (sym made_is)
     (subst (λ (m : Me ℕ View). IsPassOf t key (held u m.0.from m.0.lists) × (m.0.from ≡ 0) × (length m.0.lists ≡ key.geometry.peers)) (sym me_is)
-    ((seat, words ∙ (ap length same ∙ start_size key), omega arith, fit), refl, size))
+    ((holder, words ∙ (ap length same ∙ start_size key), omega arith, fit), refl, size))
 
 -- Each list of a pass with all peers is the one that the rule knows.
-reports_all : (n : ℕ) (seat : ℕ → ℕ) (acc : ℕ → List (Action (MemoryOp CallAccess))) (id : ℕ) (lists : List (List (Action (MemoryOp CallAccess)))) → Fits n seat acc id (view 0 lists) → (p : ℕ) → p < length lists → list_of lists p ≡ acc p
-reports_all n seat acc id lists f p lt = let h : p ≡ 0 + p = omega arith in sym (ap acc h ∙ f.known p (list_of lists p) (at lists p lt))
+reports_all : (n : ℕ) (holder : ℕ → ℕ) (acc : ℕ → List (Action (MemoryOp CallAccess))) (id : ℕ) (lists : List (List (Action (MemoryOp CallAccess)))) → Fits n holder acc id (view 0 lists) → (p : ℕ) → p < length lists → list_of lists p ≡ acc p
+reports_all n holder acc id lists f p lt = let h : p ≡ 0 + p = omega arith in sym (ap acc h ∙ f.known p (list_of lists p) (at lists p lt))
   where
     at : (l : List (List (Action (MemoryOp CallAccess)))) (k : ℕ) → k < length l → get_elem? l k ≡ some (list_of l k)
     at [] k lt = absurd (omega arith)
@@ -102,9 +102,9 @@ same_rung key acc next same r = record {
 never_borne : RunsKeepInvariant → HonestEndsAgree → (key : RunSetup) → IsFit key → honest_of key 0 ≡ true → honest_of key 1 ≡ true → (memory words : ℕ → ℕ) (acc : ℕ → List (MemoryOp CallAccess)) → OperationsMade key memory words acc → (p : ℕ) → p < 2 → NeverMarked key p (acc p)
 never_borne whole agree key fit a b memory words acc m = never_marked key (λ memory words acc m p p2. (none_refuses whole agree key memory words acc (is_link_config key fit) a b (reached_by key fit memory words acc m) p p2).1) memory words acc m
 
-learned_at : RunsKeepInvariant → SessionsArePaired → HonestEndsAgree → (key : RunSetup) (seat : ℕ → ℕ) (acc : ℕ → List (Action (MemoryOp CallAccess))) (words : List ℕ) (id from : ℕ) (lists : List (List (Action (MemoryOp CallAccess)))) → IsFit key → Fits key.geometry.peers seat acc id (view from lists) → Memory key words acc → IsLearned key from lists
-learned_at whole paired agree key seat acc words id from lists fit f m start all = let two = fit.shape.two_peers in let operations = made_by key words acc fit m in
-    let same : (p : ℕ) → p < key.geometry.peers → list_of lists p ≡ acc p = λ p lt. reports_all key.geometry.peers seat acc id lists (subst (λ k. Fits key.geometry.peers seat acc id (view k lists)) start f) p (omega arith) in record {
+learned_at : RunsKeepInvariant → SessionsArePaired → HonestEndsAgree → (key : RunSetup) (holder : ℕ → ℕ) (acc : ℕ → List (Action (MemoryOp CallAccess))) (words : List ℕ) (id from : ℕ) (lists : List (List (Action (MemoryOp CallAccess)))) → IsFit key → Fits key.geometry.peers holder acc id (view from lists) → Memory key words acc → IsLearned key from lists
+learned_at whole paired agree key holder acc words id from lists fit f m start all = let two = fit.shape.two_peers in let operations = made_by key words acc fit m in
+    let same : (p : ℕ) → p < key.geometry.peers → list_of lists p ≡ acc p = λ p lt. reports_all key.geometry.peers holder acc id lists (subst (λ k. Fits key.geometry.peers holder acc id (view k lists)) start f) p (omega arith) in record {
       pair = λ a b. same_two key (accesses_by acc) (accesses_by (list_of lists)) (λ p p2. ap accesses_in (same p (omega arith)))
           (are_learned whole paired agree key (region key words) (session_words key words) (accesses_by acc) (is_link_config key fit) a b (reached_by key fit _ _ _ operations) (never_borne whole agree key fit a b _ _ _ operations));
       woken = λ ev a b p frame p2 asked. let one = same p (omega arith) in let other = same (1 - p) (omega arith) in
@@ -120,11 +120,11 @@ learn_allowed whole paired agree key slots id me then reports s k homes at fits 
   keeps,
   tt,
   record {
-    seat = k.seat;
+    holder = k.holder;
     acc = k.acc;
-    fits = subst (λ vs. (j : ℕ) (v : View) → get_elem? vs j ≡ some v → Fits key.geometry.peers k.seat k.acc j v) (sym (set_again s.views id me.0 at)) k.fits;
+    fits = subst (λ vs. (j : ℕ) (v : View) → get_elem? vs j ≡ some v → Fits key.geometry.peers k.holder k.acc j v) (sym (set_again s.views id me.0 at)) k.fits;
     fit = k.fit;
     memory = subst (λ ws. Memory key ws k.acc) (sym (put_back s.words 0 _ refl)) k.memory;
   },
-  reports _ _ (refl, learned_at whole paired agree key k.seat k.acc s.words id me.0.from me.0.lists k.fit was k.memory),
+  reports _ _ (refl, learned_at whole paired agree key k.holder k.acc s.words id me.0.from me.0.lists k.fit was k.memory),
 )

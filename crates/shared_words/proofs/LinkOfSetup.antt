@@ -16,8 +16,8 @@ same_section key (suc zero) p2 = omega arith
 same_section key (suc (suc p)) p2 = absurd (omega arith)
 
 pub same_config : (key : RunSetup) (p : ℕ) → p < 2 → config_in key p ≡ config_of (link_config_of key) p
-same_config key zero p2 = let a = same_section key 0 (omega arith) in let b = same_section key 1 (omega arith) in λ i. record (config_in key 0) { own = a i; theirs = b i }
-same_config key (suc zero) p2 = let a = same_section key 0 (omega arith) in let b = same_section key 1 (omega arith) in λ i. record (config_in key 1) { own = b i; theirs = a i }
+same_config key zero p2 = let a = same_section key 0 (omega arith) in let b = same_section key 1 (omega arith) in λ i. record (config_in key 0) { own = a i; other_start = b i }
+same_config key (suc zero) p2 = let a = same_section key 0 (omega arith) in let b = same_section key 1 (omega arith) in λ i. record (config_in key 1) { own = b i; other_start = a i }
 same_config key (suc (suc p)) p2 = absurd (omega arith)
 
 pub is_link_config : (key : RunSetup) → IsFit key → IsLinkConfig (link_config_of key)

@@ -24,10 +24,10 @@ use Rattle.link_invariant.specs.Pair.{Pair}
 use Rattle.link_invariant.specs.Wake.{EventIndexIs, Asks}
 use Rattle.link_invariant.proofs.Fields.{fields_same, theirs_stay}
 use Rattle.link_invariant.proofs.EndInvariantKept.{alone_kept}
-use Rattle.link_invariant.proofs.RunsKept.{whole_lem}
-use Rattle.link_invariant.proofs.DoorbellIsRung.{wake_lem}
+use Rattle.link_invariant.proofs.RunsKept.{runs_keep_invariant}
+use Rattle.link_invariant.proofs.DoorbellIsRung.{asked_doorbell_is_rung}
 use Rattle.pair_sessions.specs.Numbers.{Numbers, no_numbers, numbers_after}
-use Rattle.pair_sessions.proofs.SessionsArePaired.{paired_lem}
+use Rattle.pair_sessions.proofs.SessionsArePaired.{sessions_are_paired}
 use Rattle.shared_words.specs.DerivedStates.{FrameNumber, accepted_last, delivered_next, DoorbellRequest, Nowhere, At, event_word, Wake, wake_after, DerivedState, begun, moved, derived_state_after_reset}
 use Rattle.shared_words.proofs.PeersRun.{OnlyComes, Reached}
 use Rattle.shared_words.proofs.PeersRun as reaches
@@ -217,7 +217,7 @@ module _ (link_config : LinkConfig) (is : IsLinkConfig link_config) (ev : has_ev
 
   moved_own : Own link_config after p after_p
   moved_own = record {
-    asks = asks_on config (EventIndexIs link_config after p) event n m value (st p).wake (EventIndexIs link_config memory p) (st p).place (λ taken at. wake_lem.arms link_config memory after (ends_of st) (ends_of next) (places_of st) (places_of next) p taken value is p2 pair step at) (was.own p p2).asks;
+    asks = asks_on config (EventIndexIs link_config after p) event n m value (st p).wake (EventIndexIs link_config memory p) (st p).place (λ taken at. asked_doorbell_is_rung.arms link_config memory after (ends_of st) (ends_of next) (places_of st) (places_of next) p taken value is p2 pair step at) (was.own p p2).asks;
     missed = λ f c. ⊎_elim (λ h. moved_over f ((was.own p p2).missed f h)) (λ h. read_over h.0 f h.1 h.3) (missed_from config event n m f value (st p).wake (st p).place c);
   }
 
@@ -249,7 +249,7 @@ module _ (link_config : LinkConfig) (is : IsLinkConfig link_config) (ev : has_ev
           let held : PlaceInvariant link_config memory p (st p).end (ReadingAvailIndex taken new.1) = subst (λ (x : Place). PlaceInvariant link_config memory p (st p).end x) at holds in
           let number : taken ≡ f.number = held.1 ∙ sym (ap (λ (x : FrameNumber). x.number) new.5) in
           let session : f.session ≡ (st (1 - p)).numbers.log.opened = ap (λ (x : FrameNumber). x.session) new.5 ∙ carries (run_is (st p).end.handshake.phase held.0) in
-          let asks = subst (Asks link_config memory (ends_of st) (places_of st) p) number (wake_lem.looks link_config memory (ends_of st) (places_of st) p taken value new.1 is p2 pair at step.meets new.3 stands) in
+          let asks = subst (Asks link_config memory (ends_of st) (places_of st) p) number (asked_doorbell_is_rung.looks link_config memory (ends_of st) (places_of st) p taken value new.1 is p2 pair at step.meets new.3 stands) in
           waits_on link_config memory after st next p f (event_stays link_config memory after p a is p2 step.leaves (subst (λ (x : Place). LeavesEvent event (access_at config x)) (sym at) tt)) other_is (inl (session, asks))
 
   -- And the requests of the other.
@@ -300,7 +300,7 @@ module _ (link_config : LinkConfig) (is : IsLinkConfig link_config) (ev : has_ev
           (λ h. inl (subst (λ x. f.session ≡ (next x).numbers.log.opened) (sym other) (session ∙ sym (ap (λ (s : DerivedState). s.numbers.log.opened) only.here ∙ opened_same (st p).numbers (st p).end a ne)), h))
           (λ h. let rings = sym (ap (λ (s : DerivedState). s.place) only.here) ∙ (ap (λ x. (next x).place) (sym other) ∙ h) in
           let from = rings_from config (st p).place value ev step.opened rings in rings_at q f other asks (keep q back) from.0 from.1 from.2 rings free)
-          (wake_lem.others link_config memory after (ends_of st) (ends_of next) (places_of st) (places_of next) q f.number value is q2 pair (subst (λ x. TakesStep link_config memory after (ends_of st) (ends_of next) (places_of st) (places_of next) x value) (sym other) step) asks.1)
+          (asked_doorbell_is_rung.others link_config memory after (ends_of st) (ends_of next) (places_of st) (places_of next) q f.number value is q2 pair (subst (λ x. TakesStep link_config memory after (ends_of st) (ends_of next) (places_of st) (places_of next) x value) (sym other) step) asks.1)
 
   watched_moved : Watched link_config after next
   watched_moved = record {
@@ -386,11 +386,11 @@ watched_numbers link_config memory st next p s only log was = record {
 
 module _ (link_config : LinkConfig) (is : IsLinkConfig link_config) (ev : has_events link_config.sizes ≡ true) (honest : ℕ → Bool) (a : honest 0 ≡ true) (b : honest 1 ≡ true) where
   pair_at : (memory words : ℕ → ℕ) (st : ℕ → DerivedState) → Reached link_config honest memory words st → Pair link_config memory (ends_of st) (places_of st)
-  pair_at memory words st r = (whole_lem link_config honest memory (ends_of st) (places_of st) is (reached_runs link_config honest memory words st r)).pair a b
+  pair_at memory words st r = (runs_keep_invariant link_config honest memory (ends_of st) (places_of st) is (reached_runs link_config honest memory words st r)).pair a b
 
   -- In RUN an end carries the session that the other opened last.
   carries_at : (memory words : ℕ → ℕ) (st : ℕ → DerivedState) → Reached link_config honest memory words st → (p : ℕ) → p < 2 → state_of (st p).end.handshake.phase ≡ 3 → (st p).numbers.log.carried ≡ (st (1 - p)).numbers.log.opened
-  carries_at memory words st r p p2 run = (((paired_lem link_config memory words (ends_of st) (places_of st) (numbers_of st) is (reached_numbered link_config honest is a b memory words st r)).1.3 p p2).2.deliver.present run).0
+  carries_at memory words st r p p2 run = (((sessions_are_paired link_config memory words (ends_of st) (places_of st) (numbers_of st) is (reached_numbered link_config honest is a b memory words st r)).1.3 p p2).2.deliver.present run).0
 
   watched : (memory words : ℕ → ℕ) (st : ℕ → DerivedState) → Reached link_config honest memory words st → Watched link_config memory st
   watched memory words st (reaches.starts _ _ _ zeros none at) = record {

@@ -37,12 +37,12 @@ IsPlain (Over ∷ marks) = ⊥
 IsPlain (mark ∷ marks) = HasNoLook marks
 
 no_look_if : (b : Bool) (m n : List Mark) → HasNoLook m → HasNoLook n → HasNoLook (if b then m else n)
-no_look_if true m n mine theirs = mine
-no_look_if false m n mine theirs = theirs
+no_look_if true m n mine opposite = mine
+no_look_if false m n mine opposite = opposite
 
 plain_if : (b : Bool) (m n : List Mark) → IsPlain m → IsPlain n → IsPlain (if b then m else n)
-plain_if true m n mine theirs = mine
-plain_if false m n mine theirs = theirs
+plain_if true m n mine opposite = mine
+plain_if false m n mine opposite = opposite
 
 plain_tick : (value : ℕ) (move : Move) → IsPlain (tick_marks value move)
 plain_tick value Stay = tt
@@ -151,8 +151,8 @@ is_still (ReadingAvailIndex taken last) = false
 is_still place = true
 
 still_if : (b : Bool) (x y : Place) → is_still x ≡ true → is_still y ≡ true → is_still (if b then x else y) ≡ true
-still_if true x y mine theirs = mine
-still_if false x y mine theirs = theirs
+still_if true x y mine opposite = mine
+still_if false x y mine opposite = opposite
 
 clear_still : (at count state : ℕ) → is_still (clear_place at count state) ≡ true
 clear_still at zero state = refl
@@ -239,8 +239,8 @@ free_asks Stands a (ReadingAvailIndex taken last) ne = λ e. absurd (ne e)
 free_asks Stands a place ne = tt
 
 asks_if : (Stands : ℕ → Type 0) (a : DoorbellRequest) (b : Bool) (x y : Place) → AsksAt Stands a x → AsksAt Stands a y → AsksAt Stands a (if b then x else y)
-asks_if Stands a true x y mine theirs = mine
-asks_if Stands a false x y mine theirs = theirs
+asks_if Stands a true x y mine opposite = mine
+asks_if Stands a false x y mine opposite = opposite
 
 clear_asks : (Stands : ℕ → Type 0) (a : DoorbellRequest) (at count state : ℕ) → AsksAt Stands a (clear_place at count state)
 clear_asks Stands a at zero state = tt
@@ -295,8 +295,8 @@ has_free next a [] has = absurd has
 has_free next a (mark ∷ marks) has = free_after next a mark marks
 
 has_if : (b : Bool) (m n : List Mark) → HasMark m → HasMark n → HasMark (if b then m else n)
-has_if true m n mine theirs = mine
-has_if false m n mine theirs = theirs
+has_if true m n mine opposite = mine
+has_if false m n mine opposite = opposite
 
 has_tick : (value : ℕ) (move : Move) → HasMark (tick_marks value move)
 has_tick value Stay = tt
@@ -471,8 +471,8 @@ if_rings true e = refl
 if_rings false e = absurd (cc)
 
 rings_if : (b : Bool) (x y : Place) → x ≢ RingingOffer → y ≢ RingingOffer → (if b then x else y) ≢ RingingOffer
-rings_if true x y mine theirs = mine
-rings_if false x y mine theirs = theirs
+rings_if true x y mine opposite = mine
+rings_if false x y mine opposite = opposite
 
 clear_rings : (at count state : ℕ) → clear_place at count state ≢ RingingOffer
 clear_rings at zero state = λ e. cc

@@ -11,7 +11,7 @@ use Rattle.link_invariant.specs.Runs as runs
 use Rattle.link_invariant.specs.Runs.{Runs, RunsKeepInvariant}
 use Rattle.link_invariant.specs.LinkInvariant.{HonestEndsAgree}
 use Rattle.link_invariant.specs.EndInvariant.{PlaceInvariant}
-use Rattle.link_invariant.proofs.RunsKept.{whole_lem}
+use Rattle.link_invariant.proofs.RunsKept.{runs_keep_invariant}
 use Rattle.pair_sessions.specs.Numbers as numbers
 use Rattle.pair_sessions.specs.Numbers.{Numbers, OnlyNumbers, NumberedRuns, SessionsArePaired}
 use Rattle.shared_words.specs.declared.run_setup.RunSetup.{RunSetup}
@@ -90,7 +90,7 @@ reached_numbered link_config honest is a b after words next (reaches.resets memo
     (record { stored = stored; comes = comes st next p _ only }) (numbers_come st next p _ only)
 reached_numbered link_config honest is a b memory now next (reaches.stores _ words _ st _ p k p2 hp place stored only) =
     let end = kept_by (λ s. s.end) st next p _ only refl in let at = kept_by (λ s. s.place) st next p _ only refl in
-    let alone = (whole_lem link_config honest memory (ends_of st) (places_of st) is (reached_runs link_config honest memory words st k)).alone p p2 hp in
+    let alone = (runs_keep_invariant link_config honest memory (ends_of st) (places_of st) is (reached_runs link_config honest memory words st k)).alone p p2 hp in
     subst (λ (e : ℕ → End). NumberedRuns link_config memory now e (places_of next) (numbers_of next)) (λ i q. end q i) (subst (λ (f : ℕ → Place). NumberedRuns link_config memory now (ends_of st) f (numbers_of next)) (λ i q. at q i)
     (numbers.stores memory words now (ends_of st) (places_of st) (numbers_of st) (numbers_of next) p (reached_numbered link_config honest is a b memory words st k) p2
     (init_at link_config memory p (st p).end (st p).place alone.holds place) stored.here stored.neighbour_word (numbers_come st next p _ only)))

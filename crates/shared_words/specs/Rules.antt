@@ -42,18 +42,18 @@ pub record Memory (key : RunSetup) (words : List ℕ) (acc : ℕ → List (Actio
   pub happened : ActionsMade key (λ w. slice_index words w) acc
 
 -- The holder `id` of a range of peers has the view `v`. The range is within the `peers` peers,
--- `seat` maps each peer of the range to `id`, and `v` has the list of each by `acc`.
-pub record Fits (peers : ℕ) (seat : ℕ → ℕ) (acc : ℕ → List (Action (MemoryOp CallAccess))) (id : ℕ) (v : View) : Type 0 where
+-- `holder` maps each peer of the range to `id`, and `v` has the list of each by `acc`.
+pub record Fits (peers : ℕ) (holder : ℕ → ℕ) (acc : ℕ → List (Action (MemoryOp CallAccess))) (id : ℕ) (v : View) : Type 0 where
   pub inside : v.from + length v.lists ≤ peers
-  pub mine : (k : ℕ) → k < length v.lists → seat (v.from + k) ≡ id
+  pub mine : (k : ℕ) → k < length v.lists → holder (v.from + k) ≡ id
   pub known : (k : ℕ) (l : List (Action (MemoryOp CallAccess))) → get_elem? v.lists k ≡ some l → acc (v.from + k) ≡ l
 
--- Each peer has one holder, by `seat`, and one list of actions, by `acc`. The lists made the
+-- Each peer has one holder, by `holder`, and one list of actions, by `acc`. The lists made the
 -- words.
 pub record TableInvariant (key : RunSetup) (s : State ℕ View) : Type 0 where
-  pub seat : ℕ → ℕ
+  pub holder : ℕ → ℕ
   pub acc : ℕ → List (Action (MemoryOp CallAccess))
-  pub fits : (id : ℕ) (v : View) → get_elem? s.views id ≡ some v → Fits key.geometry.peers seat acc id v
+  pub fits : (id : ℕ) (v : View) → get_elem? s.views id ≡ some v → Fits key.geometry.peers holder acc id v
   pub fit : IsFit key
   pub memory : Memory key s.words acc
 

@@ -94,7 +94,7 @@ can world_state me config (access.Read word) placed (inl is) rings =
     let states = placed.is_shape.states in let other = placed.other in omega arith
 can world_state me config (access.Read word) placed (inr there) rings =
     let fits = section_fits config.other world_state.region.shape.peers world_state.region.shape.out placed.other in
-    let theirs = placed.theirs in
+    let other_start = placed.other_start in
     let words = placed.words in
     let high = there.1 in omega arith
 can world_state me config (access.Write word value) placed reach rings =

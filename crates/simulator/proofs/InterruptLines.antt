@@ -45,12 +45,12 @@ known_at words value past word holds at = grind (arith, common_steps, gets, hold
 pub read_after : (world : World) (output : Output) (past : List Line) (losses : ℕ → ℕ) (s s' : WorldState) (me word value : ℕ) → WorldStateAfter world output past losses s → slice_get s.region.words word ≡ Some value →
     s'.region ≡ s.region → s'.device ≡ s.device → s'.unspent ≡ s.unspent → Records (line.Read me word value) s.log s'.log →
     (value ≡ last_write past word) × WorldStateAfter world output (line.Read me word value ∷ past) losses s'
-read_after world output past losses s s' me word value after at region device unspent tells = (
+read_after world output past losses s s' me word value after at region device unspent log_step = (
   known_at s.region.words value past word after.words at,
   record {
     is_world = after.is_world;
     shape = ap (λ r. r.shape) region ∙ after.shape;
-    log = tells world output past refl after.log;
+    log = log_step world output past refl after.log;
     words = rw region after.words;
     devices = rw device after.devices;
     unspent = λ p. let u = after.unspent p in rw unspent (omega arith);
@@ -79,12 +79,12 @@ left_less unspent q p lost inside some = grind (arith, common_steps, nat_tests)
 
 pub comes : (world : World) (output : Output) (past : List Line) (losses : ℕ → ℕ) (s s' : WorldState) (d : Delivery) → WorldStateAfter world output past losses s → slice_index_or s.unspent d.peer 0 ≡ 0 → s'.region ≡ s.region → s'.device ≡ s.device →
     s'.unspent ≡ s.unspent → Records (line.Interrupt d.peer d.vector) s.log s'.log → WorldStateAfter world output (delivery_line past losses d ∷ past) losses s'
-comes world output past losses s s' d after none region device unspent tells =
+comes world output past losses s s' d after none region device unspent log_step =
     let is : delivery_line past losses d ≡ line.Interrupt d.peer d.vector = came _ d.peer d.vector (loses_no_more (lost_count past d.peer) (losses d.peer) (slice_index_or s.unspent d.peer 0) (after.unspent d.peer) none) in
     rw is (record {
       is_world = after.is_world;
       shape = ap (λ r. r.shape) region ∙ after.shape;
-      log = tells world output past refl after.log;
+      log = log_step world output past refl after.log;
       words = rw region after.words;
       devices = rw device after.devices;
       unspent = λ p. let u = after.unspent p in rw unspent (omega arith);
@@ -94,13 +94,13 @@ comes world output past losses s s' d after none region device unspent tells =
 pub is_lost : (world : World) (output : Output) (past : List Line) (losses : ℕ → ℕ) (s s' : WorldState) (d : Delivery) → WorldStateAfter world output past losses s → d.peer < 8 → 0 < slice_index_or s.unspent d.peer 0 → s'.region ≡ s.region →
     s'.device ≡ s.device → s'.unspent ≡ slice_set s.unspent d.peer (slice_index_or s.unspent d.peer 0 - 1) → Records (line.Lost d.peer d.vector) s.log s'.log →
     WorldStateAfter world output (delivery_line past losses d ∷ past) losses s'
-is_lost world output past losses s s' d after few some region device unspent tells =
+is_lost world output past losses s s' d after few some region device unspent log_step =
     let is : delivery_line past losses d ≡ line.Lost d.peer d.vector = went_lost _ d.peer d.vector (loses_less (lost_count past d.peer) (losses d.peer) (slice_index_or s.unspent d.peer 0) (after.unspent d.peer) some) in
     let peer_states = after.peer_states in
     rw is (record {
       is_world = after.is_world;
       shape = ap (λ r. r.shape) region ∙ after.shape;
-      log = tells world output past refl after.log;
+      log = log_step world output past refl after.log;
       words = rw region after.words;
       devices = rw device after.devices;
       unspent = λ p. rw unspent (left_less s.unspent d.peer p (lost_count past p) (omega arith) some ∙ after.unspent p);
@@ -111,10 +111,10 @@ is_lost world output past losses s s' d after few some region device unspent tel
 pub recorded_after : (world : World) (output : Output) (past : List Line) (losses : ℕ → ℕ) (s s' : WorldState) (line : Line) (event : device.Event) → WorldStateAfter world output past losses s → device_event_of line ≡ Some event → ((p : ℕ) → lost_by line p ≡ 0) →
     has_frame line ≡ true → WordsAre s'.region.words (line ∷ past) → s'.region.shape ≡ s.region.shape → Refines (devices_of world) (event ∷ device_events past) s'.device.value → s'.unspent ≡ s.unspent →
     Records line s.log s'.log → WorldStateAfter world output (line ∷ past) losses s'
-recorded_after world output past losses s s' line event after recorded lost frame words shape devices unspent tells = record {
+recorded_after world output past losses s s' line event after recorded lost frame words shape devices unspent log_step = record {
   is_world = after.is_world;
   shape = shape ∙ after.shape;
-  log = tells world output past frame after.log;
+  log = log_step world output past frame after.log;
   words = words;
   devices = rw recorded devices;
   unspent = λ p. let u = after.unspent p in let none = lost p in rw unspent (omega arith);
@@ -143,10 +143,10 @@ come_after P world past losses line (Some event) deliveries brings holds =
 -- A line that changes nothing, after the others.
 pub remarked : (world : World) (output : Output) (past : List Line) (losses : ℕ → ℕ) (s s' : WorldState) (line : Line) → WorldStateAfter world output past losses s → IsMark line →
     s'.region ≡ s.region → s'.device ≡ s.device → s'.unspent ≡ s.unspent → Records line s.log s'.log → WorldStateAfter world output (line ∷ past) losses s'
-remarked world output past losses s s' line after record_mark region device unspent tells = record {
+remarked world output past losses s s' line after record_mark region device unspent log_step = record {
   is_world = after.is_world;
   shape = ap (λ r. r.shape) region ∙ after.shape;
-  log = tells world output past record_mark.frame after.log;
+  log = log_step world output past record_mark.frame after.log;
   words = rw region (λ word inside. after.words word inside ∙ ap (λ t. value_after t word (last_write past word)) (sym record_mark.touch));
   devices = rw (device, record_mark.recorded) after.devices;
   unspent = λ p. let u = after.unspent p in let none = record_mark.lost p in rw unspent (omega arith);

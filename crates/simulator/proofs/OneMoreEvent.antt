@@ -39,13 +39,13 @@ use Rattle.simulator.specs.declared.peer_state.PeerState.TheVariants.{Honest, St
 use Rattle.simulator.specs.declared.link.Link.{Link}
 use Rattle.simulator.specs.declared.simulator.Simulator.{Simulator}
 
-run-snoc : (world : World) (events : List Event) (event : Event) (moment : HistoryState) → run world (events ++ event ∷ []) moment ≡ after_event world (run world events moment) event
-run-snoc world [] event moment = refl
-run-snoc world (x ∷ events) event moment = run-snoc world events event (after_event world moment x)
+run-snoc : (world : World) (events : List Event) (event : Event) (so_far : HistoryState) → run world (events ++ event ∷ []) so_far ≡ after_event world (run world events so_far) event
+run-snoc world [] event so_far = refl
+run-snoc world (x ∷ events) event so_far = run-snoc world events event (after_event world so_far x)
 
-run_count : (world : World) (events : List Event) (moment : HistoryState) → length (run world events moment).peers ≡ length moment.peers
-run_count world [] moment = refl
-run_count world (event ∷ events) moment = run_count world events (after_event world moment event) ∙ length-set moment.peers (event_peer event) (peer_after world moment event)
+run_count : (world : World) (events : List Event) (so_far : HistoryState) → length (run world events so_far).peers ≡ length so_far.peers
+run_count world [] so_far = refl
+run_count world (event ∷ events) so_far = run_count world events (after_event world so_far event) ∙ length-set so_far.peers (event_peer event) (peer_after world so_far event)
 
 moment_count : (world : World) (events : List Event) → length (history_state_after world events).peers ≡ world.geometry.peers
 moment_count world events = run_count world events (initial_state world) ∙ length-replicate world.geometry.peers at_start
@@ -54,9 +54,9 @@ there-snoc : (P : Event → Type 0) (events : List Event) (event : Event) → Al
 there-snoc P [] event all here = (here, tt)
 there-snoc P (x ∷ events) event all here = (all.0, there-snoc P events event all.1 here)
 
-good_run : CallsArePermitted → (world : World) (events : List Event) (moment : HistoryState) → IsWorld world → AllByRecursion (IsPermittedEvent world) events → Good world moment → Good world (run world events moment)
-good_run reach world [] moment is there good = good
-good_run reach world (event ∷ events) moment is there good = good_run reach world events (after_event world moment event) is there.1 (good_on reach world moment event is there.0 good)
+good_run : CallsArePermitted → (world : World) (events : List Event) (so_far : HistoryState) → IsWorld world → AllByRecursion (IsPermittedEvent world) events → Good world so_far → Good world (run world events so_far)
+good_run reach world [] so_far is there good = good
+good_run reach world (event ∷ events) so_far is there good = good_run reach world events (after_event world so_far event) is there.1 (good_on reach world so_far event is there.0 good)
 
 -- Each peer of a running simulator is fit for its calls.
 pub fit_at : CallsArePermitted → (world : World) (events : List Event) (p : ℕ) → IsWorld world → AllByRecursion (IsPermittedEvent world) events → IsFit (config_of world p) (peer_at (history_state_after world events) p)
@@ -102,43 +102,43 @@ past_of world past losses event went = reverse (lines_by event went (device_line
 
 -- The lines and losses after an event.
 abbrev pub past_after : World → HistoryState → Event → List Line
-past_after world moment event = (after_event world moment event).past
+past_after world so_far event = (after_event world so_far event).past
 
 -- One event of a peer, with the peer state and the world state after it.
-pub record OneMore (world : World) (output : Output) (moment : HistoryState) (event : Event) (s s' : Simulator) (peer_state : PeerState) : Type 0 where
+pub record OneMore (world : World) (output : Output) (so_far : HistoryState) (event : Event) (s s' : Simulator) (peer_state : PeerState) : Type 0 where
   pub items : s'.peer_states.items ≡ slice_set s.peer_states.items (event_peer event) peer_state
   pub sizes : s'.sizes ≡ s.sizes
-  pub after : WorldStateAfter world output (past_after world moment event) (losses_with event moment.losses) s'.world_state
+  pub after : WorldStateAfter world output (past_after world so_far event) (losses_with event so_far.losses) s'.world_state
   pub seated : (p : ℕ) → HasPeer s.world_state p → HasPeer s'.world_state p
-  pub refines : PeerStateRefines (config_of world (event_peer event)) (peer_after world moment event) peer_state
+  pub refines : PeerStateRefines (config_of world (event_peer event)) (peer_after world so_far event) peer_state
   pub linked : is_honest peer_state ≡ is_link world (event_peer event)
 
 stands_on : (world : World) (output : Output) (events : List Event) (event : Event) (s s' : Simulator) (peer_state : PeerState) → OneMore world output (history_state_after world events) event s s' peer_state → event_peer event < world.geometry.peers → RunsTo world output events s →
     (k : ℕ) (found : PeerState) (b : Bool) → (event_peer event == k) ≡ b → slice_get (slice_set s.peer_states.items (event_peer event) peer_state) k ≡ Some found →
     PeerStateRefines (config_of world k) (peer_at (after_event world (history_state_after world events) event) k) found × (is_honest found ≡ is_link world k)
 stands_on world output events event s s' peer_state more inside runs k found true is at =
-    let moment = history_state_after world events in
+    let so_far = history_state_after world events in
     let p = event_peer event in
     let same : p ≡ k = is_same p k is in
-    let here : peer_at (after_event world moment event) p ≡ peer_after world moment event = get_or-set_same moment.peers p (peer_after world moment event) at_start (omega (arith, moment_count world events)) in
+    let here : peer_at (after_event world so_far event) p ≡ peer_after world so_far event = get_or-set_same so_far.peers p (peer_after world so_far event) at_start (omega (arith, moment_count world events)) in
     let peer_state_is : peer_state ≡ found = set_at s.peer_states.items p k peer_state found (sym same) at in
-    let P : ℕ → PeerState → Type 0 = λ q x. PeerStateRefines (config_of world q) (peer_at (after_event world moment event) q) x × (is_honest x ≡ is_link world q) in
+    let P : ℕ → PeerState → Type 0 = λ q x. PeerStateRefines (config_of world q) (peer_at (after_event world so_far event) q) x × (is_honest x ≡ is_link world q) in
     let now : P p peer_state = (subst (λ (x : Peer). PeerStateRefines (config_of world p) x peer_state) (sym here) more.refines, more.linked) in
     subst (λ (q : ℕ). P q found) same (subst (λ (x : PeerState). P p x) peer_state_is now)
 stands_on world output events event s s' peer_state more inside runs k found false is at =
-    let moment = history_state_after world events in
+    let so_far = history_state_after world events in
     let p = event_peer event in
     let other : k ≢ p = is_other p k is in
-    let here : peer_at (after_event world moment event) k ≡ peer_at moment k = get_or-set_other moment.peers p k (peer_after world moment event) at_start other in
+    let here : peer_at (after_event world so_far event) k ≡ peer_at so_far k = get_or-set_other so_far.peers p k (peer_after world so_far event) at_start other in
     let old : slice_get s.peer_states.items k ≡ Some found = sym (set_beside s.peer_states.items p k peer_state other) ∙ at in
     (subst (λ (x : Peer). PeerStateRefines (config_of world k) x found) (sym here) (runs.refines k found old), runs.linked k found old)
 
 pub goes_on : (world : World) (output : Output) (events : List Event) (event : Event) (s s' : Simulator) (peer_state : PeerState) → IsPermittedEvent world event → OneMore world output (history_state_after world events) event s s' peer_state →
     RunsTo world output events s → RunsTo world output (events ++ event ∷ []) s'
 goes_on world output events event s s' peer_state there more runs =
-    let moment = history_state_after world events in
+    let so_far = history_state_after world events in
     let inside = there_below world event there in
-    let next : history_state_after world (events ++ event ∷ []) ≡ after_event world moment event = run-snoc world events event (initial_state world) in
+    let next : history_state_after world (events ++ event ∷ []) ≡ after_event world so_far event = run-snoc world events event (initial_state world) in
     let at = λ (k : ℕ) (found : PeerState) (is : slice_get s'.peer_states.items k ≡ Some found).
     stands_on world output events event s s' peer_state more inside runs k found (event_peer event == k) refl (subst (λ (xs : List PeerState). slice_get xs k ≡ Some found) more.items is) in
     record {
@@ -179,9 +179,9 @@ world_state_goes_on world output events event s s' there peer_states sizes same 
 
 -- An event that changes the world state alone happens if its call succeeds.
 pub world_state_happens : {T E : Type 0} (r : Result T E) (event : Event) (s s' : Simulator) → s'.peer_states ≡ s.peer_states → s'.sizes ≡ s.sizes →
-    ((world : World) (moment : HistoryState) → peer_after world moment event ≡ peer_at moment (event_peer event)) →
-    ((world : World) (output : Output) (moment : HistoryState) → WorldStateAfter world output moment.past moment.losses s.world_state →
-    OnOk r (WorldStateAfter world output (past_after world moment event) (losses_with event moment.losses) s'.world_state)) →
+    ((world : World) (so_far : HistoryState) → peer_after world so_far event ≡ peer_at so_far (event_peer event)) →
+    ((world : World) (output : Output) (so_far : HistoryState) → WorldStateAfter world output so_far.past so_far.losses s.world_state →
+    OnOk r (WorldStateAfter world output (past_after world so_far event) (losses_with event so_far.losses) s'.world_state)) →
     ((p : ℕ) → HasPeer s.world_state p → HasPeer s'.world_state p) → OnOk r (Happens event s s')
 world_state_happens (Ok v) event s s' peer_states sizes same on seated = λ world output events there runs.
     world_state_goes_on world output events event s s' there peer_states sizes (same world (history_state_after world events)) (on world output (history_state_after world events) runs.after) seated runs
@@ -373,11 +373,11 @@ losses_by (DeviceReset p) losses q = omega arith
 losses_by (DeviceAccessed p a) losses q = omega arith
 losses_by (InterruptRepeated p vector) losses q = omega arith
 
-losses_run : (world : World) (events : List Event) (moment : HistoryState) (q : ℕ) → (run world events moment).losses q ≡ moment.losses q + loses_in events q
-losses_run world [] moment q = omega arith
-losses_run world (event ∷ events) moment q =
-    let rest = losses_run world events (after_event world moment event) q in
-    let here = losses_by event moment.losses q in omega arith
+losses_run : (world : World) (events : List Event) (so_far : HistoryState) (q : ℕ) → (run world events so_far).losses q ≡ so_far.losses q + loses_in events q
+losses_run world [] so_far q = omega arith
+losses_run world (event ∷ events) so_far q =
+    let rest = losses_run world events (after_event world so_far event) q in
+    let here = losses_by event so_far.losses q in omega arith
 
 loses_append : (xs ys : List Event) (q : ℕ) → loses_in (xs ++ ys) q ≡ loses_in xs q + loses_in ys q
 loses_append [] ys q = omega arith

@@ -8,7 +8,7 @@ use Rattle.lawful_history.specs.declared.line.Line.{Line}
 use Rattle.lawful_history.specs.declared.line.Line.TheVariants as line
 use Rattle.lawful_history.specs.EventRecords.{region_access_lines}
 use Rattle.lawful_history.specs.History.{acted_step}
-use Rattle.section_map.proofs.Tests.{may_test, may_fails}
+use Rattle.section_map.proofs.TestDecidesWrites.{may_test, may_fails}
 use Rattle.simulator.specs.Log.{Output, Records}
 use Rattle.simulator.specs.WorldState.{WorldStateAfter}
 use Rattle.simulator.specs.declared.world_state.WorldState.{WorldState}
@@ -23,12 +23,12 @@ poked_lines world past p word value false is = rw is refl
 pub poke_writes : (world : World) (output : Output) (past : List Line) (losses : ℕ → ℕ) (s s' : WorldState) (me word value : ℕ) → WorldStateAfter world output past losses s → MayWrite s.region.shape me word →
     s'.region ≡ record s.region { words = slice_set s.region.words word value } → s'.device ≡ s.device → s'.unspent ≡ s.unspent → Records (line.Write me word value) s.log s'.log →
     WorldStateAfter world output (reverse (region_access_lines me (access.Write word value) (acted_step world me (access.Write word value) past) []) ++ past) losses s'
-poke_writes world output past losses s s' me word value after may region device unspent tells =
+poke_writes world output past losses s s' me word value after may region device unspent log_step =
     let is : may_write world.geometry me word ≡ true = ap (λ g. may_write g me word) (sym after.shape) ∙ may_test s.region.shape me word may in
     rw (poked_lines world past me word value true is) (record {
       is_world = after.is_world;
       shape = ap (λ r. r.shape) region ∙ after.shape;
-      log = tells world output past refl after.log;
+      log = log_step world output past refl after.log;
       words = rw region (λ k inside. written s.region.words past word value k inside after.words);
       devices = rw device after.devices;
       unspent = λ p. let u = after.unspent p in rw unspent (omega arith);
@@ -38,12 +38,12 @@ poke_writes world output past losses s s' me word value after may region device 
 pub poke_denied : (world : World) (output : Output) (past : List Line) (losses : ℕ → ℕ) (s s' : WorldState) (me word value : ℕ) → WorldStateAfter world output past losses s → ¬ MayWrite s.region.shape me word → s'.region ≡ s.region →
     s'.device ≡ s.device → s'.unspent ≡ s.unspent → Records (line.Denied me word) s.log s'.log →
     WorldStateAfter world output (reverse (region_access_lines me (access.Write word value) (acted_step world me (access.Write word value) past) []) ++ past) losses s'
-poke_denied world output past losses s s' me word value after may_not region device unspent tells =
+poke_denied world output past losses s s' me word value after may_not region device unspent log_step =
     let is : may_write world.geometry me word ≡ false = ap (λ g. may_write g me word) (sym after.shape) ∙ may_fails s.region.shape me word may_not in
     rw (poked_lines world past me word value false is) (record {
       is_world = after.is_world;
       shape = ap (λ r. r.shape) region ∙ after.shape;
-      log = tells world output past refl after.log;
+      log = log_step world output past refl after.log;
       words = rw region after.words;
       devices = rw device after.devices;
       unspent = λ p. let u = after.unspent p in rw unspent (omega arith);

@@ -77,7 +77,7 @@ pub record IsPlaced (shape : Shape) (peer : ℕ) (config : EndConfig) : Type 0 w
   pub there : peer < shape.peers
   pub other : config.other < shape.peers
   pub own : config.own ≡ section_start shape peer
-  pub theirs : config.theirs ≡ section_start shape config.other
+  pub other_start : config.other_start ≡ section_start shape config.other
   pub words : config.words ≡ shape.out
   pub vector : config.vector < 2 ^ 16
 

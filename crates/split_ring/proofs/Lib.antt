@@ -1,6 +1,6 @@
-pub mod Bounds
-pub mod Frames
-pub mod Keeps
-pub mod Places
-pub mod QueueSizes
-pub mod Tests
+pub mod QueueHasBounds
+pub mod FramesAreLaidOut
+pub mod QueueIsWellFormed
+pub mod QueuesAreLaidOut
+pub mod QueueSizeIsGreatest
+pub mod TestsDecideRanges

@@ -185,7 +185,7 @@ pub record HasBounds (q : Sizes) : Type 0 where
   pub size_least : LEAST_QUEUE ≤ size_of q
   pub size_most : size_of q ≤ MOST_QUEUE
   pub size_whole : size_of q % 64 ≡ 0
-  pub turns : 65536 % size_of q ≡ 0
+  pub divides : 65536 % size_of q ≡ 0
   pub limit_least : 0 < limit_of q
   pub limit_most : limit_of q ≤ size_of q
   pub rings : 8 * data_area_start q < q.out

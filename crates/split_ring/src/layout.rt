@@ -79,7 +79,7 @@ impl Queue {
         let Some(size) = queue_size(out) else {
             return Err(QueueFault::TooSmall(out));
         };
-        let payload = ring_part(size);
+        let payload = rings_len(size);
         let slot = up64(FRAME_OVERHEAD + u64::from(mtu)) as u32;
         let out = out as u32;
         let room = out - payload;
@@ -94,7 +94,7 @@ impl Queue {
             out,
             mtu,
             size,
-            used: used_place(size),
+            used: used_ring_offset(size),
             payload,
             slot,
             limit: limit(version, size, room / slot),
@@ -266,7 +266,7 @@ fn limit(version: u32, size: u32, slots: u32) -> u32
 }
 
 /// Returns the offset in bytes of the used ring of a queue of `size`.
-fn used_place(size: u32) -> u32
+fn used_ring_offset(size: u32) -> u32
     requires { size ≤ MOST_QUEUE }
     ensures { result ≡ used_ring_offset size }
 {
@@ -274,11 +274,11 @@ fn used_place(size: u32) -> u32
 }
 
 /// Returns the length in bytes of the descriptors and rings of a queue of `size`.
-fn ring_part(size: u32) -> u32
+fn rings_len(size: u32) -> u32
     requires { size ≤ MOST_QUEUE }
     ensures { result ≡ rings_len size }
 {
-    up64(u64::from(used_place(size) + 6 + 8 * size)) as u32
+    up64(u64::from(used_ring_offset(size) + 6 + 8 * size)) as u32
 }
 
 /// Returns the greatest queue size whose descriptors and rings are shorter than an eighth of a
@@ -291,7 +291,7 @@ fn queue_size(out: u64) -> Option<u32>
     SIZES
         .iter()
         .copied()
-        .find(|&size| 8 * u64::from(ring_part(size)) < out)
+        .find(|&size| 8 * u64::from(rings_len(size)) < out)
 }
 
 /// Law: the queue size is the greatest power of two that fits, from 64 to 4,096. It fits if its

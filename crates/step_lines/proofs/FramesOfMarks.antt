@@ -9,7 +9,7 @@ use Rattle.split_ring.specs.declared.steps.Note.TheVariants as note
 use Rattle.split_ring.specs.Layout.{has_events}
 use Rattle.split_ring.specs.Ranges.{is_desc_length, is_avail_index, is_used_index, is_used_id}
 use Rattle.split_ring.specs.Spelling.{high_half}
-use Rattle.split_ring.proofs.Tests.{length_of_test}
+use Rattle.split_ring.proofs.TestsDecideRanges.{length_of_test}
 use Rattle.link_handshake.specs.declared.Move.{Move}
 use Rattle.link_handshake.specs.declared.Move.TheVariants.{Stay, Set, ClearThenSet}
 use Rattle.link_handshake.specs.HandshakeState.{move_of}
@@ -115,14 +115,14 @@ frameless_none = record {
 }
 
 -- The place after a frame's index was written is open.
-tells_openly : (b : Bool) (number : ℕ) → is_open (if b then ReadingAvailEvent number else RingingOffer) ≡ true
-tells_openly true number = refl
-tells_openly false number = refl
+notify_is_open : (b : Bool) (number : ℕ) → is_open (if b then ReadingAvailEvent number else RingingOffer) ≡ true
+notify_is_open true number = refl
+notify_is_open false number = refl
 
 publishes_openly : (config : EndConfig) (place : Place) (value : ℕ) (pending : PendingOffer) → place ≡ WritingAvailIndex pending → is_open (next_place config place value) ≡ false → ⊥
 publishes_openly config place value pending is shut =
     let now : is_open (next_place config (WritingAvailIndex pending) value) ≡ false = subst (λ (p : Place). is_open (next_place config p value) ≡ false) is shut in
-    let open_there = tells_openly (has_events config.sizes) pending.number in absurd (cc)
+    let open_there = notify_is_open (has_events config.sizes) pending.number in absurd (cc)
 
 -- A step that ends its call accepts no frame.
 ends_quietly : (config : EndConfig) (place : Place) (value : ℕ) → is_open (next_place config place value) ≡ false → NoAccept (marks_at config place value)

@@ -9,7 +9,7 @@ use Rattle.call_grammar.specs.Calls.{EndConfig}
 use Rattle.call_grammar.specs.Places as places
 use Rattle.call_grammar.specs.Places.{Place, Closed, marks_at, next_place, step_at, is_open}
 use Rattle.link_endpoint.specs.declared.place.Place as ends
-use Rattle.link_endpoint.specs.declared.place.Place.TheVariants as seats
+use Rattle.link_endpoint.specs.declared.place.Place.TheVariants as endpoint_places
 use Rattle.link_endpoint.specs.Engine.{Engine, is_open_at, is_busy, offered, delivered}
 use Rattle.link_endpoint.specs.Refinement.{RefinesAt, IsAt, goes_on, Takes, mark_between, marks_between}
 use Rattle.link_endpoint.specs.Plan.{Plan, left_after, delivered_by, Counts}
@@ -59,14 +59,14 @@ goes_open places.Refusing is = absurd (cc)
 goes_open _ is = refl
 
 open_at : (at : ends.Place) (e : Engine) (config : EndConfig) (end : End) (place : Place) → IsAt at e config end place → is_open_at at ≡ is_open place
-open_at seats.Closed e config end place is = ap is_open (sym is.0)
-open_at seats.ReadingOtherState e config end place is = ap is_open (sym is.0)
-open_at (seats.Clearing at state) e config end place is = ap is_open (sym is.0)
-open_at (seats.WritingState state) e config end place is = ap is_open (sym is.0)
-open_at seats.Refusing e config end place is = ap is_open (sym is.0)
-open_at seats.NotInRun e config end place is = ap is_open (sym is.0)
-open_at seats.Offering e config end place is = goes_open place is.0
-open_at seats.Polling e config end place is = goes_open place is.0
+open_at endpoint_places.Closed e config end place is = ap is_open (sym is.0)
+open_at endpoint_places.ReadingOtherState e config end place is = ap is_open (sym is.0)
+open_at (endpoint_places.Clearing at state) e config end place is = ap is_open (sym is.0)
+open_at (endpoint_places.WritingState state) e config end place is = ap is_open (sym is.0)
+open_at endpoint_places.Refusing e config end place is = ap is_open (sym is.0)
+open_at endpoint_places.NotInRun e config end place is = ap is_open (sym is.0)
+open_at endpoint_places.Offering e config end place is = goes_open place is.0
+open_at endpoint_places.Polling e config end place is = goes_open place is.0
 
 -- An endpoint is busy if a call is open.
 pub busy_is : (e : Engine) (config : EndConfig) (end : End) (place : Place) → RefinesAt e config end place → is_busy e ≡ is_open place

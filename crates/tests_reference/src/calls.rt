@@ -108,7 +108,7 @@ fn changed(line: Line) -> Line {
 /// Returns the configuration of peer 0 or peer 1 of a link with sections of 16,384 bytes and an MTU
 /// of 256. `words` words of the section are cleared.
 fn config(me: u32, words: u32) -> Result<EndConfig, Fail> {
-    let (other, own, theirs) = if me == 0 {
+    let (other, own, other_start) = if me == 0 {
         (1, 1024, 5120)
     } else {
         (0, 5120, 1024)
@@ -117,7 +117,7 @@ fn config(me: u32, words: u32) -> Result<EndConfig, Fail> {
         me,
         other,
         own,
-        theirs,
+        other_start,
         words,
         queue: Queue::of(16_384, 256)?,
         vector: 1,

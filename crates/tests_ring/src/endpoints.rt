@@ -204,12 +204,12 @@ fn writes_all(end: &mut Endpoint, count: u32) -> bool {
 
 /// Makes all writes of the open offer before its index at once, as the act says.
 #[must_use]
-fn at_once(end: &mut Endpoint, told: Bursts, bytes: &[u8]) -> bool {
+fn at_once(end: &mut Endpoint, expected: Bursts, bytes: &[u8]) -> bool {
     let mut room = [0xee; 36];
     let Some(bursts) = end.bursts() else {
         return false;
     };
-    if bursts != told {
+    if bursts != expected {
         return false;
     }
     let frame = bursts.frame.count as usize;

@@ -9,14 +9,20 @@ use std::process::Abort;
 use std::test::Fail;
 
 /// Returns the receiver of an end in the link of the worked examples, with sections of 16,384 bytes
-/// and an MTU of 256. The own section begins at word `own`, the other's at word `theirs`.
-fn example(rt: &impl Abort, alloc: Global, own: u32, theirs: u32, other: u32) -> Result<Rx, Fail>
+/// and an MTU of 256. The own section begins at word `own`, the other's at word `other_start`.
+fn example(
+    rt: &impl Abort,
+    alloc: Global,
+    own: u32,
+    other_start: u32,
+    other: u32,
+) -> Result<Rx, Fail>
     requires own { own ≤ 5120 }
-    requires theirs { theirs ≤ 5120 }
+    requires other_start { other_start ≤ 5120 }
 {
     let queue = Queue::of(16_384, 256).expect(rt, "a queue");
     assert!(rt; queue.out() == 16_384);
-    Ok(Rx::new(alloc, &queue, own, theirs, other, 1)?)
+    Ok(Rx::new(alloc, &queue, own, other_start, other, 1)?)
 }
 
 /// Makes one step of the open poll. Returns whether it has this access, the value that it returns,

@@ -38,7 +38,7 @@ oldest_is tx config end freed is made counts =
 -- The position of the next entry.
 pub entry_is : (tx : Sender) (config : EndConfig) (number : ℕ) → IsSender tx → IsMadeFor tx config → tx.accepted ≡ number % 65536 → tx.accepted % size_of tx.sizes ≡ avail_entry_of config number
 entry_is tx config number is made accepted =
-    ap (λ a. a % size_of tx.sizes) accepted ∙ (once number 65536 (size_of tx.sizes) is.bounds.turns ∙ ap (λ q. number % size_of q) (sym made.sizes))
+    ap (λ a. a % size_of tx.sizes) accepted ∙ (once number 65536 (size_of tx.sizes) is.bounds.divides ∙ ap (λ q. number % size_of q) (sym made.sizes))
 
 pub entry_below : (tx : Sender) (config : EndConfig) (number : ℕ) → IsSender tx → IsMadeFor tx config → avail_entry_of config number < size_of config.sizes
 entry_below tx config number is made =
@@ -47,11 +47,11 @@ entry_below tx config number is made =
 
 -- The read of an id.
 pub id_access : (tx : Sender) (config : EndConfig) (end : End) (place : laws.Place) (more : ℕ) → IsSender tx → IsMadeFor tx config → IsAt (ReadingUsedId more) tx config end place →
-    Read (tx.theirs + word_offset tx.sizes (UsedId ((tx.accepted + 65536 - tx.in_flight) % 65536 % size_of tx.sizes))) ≡ laws.access_at config place
+    Read (tx.other_start + word_offset tx.sizes (UsedId ((tx.accepted + 65536 - tx.in_flight) % 65536 % size_of tx.sizes))) ≡ laws.access_at config place
 id_access tx config end place more is made (freed, same, found, counts) =
-    let entry = ap (λ n. n % size_of tx.sizes) (freed_is tx config end freed is counts) ∙ once freed 65536 (size_of tx.sizes) is.bounds.turns in
-    ap (λ k. Read (tx.theirs + word_offset tx.sizes (UsedId k))) entry ∙ (ap (λ q. Read (tx.theirs + word_offset q (UsedId (freed % size_of q)))) (sym made.sizes)
-    ∙ (ap (λ t. Read (t + word_offset config.sizes (UsedId (freed % size_of config.sizes)))) (sym made.theirs) ∙ sym (ap (laws.access_at config) same)))
+    let entry = ap (λ n. n % size_of tx.sizes) (freed_is tx config end freed is counts) ∙ once freed 65536 (size_of tx.sizes) is.bounds.divides in
+    ap (λ k. Read (tx.other_start + word_offset tx.sizes (UsedId k))) entry ∙ (ap (λ q. Read (tx.other_start + word_offset q (UsedId (freed % size_of q)))) (sym made.sizes)
+    ∙ (ap (λ t. Read (t + word_offset config.sizes (UsedId (freed % size_of config.sizes)))) (sym made.other_start) ∙ sym (ap (laws.access_at config) same)))
 
 -- The word of the next entry.
 pub entry_word_is : (tx : Sender) (config : EndConfig) (end : End) (slot : slots.Slot) → IsSender tx → IsMadeFor tx config → tx.accepted ≡ length end.accepted % 65536 → HasCopy tx config end →

@@ -19,7 +19,7 @@ use Rattle.call_grammar.specs.Calls.{pending_of}
 use Rattle.call_grammar.specs.Places as laws
 use Rattle.frame_slots.specs.declared.slots.Slot as slots
 use Rattle.frame_slots.specs.Allocator.{Allocator, has_room_in, next_slot, with_placed, with_freed, oldest_of}
-use Rattle.frame_slots.proofs.Rings.{turns_lem}
+use Rattle.frame_slots.proofs.AllocatorRefinesSession.{allocator_refines_session}
 use Rattle.call_grammar.proofs.Lengths.{last_length, length_before}
 use Rattle.call_grammar.proofs.OfferLists.{yes, no, within_test}
 use Rattle.tx_engine.specs.declared.place.Place.{Place}
@@ -27,7 +27,7 @@ use Rattle.tx_engine.specs.declared.place.Place.TheVariants.{Closed, Refusing, R
 use Rattle.tx_engine.specs.Sender.{Sender, IsSender, allocator_of, FlightRefinesSession}
 use Rattle.tx_engine.specs.Continuations.{GoesOn, full_notes}
 use Rattle.tx_engine.specs.Refinement.{CountsMatch, CountsPlaced, slot_of_pending, IsAt, IsMadeFor, TakesStep}
-use Rattle.tx_engine.proofs.Flights.{told_flight, placed_flight, freed_flight, oldest_kept}
+use Rattle.tx_engine.proofs.Flights.{flight_by_prefix, placed_flight, freed_flight, oldest_kept}
 use Rattle.tx_engine.proofs.Accesses.{at_here, freed_is, oldest_is}
 
 -- The fields of a sender that a read doesn't change.
@@ -45,7 +45,7 @@ IsKept old new = new ≡ record old {
 }
 
 made_on : (old new : Sender) (config : EndConfig) → IsKept old new → IsMadeFor old config → IsMadeFor new config
-made_on old new config kept made = subst (λ s. IsMadeFor s config) (sym kept) (record { sizes = made.sizes; own = made.own; theirs = made.theirs; target = made.target; vector = made.vector })
+made_on old new config kept made = subst (λ s. IsMadeFor s config) (sym kept) (record { sizes = made.sizes; own = made.own; other_start = made.other_start; target = made.target; vector = made.vector })
 
 -- The step of a sender, from its step at each end that it refines at its place.
 pub takes : (old new : Sender) (here : Place) (value : ℕ) (notes : List Note) → old.place ≡ here →
@@ -73,7 +73,7 @@ pub record CanGoOn (tx : Sender) : Type 0 where
 with_frame : (tx : Sender) (config : EndConfig) (end : End) (freed : ℕ) → CountsMatch tx config end freed →
     FlightRefinesSession (allocator_of tx) tx.lengths (lengths_of (end.accepted ++ tx.frame ∷ [])) freed (length end.accepted)
 with_frame tx config end freed counts =
-    told_flight (allocator_of tx) tx.lengths (lengths_of end.accepted) (lengths_of (end.accepted ++ tx.frame ∷ [])) freed (length end.accepted)
+    flight_by_prefix (allocator_of tx) tx.lengths (lengths_of end.accepted) (lengths_of (end.accepted ++ tx.frame ∷ [])) freed (length end.accepted)
     (λ j low. sym (length_before end.accepted tx.frame j low)) counts.flight
 
 -- The offered frame fits in the slots exactly if it fits in the session.
@@ -84,7 +84,7 @@ decided tx config end freed can made counts =
     let number = length end.accepted in
     let last = last_length end.accepted tx.frame in
     ap (has_room_in (allocator_of tx)) (sym last) ∙
-    (turns_lem.decides (allocator_of tx) all freed number can.queue (with_frame tx config end freed counts).refines (omega (arith, last, can.least)) (omega (arith, last, can.most)) ∙
+    (allocator_refines_session.decides (allocator_of tx) all freed number can.queue (with_frame tx config end freed counts).refines (omega (arith, last, can.least)) (omega (arith, last, can.most)) ∙
     ap (λ q. has_room q all freed number) (sym made.sizes))
 
 -- The slot that the frame gets is the slot of the session.
@@ -95,7 +95,7 @@ slot_is tx config end freed can made counts room =
     let number = length end.accepted in
     let last = last_length end.accepted tx.frame in
     ap (next_slot (allocator_of tx)) (sym last) ∙
-    (turns_lem.places (allocator_of tx) all freed number can.queue (with_frame tx config end freed counts).refines (omega (arith, last, can.least)) (omega (arith, last, can.most))
+    (allocator_refines_session.places (allocator_of tx) all freed number can.queue (with_frame tx config end freed counts).refines (omega (arith, last, can.least)) (omega (arith, last, can.most))
     (subst (λ n. has_room_in (allocator_of tx) n ≡ true) (sym last) room) ∙
     ap (λ q. let s : slots.Slot = record { descriptor = number % limit_of q; address = start_of q all number } in s) (sym made.sizes))
 
@@ -246,7 +246,7 @@ pub id_taken : (tx : Sender) (more id : ℕ) (place : Place) (turn : Allocator) 
 id_taken tx more id place turn lengths notes is can some here oldest on notes_are = takes tx (with_turn tx turn lengths place) (ReadingUsedId more) id notes here refl (λ config end at made (freed, same, found, counts).
     let pending = pending_of config end tx.frame in
     let can_one : CanGoOn (freed_one tx) = record { queue = can.queue; lengths = can.lengths; least = can.least; most = can.most } in
-    let made_one : IsMadeFor (freed_one tx) config = record { sizes = made.sizes; own = made.own; theirs = made.theirs; target = made.target; vector = made.vector } in
+    let made_one : IsMadeFor (freed_one tx) config = record { sizes = made.sizes; own = made.own; other_start = made.other_start; target = made.target; vector = made.vector } in
     let lt : freed < length end.accepted = omega (arith, counts.flight.refines.in_flight, some) in
     let kept = sym (oldest_kept (allocator_of tx) tx.lengths (lengths_of end.accepted) freed (length end.accepted) counts.flight lt) in
     let counts_one : CountsMatch (freed_one tx) config end (freed + 1) = record {

@@ -4,8 +4,8 @@ use Rattle.std.proofs.lemmas.Nat.{mod_below}
 use Rattle.split_ring.specs.declared.steps.Note.{Note}
 use Rattle.split_ring.specs.declared.steps.Note.TheVariants as note
 use Rattle.split_ring.specs.Layout.{Sizes, IsQueue, size_of, limit_of, data_area_start, word_offset, has_events, DescAddress, DescLength, DescFlags, AvailEntry, AvailIndex}
-use Rattle.split_ring.proofs.Bounds.{bounds}
-use Rattle.split_ring.proofs.Frames.{frames_lem}
+use Rattle.split_ring.proofs.QueueHasBounds.{bounds}
+use Rattle.split_ring.proofs.FramesAreLaidOut.{frames_are_laid_out}
 use Rattle.call_grammar.specs.Steps.{marks_of}
 use Rattle.call_grammar.specs.Ends.{End, end_after}
 use Rattle.call_grammar.specs.Ticks.{EndConfig}
@@ -39,8 +39,8 @@ copy_kept : (tx : Sender) (config : EndConfig) (end : End) (word value : ℕ) �
 copy_kept tx config end word value beside copy k below =
     no (config.own + word_offset config.sizes (AvailEntry k) == word) value (end.written (config.own + word_offset config.sizes (AvailEntry k))) (ne_eqb _ _ (beside k below)) ∙ copy k below
 
-same_job : (config : EndConfig) (end : End) (frame : List ℕ) (word value : ℕ) → IsQueue config.sizes → IsBeside config word → pending_of config end frame ≡ pending_of config (wrote end word value) frame
-same_job config end frame word value queue beside =
+same_pending : (config : EndConfig) (end : End) (frame : List ℕ) (word value : ℕ) → IsQueue config.sizes → IsBeside config word → pending_of config end frame ≡ pending_of config (wrote end word value) frame
+same_pending config end frame word value queue beside =
     let b = bounds config.sizes queue in
     let some : 0 < size_of config.sizes = omega (arith, b.size_least) in
     let entry = avail_entry_of config (length end.accepted) in
@@ -52,7 +52,7 @@ placed_after : (tx : Sender) (next : Place) (config : EndConfig) (end : End) (sl
     HasPlaced (record tx { place = next }) config (wrote end word value) slot
 placed_after tx next config end slot word value queue beside (counts, is) = (
   record { accepted = counts.accepted; flight = counts.flight; copy = copy_kept tx config end word value beside counts.copy },
-  is ∙ ap (λ (j : PendingOffer). let s : slots.Slot = record { descriptor = descriptor_of config j.number; address = start_at config j } in s) (same_job config end tx.frame word value queue beside),
+  is ∙ ap (λ (j : PendingOffer). let s : slots.Slot = record { descriptor = descriptor_of config j.number; address = start_at config j } in s) (same_pending config end tx.frame word value queue beside),
 )
 
 entry_word : (q : Sizes) (k : ℕ) → word_offset q (AvailEntry k) ≡ 4 * size_of q + 1 + k / 2
@@ -61,7 +61,7 @@ entry_word q k = omega arith
 -- The words of a frame hold no available entry.
 frame_beside : (config : EndConfig) (pending : PendingOffer) (at : ℕ) → IsQueue config.sizes → IsBeside config (config.own + start_at config pending / 4 + at)
 frame_beside config pending at queue k below same =
-    let after = (frames_lem.placed config.sizes pending.lengths pending.number queue).after in
+    let after = (frames_are_laid_out.placed config.sizes pending.lengths pending.number queue).after in
     let entry = entry_word config.sizes k in
     let payload = past config.sizes in
     omega (arith, after, entry, payload, below, same)
@@ -101,7 +101,7 @@ fills_on tx slot at more value is here = takes tx (record tx { place = WritingFr
     let word = config.own + start_at config pending / 4 + at in
     let beside = frame_beside config pending at queue in
     subst (Steps tx (WritingFrameWord slot (at + 1) more) config end value) (sym h.0)
-    (refl, (ap (λ j. laws.WritingFrameWord j (at + 1) more) (same_job config end tx.frame word _ queue beside), placed_after tx (WritingFrameWord slot (at + 1) more) config end slot word _ queue beside h.1)))
+    (refl, (ap (λ j. laws.WritingFrameWord j (at + 1) more) (same_pending config end tx.frame word _ queue beside), placed_after tx (WritingFrameWord slot (at + 1) more) config end slot word _ queue beside h.1)))
 
 -- The write of the last word of the frame.
 pub fills_last : (tx : Sender) (slot : slots.Slot) (at value : ℕ) → IsSender tx → tx.place ≡ WritingFrameWord slot at 0 → TakesStep tx value [] (record tx { place = WritingDescAddressLow slot })
@@ -112,7 +112,7 @@ fills_last tx slot at value is here = takes tx (record tx { place = WritingDescA
     let beside = frame_beside config pending at queue in
     let next : laws.next_place config (laws.WritingFrameWord pending at 0) value ≡ laws.WritingDescAddressLow pending = refl in
     subst (Steps tx (WritingDescAddressLow slot) config end value) (sym h.0)
-    (refl, (next ∙ ap laws.WritingDescAddressLow (same_job config end tx.frame word _ queue beside), placed_after tx (WritingDescAddressLow slot) config end slot word _ queue beside h.1)))
+    (refl, (next ∙ ap laws.WritingDescAddressLow (same_pending config end tx.frame word _ queue beside), placed_after tx (WritingDescAddressLow slot) config end slot word _ queue beside h.1)))
 
 -- The writes of the four words of the descriptor.
 pub writes_low : (tx : Sender) (slot : slots.Slot) (value : ℕ) → IsSender tx → tx.place ≡ WritingDescAddressLow slot → TakesStep tx value [] (record tx { place = WritingDescAddressHigh slot })
@@ -123,7 +123,7 @@ writes_low tx slot value is here = takes tx (record tx { place = WritingDescAddr
     let same : word + 0 ≡ word = omega arith in
     let beside : IsBeside config word = subst (IsBeside config) same (descriptor_beside config pending.number 0 queue (omega arith)) in
     subst (Steps tx (WritingDescAddressHigh slot) config end value) (sym h.0)
-    (refl, (ap laws.WritingDescAddressHigh (same_job config end tx.frame word _ queue beside), placed_after tx (WritingDescAddressHigh slot) config end slot word _ queue beside h.1)))
+    (refl, (ap laws.WritingDescAddressHigh (same_pending config end tx.frame word _ queue beside), placed_after tx (WritingDescAddressHigh slot) config end slot word _ queue beside h.1)))
 
 pub writes_high : (tx : Sender) (slot : slots.Slot) (value : ℕ) → IsSender tx → tx.place ≡ WritingDescAddressHigh slot → TakesStep tx value [] (record tx { place = WritingDescLength slot })
 writes_high tx slot value is here = takes tx (record tx { place = WritingDescLength slot }) (WritingDescAddressHigh slot) value [] here refl (λ config end place made h.
@@ -132,7 +132,7 @@ writes_high tx slot value is here = takes tx (record tx { place = WritingDescLen
     let word = config.own + word_offset config.sizes (DescAddress (descriptor_of config pending.number)) + 1 in
     let beside = descriptor_beside config pending.number 1 queue (omega arith) in
     subst (Steps tx (WritingDescLength slot) config end value) (sym h.0)
-    (refl, (ap laws.WritingDescLength (same_job config end tx.frame word _ queue beside), placed_after tx (WritingDescLength slot) config end slot word _ queue beside h.1)))
+    (refl, (ap laws.WritingDescLength (same_pending config end tx.frame word _ queue beside), placed_after tx (WritingDescLength slot) config end slot word _ queue beside h.1)))
 
 pub writes_length : (tx : Sender) (slot : slots.Slot) (value : ℕ) → IsSender tx → tx.place ≡ WritingDescLength slot → TakesStep tx value [] (record tx { place = WritingDescFlags slot })
 writes_length tx slot value is here = takes tx (record tx { place = WritingDescFlags slot }) (WritingDescLength slot) value [] here refl (λ config end place made h.
@@ -142,7 +142,7 @@ writes_length tx slot value is here = takes tx (record tx { place = WritingDescF
     let same : config.own + word_offset config.sizes (DescAddress (descriptor_of config pending.number)) + 2 ≡ word = omega arith in
     let beside : IsBeside config word = subst (IsBeside config) same (descriptor_beside config pending.number 2 queue (omega arith)) in
     subst (Steps tx (WritingDescFlags slot) config end value) (sym h.0)
-    (refl, (ap laws.WritingDescFlags (same_job config end tx.frame word _ queue beside), placed_after tx (WritingDescFlags slot) config end slot word _ queue beside h.1)))
+    (refl, (ap laws.WritingDescFlags (same_pending config end tx.frame word _ queue beside), placed_after tx (WritingDescFlags slot) config end slot word _ queue beside h.1)))
 
 pub writes_flags : (tx : Sender) (slot : slots.Slot) (value : ℕ) → IsSender tx → tx.place ≡ WritingDescFlags slot → TakesStep tx value [] (record tx { place = WritingAvailEntry slot })
 writes_flags tx slot value is here = takes tx (record tx { place = WritingAvailEntry slot }) (WritingDescFlags slot) value [] here refl (λ config end place made h.
@@ -152,7 +152,7 @@ writes_flags tx slot value is here = takes tx (record tx { place = WritingAvailE
     let same : config.own + word_offset config.sizes (DescAddress (descriptor_of config pending.number)) + 3 ≡ word = omega arith in
     let beside : IsBeside config word = subst (IsBeside config) same (descriptor_beside config pending.number 3 queue (omega arith)) in
     subst (Steps tx (WritingAvailEntry slot) config end value) (sym h.0)
-    (refl, (ap laws.WritingAvailEntry (same_job config end tx.frame word _ queue beside), placed_after tx (WritingAvailEntry slot) config end slot word _ queue beside h.1)))
+    (refl, (ap laws.WritingAvailEntry (same_pending config end tx.frame word _ queue beside), placed_after tx (WritingAvailEntry slot) config end slot word _ queue beside h.1)))
 
 -- The write of the index, which accepts the frame.
 abbrev Accepts : (tx new : Sender) (config : EndConfig) (end : End) (value : ℕ) → laws.Place → Type 0

@@ -8,22 +8,22 @@ use Rattle.std.proofs.lemmas.List.{get_or-set_same, get_or-set_other}
 use Rattle.split_ring.specs.declared.sizes.TheConstants.{FRAME_OVERHEAD, SHORTEST_FRAME}
 use Rattle.split_ring.specs.Layout.{IsQueue, limit_of}
 use Rattle.split_ring.specs.Frames.{start_of}
-use Rattle.split_ring.proofs.Bounds.{bounds}
-use Rattle.split_ring.proofs.Frames.{frames_lem, mod_apart}
+use Rattle.split_ring.proofs.QueueHasBounds.{bounds}
+use Rattle.split_ring.proofs.FramesAreLaidOut.{frames_are_laid_out, mod_apart}
 use Rattle.frame_slots.specs.declared.slots.Slot as slots
 use Rattle.frame_slots.specs.Allocator.{Allocator, has_room_in, next_slot, with_placed, with_freed, oldest_of}
 use Rattle.frame_slots.specs.Refinement.{RefinesSession, IsOldest}
-use Rattle.frame_slots.proofs.Rings.{turns_lem}
-use Rattle.frame_slots.proofs.Fitting.{few_of}
+use Rattle.frame_slots.proofs.AllocatorRefinesSession.{allocator_refines_session}
+use Rattle.frame_slots.proofs.PlacedFramesFit.{few_of}
 use Rattle.call_grammar.specs.Words.{words_for}
 use Rattle.tx_engine.specs.Sender.{FlightRefinesSession, HasFlight}
 use Rattle.tx_engine.proofs.ModularCounts.{fewer}
 
 -- The lengths of frames from `sent` on make no difference.
-pub told_flight : (t : Allocator) (lengths : List ℕ) (length_of others : ℕ → ℕ) (freed sent : ℕ) → ((j : ℕ) → j < sent → length_of j ≡ others j) → FlightRefinesSession t lengths length_of freed sent →
+pub flight_by_prefix : (t : Allocator) (lengths : List ℕ) (length_of others : ℕ → ℕ) (freed sent : ℕ) → ((j : ℕ) → j < sent → length_of j ≡ others j) → FlightRefinesSession t lengths length_of freed sent →
     FlightRefinesSession t lengths others freed sent
-told_flight t lengths length_of others freed sent same h = record {
-  refines = turns_lem.by_prefix t length_of others freed sent same h.refines;
+flight_by_prefix t lengths length_of others freed sent same h = record {
+  refines = allocator_refines_session.by_prefix t length_of others freed sent same h.refines;
   kept = λ k from below. h.kept k from below ∙ same k below;
 }
 
@@ -32,7 +32,7 @@ pub placed_flight : (t : Allocator) (lengths : List ℕ) (length_of : ℕ → �
     length_of sent ≡ bytes → SHORTEST_FRAME ≤ bytes → bytes ≤ t.sizes.mtu + FRAME_OVERHEAD → has_room_in t bytes ≡ true → FlightRefinesSession (with_placed t bytes) (slice_set lengths t.next bytes) length_of freed (sent + 1)
 placed_flight t lengths length_of freed sent bytes queue sized h is least most room = record {
   refines = subst (λ n. RefinesSession (with_placed t n) length_of freed (sent + 1)) is
-      (turns_lem.goes_on t length_of freed sent queue h.refines (omega (arith, is, least)) (omega (arith, is, most)) (subst (λ n. has_room_in t n ≡ true) (sym is) room));
+      (allocator_refines_session.goes_on t length_of freed sent queue h.refines (omega (arith, is, least)) (omega (arith, is, most)) (subst (λ n. has_room_in t n ≡ true) (sym is) room));
   kept = λ k from below. dite (ℕ_discrete k sent)
       (λ e. ap (λ j. slice_index (set lengths t.next bytes) (j % limit_of t.sizes)) e ∙
       (ap (slice_index (set lengths t.next bytes)) (sym h.refines.next) ∙ (get_or-set_same lengths t.next bytes 0 next_below ∙ (sym is ∙ ap length_of (sym e)))))
@@ -53,7 +53,7 @@ placed_flight t lengths length_of freed sent bytes queue sized h is least most r
 pub freed_flight : (t : Allocator) (lengths : List ℕ) (length_of : ℕ → ℕ) (freed sent bytes : ℕ) → FlightRefinesSession t lengths length_of freed sent → freed < sent → length_of freed ≡ bytes →
     FlightRefinesSession (with_freed t bytes) lengths length_of (freed + 1) sent
 freed_flight t lengths length_of freed sent bytes h some is = record {
-  refines = subst (λ n. RefinesSession (with_freed t n) length_of (freed + 1) sent) is (turns_lem.frees t length_of freed sent h.refines some);
+  refines = subst (λ n. RefinesSession (with_freed t n) length_of (freed + 1) sent) is (allocator_refines_session.frees t length_of freed sent h.refines some);
   kept = λ k from below. h.kept k (omega arith) below;
 }
 
@@ -95,7 +95,7 @@ flight_placed t lengths bytes queue sized (length_of, freed, sent, h) least most
   freed,
   sent + 1,
   placed_flight t lengths (with_next length_of sent bytes) freed sent bytes queue sized
-      (told_flight t lengths length_of (with_next length_of sent bytes) freed sent (λ j lt. before_is length_of sent bytes j lt) h) (next_is length_of sent bytes) least most room,
+      (flight_by_prefix t lengths length_of (with_next length_of sent bytes) freed sent (λ j lt. before_is length_of sent bytes j lt) h) (next_is length_of sent bytes) least most room,
 )
 
 -- The words of a placed frame are inside the section.
@@ -104,10 +104,10 @@ pub slot_holds : (t : Allocator) (lengths : List ℕ) (bytes : ℕ) → IsQueue 
 slot_holds t lengths bytes queue (length_of, freed, sent, h) least most room =
     let now = with_next length_of sent bytes in
     let is = next_is length_of sent bytes in
-    let place_after_index = told_flight t lengths length_of now freed sent (λ j lt. before_is length_of sent bytes j lt) h in
-    let place = turns_lem.places t now freed sent queue place_after_index.refines (omega (arith, is, least)) (omega (arith, is, most)) (subst (λ n. has_room_in t n ≡ true) (sym is) room) in
+    let place_after_index = flight_by_prefix t lengths length_of now freed sent (λ j lt. before_is length_of sent bytes j lt) h in
+    let place = allocator_refines_session.places t now freed sent queue place_after_index.refines (omega (arith, is, least)) (omega (arith, is, most)) (subst (λ n. has_room_in t n ≡ true) (sym is) room) in
     let address : (next_slot t bytes).address ≡ start_of t.sizes now sent = ap (λ n. (next_slot t n).address) (sym is) ∙ ap (λ (s : slots.Slot). s.address) place in
-    let placed = frames_lem.placed t.sizes now sent queue in
+    let placed = frames_are_laid_out.placed t.sizes now sent queue in
     let even = placed.even in
     let holds = placed.holds (omega (arith, is, most)) in
     let inside = placed.inside (omega (arith, is, most)) in

@@ -4,14 +4,14 @@ use Rattle.std.specs.Vec.{with_items}
 use Rattle.std.proofs.lemmas.Nat.{mod_below}
 use Rattle.std.proofs.lemmas.List.{length-set, length-replicate, get_or_default, with_items_is}
 use Rattle.split_ring.specs.Layout.{Sizes, IsQueue, size_of, limit_of}
-use Rattle.split_ring.proofs.Bounds.{bounds}
+use Rattle.split_ring.proofs.QueueHasBounds.{bounds}
 use Rattle.call_grammar.specs.Ends.{End}
 use Rattle.call_grammar.specs.Ticks.{EndConfig}
 use Rattle.call_grammar.specs.Words.{words_for, lengths_of}
 use Rattle.call_grammar.specs.Places as laws
 use Rattle.frame_slots.specs.Allocator.{Allocator, initial_allocator, has_room_in, next_slot, with_placed, with_freed, oldest_of}
-use Rattle.frame_slots.proofs.Rings.{turns_lem}
-use Rattle.frame_slots.proofs.Fitting.{few_of}
+use Rattle.frame_slots.proofs.AllocatorRefinesSession.{allocator_refines_session}
+use Rattle.frame_slots.proofs.PlacedFramesFit.{few_of}
 use Rattle.tx_engine.specs.declared.tx.Tx.TheInside.{Inside}
 use Rattle.tx_engine.specs.declared.place.Place.{Place}
 use Rattle.tx_engine.specs.declared.place.Place.TheVariants.{Closed, ReadingUsedIndex, ReadingUsedId, WritingFrameWord}
@@ -162,11 +162,11 @@ id_kept t more free place turn lengths sized kept here free_is on =
     }
 
 -- A sender with these parameters, this frame and these lists that accepted nothing.
-abbrev pub begun_sender : Sizes → (own theirs target vector : ℕ) → (frame : List ℕ) → Allocator → (lengths entries : List ℕ) → Sender
-begun_sender sizes own theirs target vector frame slots lengths entries = record {
+abbrev pub begun_sender : Sizes → (own other_start target vector : ℕ) → (frame : List ℕ) → Allocator → (lengths entries : List ℕ) → Sender
+begun_sender sizes own other_start target vector frame slots lengths entries = record {
   sizes = sizes;
   own = own;
-  theirs = theirs;
+  other_start = other_start;
   target = target;
   vector = vector;
   accepted = 0;
@@ -182,17 +182,17 @@ begun_sender sizes own theirs target vector frame slots lengths entries = record
 }
 
 -- The sender at the start of a session.
-abbrev pub starting : Sizes → (own theirs target vector : ℕ) → (frame : List ℕ) → Sender
-starting sizes own theirs target vector frame = record (fresh_sender sizes own theirs target vector) { frame = frame }
+abbrev pub starting : Sizes → (own other_start target vector : ℕ) → (frame : List ℕ) → Sender
+starting sizes own other_start target vector frame = record (fresh_sender sizes own other_start target vector) { frame = frame }
 
-pub begun_is : (q : Sizes) (own theirs target vector : ℕ) (frame : List ℕ) (slots : Allocator) (lengths entries : List ℕ) → slots ≡ initial_allocator q → lengths ≡ replicate (limit_of q) 0 → entries ≡ replicate (size_of q / 2) 0 →
-    starting q own theirs target vector frame ≡ begun_sender q own theirs target vector frame slots lengths entries
-begun_is q own theirs target vector frame slots lengths entries slots_is lengths_are entries_are =
-    sym (ap (λ s. begun_sender q own theirs target vector frame s lengths entries) slots_is ∙
-    (ap (λ l. begun_sender q own theirs target vector frame (initial_allocator q) l entries) lengths_are ∙ ap (begun_sender q own theirs target vector frame (initial_allocator q) (replicate (limit_of q) 0)) entries_are))
+pub begun_is : (q : Sizes) (own other_start target vector : ℕ) (frame : List ℕ) (slots : Allocator) (lengths entries : List ℕ) → slots ≡ initial_allocator q → lengths ≡ replicate (limit_of q) 0 → entries ≡ replicate (size_of q / 2) 0 →
+    starting q own other_start target vector frame ≡ begun_sender q own other_start target vector frame slots lengths entries
+begun_is q own other_start target vector frame slots lengths entries slots_is lengths_are entries_are =
+    sym (ap (λ s. begun_sender q own other_start target vector frame s lengths entries) slots_is ∙
+    (ap (λ l. begun_sender q own other_start target vector frame (initial_allocator q) l entries) lengths_are ∙ ap (begun_sender q own other_start target vector frame (initial_allocator q) (replicate (limit_of q) 0)) entries_are))
 
-pub fresh_is : (q : Sizes) (own theirs target vector : ℕ) (frame : List ℕ) → IsQueue q → 4 * own + q.out ≤ 2 ^ 24 → 4 * theirs + q.out ≤ 2 ^ 24 → IsSender (starting q own theirs target vector frame)
-fresh_is q own theirs target vector frame queue own_room their_room =
+pub fresh_is : (q : Sizes) (own other_start target vector : ℕ) (frame : List ℕ) → IsQueue q → 4 * own + q.out ≤ 2 ^ 24 → 4 * other_start + q.out ≤ 2 ^ 24 → IsSender (starting q own other_start target vector frame)
+fresh_is q own other_start target vector frame queue own_room their_room =
     let b = bounds q queue in
     record {
       queue = queue;
@@ -203,15 +203,15 @@ fresh_is q own theirs target vector frame queue own_room their_room =
       next = b.limit_least;
       in_flight = omega arith;
       lengths = length-replicate (limit_of q) 0;
-      flight = (λ k. 0, 0, 0, record { refines = turns_lem.starts q (λ k. 0); kept = λ k from below. absurd (omega arith) });
+      flight = (λ k. 0, 0, 0, record { refines = allocator_refines_session.starts q (λ k. 0); kept = λ k from below. absurd (omega arith) });
       place = tt;
     }
 
-pub fresh_stands : (q : Sizes) (own theirs target vector : ℕ) (frame : List ℕ) (config : EndConfig) (end : End) → IsMadeFor (starting q own theirs target vector frame) config → IsFreshSession config end →
-    RefinesAt (starting q own theirs target vector frame) config end laws.Closed
-fresh_stands q own theirs target vector frame config end made fresh =
+pub fresh_stands : (q : Sizes) (own other_start target vector : ℕ) (frame : List ℕ) (config : EndConfig) (end : End) → IsMadeFor (starting q own other_start target vector frame) config → IsFreshSession config end →
+    RefinesAt (starting q own other_start target vector frame) config end laws.Closed
+fresh_stands q own other_start target vector frame config end made fresh =
     let none : length end.accepted ≡ 0 = ap length fresh.accepted in
-    let tx = starting q own theirs target vector frame in
+    let tx = starting q own other_start target vector frame in
     record {
       made = made;
       at = (
@@ -219,7 +219,7 @@ fresh_stands q own theirs target vector frame config end made fresh =
         λ session. record {
           accepted = sym (ap (λ n. n % 65536) none);
           flight = subst (λ f. FlightRefinesSession (allocator_of tx) tx.lengths (lengths_of end.accepted) f (length end.accepted)) (sym fresh.freed)
-              (subst (FlightRefinesSession (allocator_of tx) tx.lengths (lengths_of end.accepted) 0) (sym none) (record { refines = turns_lem.starts q (lengths_of end.accepted); kept = λ k from below. absurd (omega arith) }));
+              (subst (FlightRefinesSession (allocator_of tx) tx.lengths (lengths_of end.accepted) 0) (sym none) (record { refines = allocator_refines_session.starts q (lengths_of end.accepted); kept = λ k from below. absurd (omega arith) }));
           copy = λ k below. fresh.blank k below ∙ sym (zero_at (size_of q / 2) (k / 2));
         },
       );

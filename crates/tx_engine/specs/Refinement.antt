@@ -20,7 +20,7 @@ use Rattle.tx_engine.specs.Sender.{Sender, IsSender, allocator_of, FlightRefines
 pub record IsMadeFor (tx : Sender) (config : EndConfig) : Type 0 where
   pub sizes : config.sizes ≡ tx.sizes
   pub own : config.own ≡ tx.own
-  pub theirs : config.theirs ≡ tx.theirs
+  pub other_start : config.other_start ≡ tx.other_start
   pub target : config.other ≡ tx.target
   pub vector : config.vector ≡ tx.vector
 

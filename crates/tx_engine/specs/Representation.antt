@@ -4,13 +4,13 @@ use Rattle.split_ring.specs.declared.sizes.TheConstants.{FRAME_OVERHEAD}
 use Rattle.tx_engine.specs.declared.tx.Tx.TheInside.{Inside}
 use Rattle.tx_engine.specs.Sender.{Sender, IsSender}
 
--- The view of a sender's fields. `own` and `theirs` are the first words of the two sections.
+-- The view of a sender's fields. `own` and `other_start` are the first words of the two sections.
 -- The offered frame is the first `length` bytes of the buffer.
 abbrev pub sender_of : Inside → Sender
 sender_of t = record {
   sizes = t.queue;
   own = t.own;
-  theirs = t.theirs;
+  other_start = t.other_start;
   target = t.target;
   vector = t.vector;
   accepted = t.accepted;

@@ -23,7 +23,7 @@ use Rattle.tx_engine.specs.declared.place.Place.TheVariants.{Closed, ReadingUsed
 pub record Sender : Type 0 where
   pub sizes : Sizes
   pub own : ℕ
-  pub theirs : ℕ
+  pub other_start : ℕ
   pub target : ℕ
   pub vector : ℕ
   pub accepted : ℕ
@@ -93,7 +93,7 @@ pub record IsSender (tx : Sender) : Type 0 where
   pub queue : IsQueue tx.sizes
   pub bounds : HasBounds tx.sizes
   pub own_room : 4 * tx.own + tx.sizes.out ≤ LARGEST_REGION
-  pub their_room : 4 * tx.theirs + tx.sizes.out ≤ LARGEST_REGION
+  pub their_room : 4 * tx.other_start + tx.sizes.out ≤ LARGEST_REGION
   pub entries : 2 * length tx.entries ≡ size_of tx.sizes
   pub next : tx.next < limit_of tx.sizes
   pub in_flight : tx.in_flight ≤ limit_of tx.sizes
@@ -108,18 +108,18 @@ entry_word_of tx descriptor = with_entry (tx.accepted % size_of tx.sizes) (slice
 -- The access reads a word of the other's section, writes a word of the own section or State 0, or
 -- rings the target.
 abbrev pub IsSenderAccess : Sender → Access → Type 0
-IsSenderAccess tx (access.Read word) = (tx.theirs ≤ word) × (4 * word + 4 ≤ 4 * tx.theirs + tx.sizes.out)
+IsSenderAccess tx (access.Read word) = (tx.other_start ≤ word) × (4 * word + 4 ≤ 4 * tx.other_start + tx.sizes.out)
 IsSenderAccess tx (access.Write word value) = (tx.own ≤ word) × (4 * word + 4 ≤ 4 * tx.own + tx.sizes.out)
 IsSenderAccess tx (access.State state) = state ≡ 0
 IsSenderAccess tx (access.Ring target vector) = (target ≡ tx.target) × (vector ≡ tx.vector)
 IsSenderAccess tx access.Nothing = ⊥
 
 -- A sender with these parameters that accepted, wrote and was offered nothing.
-abbrev pub fresh_sender : Sizes → (own theirs target vector : ℕ) → Sender
-fresh_sender sizes own theirs target vector = record {
+abbrev pub fresh_sender : Sizes → (own other_start target vector : ℕ) → Sender
+fresh_sender sizes own other_start target vector = record {
   sizes = sizes;
   own = own;
-  theirs = theirs;
+  other_start = other_start;
   target = target;
   vector = vector;
   accepted = 0;
@@ -136,4 +136,4 @@ fresh_sender sizes own theirs target vector = record {
 
 -- The sender at the start of a session: only the frame offered last stays.
 abbrev pub renewed : Sender → Sender
-renewed tx = record (fresh_sender tx.sizes tx.own tx.theirs tx.target tx.vector) { frame = tx.frame }
+renewed tx = record (fresh_sender tx.sizes tx.own tx.other_start tx.target tx.vector) { frame = tx.frame }

@@ -38,7 +38,7 @@ use std::marker::Model;
 pub struct Tx {
     queue: Queue,
     own: u32,
-    theirs: u32,
+    other_start: u32,
     target: u32,
     vector: u32,
     accepted: u16,
@@ -63,7 +63,7 @@ impl Model for Tx {
 
 impl Tx {
     /// Returns the sender of an end whose section begins at the word `own`, and the other end's
-    /// section at the word `theirs`. Its doorbells have the target `target` and the vector
+    /// section at the word `other_start`. Its doorbells have the target `target` and the vector
     /// `vector`.
     ///
     /// Words are numbered from the base of the region. Returns `Err(NoMemory)` if an allocation
@@ -74,13 +74,13 @@ impl Tx {
         alloc: Global,
         queue: &Queue,
         own: u32,
-        theirs: u32,
+        other_start: u32,
         target: u32,
         vector: u32,
     ) -> Result<Tx, NoMemory>
         requires own { 4 * own + queue.now.out ≤ LARGEST_REGION }
-        requires theirs { 4 * theirs + queue.now.out ≤ LARGEST_REGION }
-        ensures value { IfOk result (λ tx. tx ≡ fresh_sender queue.now own theirs target vector) }
+        requires other_start { 4 * other_start + queue.now.out ≤ LARGEST_REGION }
+        ensures value { IfOk result (λ tx. tx ≡ fresh_sender queue.now own other_start target vector) }
         ensures refines { IfOk result (λ tx. (config : EndConfig) (end : End) → IsMadeFor tx config → IsFreshSession config end → RefinesAt tx config end laws.Closed) }
     {
         let lengths = Vec::from_elem(alloc, 0, queue.limit() as usize)?;
@@ -89,7 +89,7 @@ impl Tx {
         Ok(Tx {
             queue: *queue,
             own,
-            theirs,
+            other_start,
             target,
             vector,
             accepted: 0,
@@ -446,9 +446,9 @@ impl Tx {
     /// Returns the read of word `word` of the other's section.
     fn read(&self, word: u32) -> Access
         requires { 4 * word + 4 ≤ self.now.sizes.out }
-        ensures { result ≡ Access.Read (self.now.theirs + word) }
+        ensures { result ≡ Access.Read (self.now.other_start + word) }
     {
-        Access::Read(self.theirs + word)
+        Access::Read(self.other_start + word)
     }
 
     /// Returns the write of `value` to word `word` of the own section.

@@ -100,7 +100,7 @@ module _ (link_config : LinkConfig) (is : IsLinkConfig link_config) (pasts : ℕ
         let still' = λ (j : ℕ) (lo : m.fenced ≤ j) (hi : j ≤ k). held.still (1 - p) o2 k j (omega arith) d.4 lo hi in
         let order = held.fences p p2 n k (omega arith) (omega arith) in
         like words refl refl (like_theirs same (diamond link_config p old.words m.words old.end new.end old.place new.place m.end m'.end m.place m'.place l h
-        (no_clash link_config is p p2 (pasts p) (pasts (1 - p)) n k v value word word' new.end m'.end new.place m'.place at.before.mine at.before.theirs order still still' reads e' mine c' l h place_is d.3)
+        (no_clash link_config is p p2 (pasts p) (pasts (1 - p)) n k v value word word' new.end m'.end new.place m'.place at.before.mine at.before.opposite order still still' reads e' mine c' l h place_is d.3)
         (second k value word' back ta at e' c' mine order still still' l h d.3)
         (like (sym words) refl refl c) (like_theirs (sym same) at')))
       where
@@ -110,7 +110,7 @@ module _ (link_config : LinkConfig) (is : IsLinkConfig link_config) (pasts : ℕ
             Looked (pasts p (now p)).end (pasts p (now p)).place new.end new.place → Looked (pasts (1 - p) k).end (pasts (1 - p) k).place (pasts (1 - p) (suc k)).end (pasts (1 - p) (suc k)).place →
             (pasts (1 - p) (suc k)).place ≡ next_place (config_of link_config (1 - p)) (pasts (1 - p) k).place value → Clash (pasts (1 - p) (suc k)).end (pasts (1 - p) (suc k)).place new.end new.place → ⊥
         second k value word' back ta at e' c' mine order still still' l h g =
-            no_clash link_config is (1 - p) (omega arith) (pasts (1 - p)) (pasts p) k (now p) value v word' word (pasts (1 - p) (suc k)).end new.end (pasts (1 - p) (suc k)).place new.place ta.before.mine ta.before.theirs
+            no_clash link_config is (1 - p) (omega arith) (pasts (1 - p)) (pasts p) k (now p) value v word' word (pasts (1 - p) (suc k)).end new.end (pasts (1 - p) (suc k)).place new.place ta.before.mine ta.before.opposite
             (⊎_elim inr inl order) still' (subst (λ q. (j : ℕ) → (pasts p (now p)).fenced ≤ j → j ≤ now p → (pasts p j).words q ≡ (pasts p (now p)).words q) (sym back) still)
             e' (subst (λ q. access_at (config_of link_config q) (pasts p (now p)).place ≡ access.Read word) (sym back) reads)
             c' (subst (λ q. Comes link_config q (pasts p (now p)) (pasts (1 - p)) k v word) (sym back) mine) h l g (subst (λ q. new.place ≡ next_place (config_of link_config q) (pasts p (now p)).place v) (sym back) place_is)

@@ -18,24 +18,24 @@ record Sound (pasts : ℕ → ℕ → Moment) (now out : ℕ → ℕ) : Type 0 w
   view : (p : ℕ) → p < 2 → (pasts p (now p)).view ≤ out (1 - p)
   fence : (p : ℕ) → p < 2 → (pasts p (now p)).fenced ≤ out p
 
-loads_so : (link_config : LinkConfig) (p : ℕ) (old new : Moment) (theirs : ℕ → Moment) (out now value : ℕ) (a : Access) → ReadsMemory (seen link_config p old.words (theirs out).words) a value → LoadsBy link_config p old new out theirs now value a
-loads_so link_config p old new theirs out now value (access.Read word) met = inl met
-loads_so link_config p old new theirs out now value (access.Write at n) met = tt
-loads_so link_config p old new theirs out now value (access.State state) met = tt
-loads_so link_config p old new theirs out now value (access.Ring target vector) met = tt
-loads_so link_config p old new theirs out now value access.Nothing met = tt
+loads_so : (link_config : LinkConfig) (p : ℕ) (old new : Moment) (opposite : ℕ → Moment) (out now value : ℕ) (a : Access) → ReadsMemory (seen link_config p old.words (opposite out).words) a value → LoadsBy link_config p old new out opposite now value a
+loads_so link_config p old new opposite out now value (access.Read word) met = inl met
+loads_so link_config p old new opposite out now value (access.Write at n) met = tt
+loads_so link_config p old new opposite out now value (access.State state) met = tt
+loads_so link_config p old new opposite out now value (access.Ring target vector) met = tt
+loads_so link_config p old new opposite out now value access.Nothing met = tt
 
-module _ (link_config : LinkConfig) (p : ℕ) (old new : Moment) (theirs : ℕ → Moment) (out now : ℕ) where
-  loads_by : (action : Action) → ((value : ℕ) → action ≡ Takes value → ReadsMemory (seen link_config p old.words (theirs out).words) (access_at (config_of link_config p) old.place) value) →
-      ((k : ℕ) → action ≡ Receives k → (k < out) × (access_of link_config (1 - p) (theirs k).place (theirs (suc k)).action ≡ access.Ring p link_config.vector)) → new.view ≡ out → out ≤ now → Loads link_config p old new out theirs now action
+module _ (link_config : LinkConfig) (p : ℕ) (old new : Moment) (opposite : ℕ → Moment) (out now : ℕ) where
+  loads_by : (action : Action) → ((value : ℕ) → action ≡ Takes value → ReadsMemory (seen link_config p old.words (opposite out).words) (access_at (config_of link_config p) old.place) value) →
+      ((k : ℕ) → action ≡ Receives k → (k < out) × (access_of link_config (1 - p) (opposite k).place (opposite (suc k)).action ≡ access.Ring p link_config.vector)) → new.view ≡ out → out ≤ now → Loads link_config p old new out opposite now action
   loads_by Starts met received view most = tt
   loads_by (Begins call) met received view most = tt
   loads_by Fences met received view most = tt
   loads_by (Receives k) met received view most = let h = received k refl in let lt = h.0 in (omega arith, (h.1, λ r. omega arith))
   loads_by Resets met received view most = tt
-  loads_by (Takes value) met received view most = loads_so link_config p old new theirs out now value (access_at (config_of link_config p) old.place) (met value refl)
+  loads_by (Takes value) met received view most = loads_so link_config p old new opposite out now value (access_at (config_of link_config p) old.place) (met value refl)
 
-  fenced_by : (at own : ℕ) (action : Action) → (theirs now).fenced ≤ new.view → IsFenced old new at own action → FencedBy old new at theirs now action
+  fenced_by : (at own : ℕ) (action : Action) → (opposite now).fenced ≤ new.view → IsFenced old new at own action → FencedBy old new at opposite now action
   fenced_by at own Starts seen f = f
   fenced_by at own (Begins call) seen f = f
   fenced_by at own (Takes value) seen f = f
@@ -66,7 +66,7 @@ buffered : (link_config : LinkConfig) (pasts : ℕ → ℕ → Moment) (now out 
 buffered link_config pasts _ _ (starts now out none empty first) = record { run = runs.starts now none first; sound = first_sound pasts now out none empty first }
 buffered link_config pasts _ _ (goes now next out left p run p2 own_up own_most up most does is fenced np nq) =
     let w = buffered link_config pasts now out run in let s = w.sound in let o2 : 1 - p < 2 = omega arith in let back : 1 - (1 - p) ≡ p = omega arith in
-    let new = pasts p (suc (now p)) in let old = pasts p (now p) in let theirs = pasts (1 - p) in
+    let new = pasts p (suc (now p)) in let old = pasts p (now p) in let opposite = pasts (1 - p) in
     let v = s.view p p2 in let f = s.fence (1 - p) o2 in let g = s.fence p p2 in let view = is.view in
     let other : (pasts (1 - p) (now (1 - p))).view ≤ out p = subst (λ k. (pasts (1 - p) (now (1 - p))).view ≤ out k) back (s.view (1 - p) o2) in
     let mine = last_fence old new (suc (now p)) (left p) (out p) new.action fenced g own_up in
@@ -76,8 +76,8 @@ buffered link_config pasts _ _ (goes now next out left p run p2 own_up own_most 
         rises = omega arith;
         keeps = omega arith;
         known = omega arith;
-        fence = fenced_by link_config p old new theirs (left (1 - p)) (now (1 - p)) (suc (now p)) (left p) new.action (omega arith) fenced;
-        loads = loads_by link_config p old new theirs (left (1 - p)) (now (1 - p)) new.action is.loads is.receives is.view (omega arith);
+        fence = fenced_by link_config p old new opposite (left (1 - p)) (now (1 - p)) (suc (now p)) (left p) new.action (omega arith) fenced;
+        loads = loads_by link_config p old new opposite (left (1 - p)) (now (1 - p)) new.action is.loads is.receives is.view (omega arith);
       } np nq;
       sound = record {
         left = pick p p2 (λ q. left q ≤ next q) own_most most;
@@ -88,5 +88,5 @@ buffered link_config pasts _ _ (goes now next out left p run p2 own_up own_most 
       };
     }
 
-pub buffered_lem : StoreBufferRunsAreWeak
-buffered_lem link_config pasts now out run = (buffered link_config pasts now out run).run
+pub store_buffer_runs_are_weak : StoreBufferRunsAreWeak
+store_buffer_runs_are_weak link_config pasts now out run = (buffered link_config pasts now out run).run

@@ -87,39 +87,39 @@ own_stays link_config memory after q w keep h = ⊎_elim (λ (e : w ≡ q). ap a
 pub record Cut (link_config : LinkConfig) (p : ℕ) (x : ℕ → ℕ) (end : End) (place : Place) (y : ℕ → ℕ) (u : End) (w : Place) : Type 0 where
   pub before : Before link_config (seen link_config p x y) p end place u w
   pub calm : place ≢ Refusing
-  pub theirs : (u.handshake.mark ≡ false) × (w ≢ Refusing)
+  pub opposite : (u.handshake.mark ≡ false) × (w ≢ Refusing)
 
 -- No word of either end changes.
 pub moved : (link_config : LinkConfig) (memory after : ℕ → ℕ) (p : ℕ) (end : End) (place : Place) (u : End) (w : Place) → IsLinkConfig link_config → IsUntouched link_config memory after p → IsUntouched link_config memory after (1 - p) → Before link_config memory p end place u w → Before link_config after p end place u w
-moved link_config memory after p end place u w is mine theirs b = let same = fields_same link_config memory after p is mine.section in let same' = fields_same link_config memory after (1 - p) is theirs.section in record {
+moved link_config memory after p end place u w is mine opposite b = let same = fields_same link_config memory after p is mine.section in let same' = fields_same link_config memory after (1 - p) is opposite.section in record {
   mine = alone_kept.others link_config p memory after end place is mine b.mine;
-  theirs = alone_kept.others link_config (1 - p) memory after u w is theirs b.theirs;
+  opposite = alone_kept.others link_config (1 - p) memory after u w is opposite b.opposite;
   mark = b.mark;
   from = b.from;
   back = b.back;
-  faces = λ a. let f = b.faces a in record { mine = sent_same (λ g. same g) f.mine; theirs = sent_same (λ g. same' g) f.theirs; sends = link_same (λ g. same' g) f.sends; takes = link_same (λ g. same g) f.takes };
+  faces = λ a. let f = b.faces a in record { mine = sent_same (λ g. same g) f.mine; opposite = sent_same (λ g. same' g) f.opposite; sends = link_same (λ g. same' g) f.sends; takes = link_same (λ g. same g) f.takes };
 }
 
 -- The cut as the other end has it.
 module _ (link_config : LinkConfig) (memory : ℕ → ℕ) (end : End) (place : Place) (u : End) (w : Place) where
   back_0 : u.handshake.mark ≡ false → Before link_config memory 0 end place u w → Before link_config memory 1 u w end place
   back_0 mark b = record {
-    mine = b.theirs;
-    theirs = b.mine;
+    mine = b.opposite;
+    opposite = b.mine;
     mark = mark;
     from = b.back;
     back = b.from;
-    faces = λ a. let f = b.faces (⊎_elim inr inl a) in record { mine = f.theirs; theirs = f.mine; sends = f.takes; takes = f.sends };
+    faces = λ a. let f = b.faces (⊎_elim inr inl a) in record { mine = f.opposite; opposite = f.mine; sends = f.takes; takes = f.sends };
   }
 
   back_1 : u.handshake.mark ≡ false → Before link_config memory 1 end place u w → Before link_config memory 0 u w end place
   back_1 mark b = record {
-    mine = b.theirs;
-    theirs = b.mine;
+    mine = b.opposite;
+    opposite = b.mine;
     mark = mark;
     from = b.back;
     back = b.from;
-    faces = λ a. let f = b.faces (⊎_elim inr inl a) in record { mine = f.theirs; theirs = f.mine; sends = f.takes; takes = f.sends };
+    faces = λ a. let f = b.faces (⊎_elim inr inl a) in record { mine = f.opposite; opposite = f.mine; sends = f.takes; takes = f.sends };
   }
 
 module _ (link_config : LinkConfig) (is : IsLinkConfig link_config) where
@@ -134,14 +134,14 @@ module _ (link_config : LinkConfig) (is : IsLinkConfig link_config) where
 
   pub flip : (p : ℕ) → p < 2 → {x : ℕ → ℕ} {end : End} {place : Place} {y : ℕ → ℕ} {u : End} {w : Place} → Cut link_config p x end place y u w → Cut link_config (1 - p) y u w x end place
   flip zero p2 {x} {end} {place} {y} {u} {w} c = record {
-    before = back_0 link_config (seen link_config 1 y x) end place u w c.theirs.0 (moved link_config (seen link_config 0 x y) (seen link_config 1 y x) 0 end place u w is (swaps 0 p2 x y) (swaps' 0 p2 x y) c.before);
-    calm = c.theirs.1;
-    theirs = (c.before.mark, c.calm);
+    before = back_0 link_config (seen link_config 1 y x) end place u w c.opposite.0 (moved link_config (seen link_config 0 x y) (seen link_config 1 y x) 0 end place u w is (swaps 0 p2 x y) (swaps' 0 p2 x y) c.before);
+    calm = c.opposite.1;
+    opposite = (c.before.mark, c.calm);
   }
   flip (suc zero) p2 {x} {end} {place} {y} {u} {w} c = record {
-    before = back_1 link_config (seen link_config 0 y x) end place u w c.theirs.0 (moved link_config (seen link_config 1 x y) (seen link_config 0 y x) 1 end place u w is (swaps 1 p2 x y) (swaps' 1 p2 x y) c.before);
-    calm = c.theirs.1;
-    theirs = (c.before.mark, c.calm);
+    before = back_1 link_config (seen link_config 0 y x) end place u w c.opposite.0 (moved link_config (seen link_config 1 x y) (seen link_config 0 y x) 1 end place u w is (swaps 1 p2 x y) (swaps' 1 p2 x y) c.before);
+    calm = c.opposite.1;
+    opposite = (c.before.mark, c.calm);
   }
   flip (suc (suc p)) p2 c = absurd (omega arith)
 
@@ -185,9 +185,9 @@ module _ (link_config : LinkConfig) (is : IsLinkConfig link_config) (p : ℕ) (p
     before = moved link_config after (seen link_config p x' y) p end' place' u w is
         record { state = own_state link_config is p p2 x' y ∙ same p (own_state link_config is p p2 x y); section = λ j lt. own_word link_config is p p2 x' y j lt ∙ same _ (own_word link_config is p p2 x y j lt) }
         record { state = their_state link_config is p p2 x' y ∙ (sym (their_state link_config is p p2 x y) ∙ sym keep.state); section = λ j lt. their_word link_config is p p2 x' y j lt ∙ (sym (their_word link_config is p p2 x y j lt) ∙ sym (keep.section j lt)) }
-        record { mine = mine; theirs = alone_kept.others link_config (1 - p) (seen link_config p x y) after u w is keep c.before.theirs; mark = leads.sound.0; from = leads.from; back = leads.back; faces = leads.faces };
+        record { mine = mine; opposite = alone_kept.others link_config (1 - p) (seen link_config p x y) after u w is keep c.before.opposite; mark = leads.sound.0; from = leads.from; back = leads.back; faces = leads.faces };
     calm = leads.sound.1;
-    theirs = c.theirs;
+    opposite = c.opposite;
   }
 
   -- A step whose load gives the word at the other's moment.
@@ -208,7 +208,7 @@ module _ (link_config : LinkConfig) (is : IsLinkConfig link_config) (p : ℕ) (p
 
 pub begin_cut : (link_config : LinkConfig) (is : IsLinkConfig link_config) (p : ℕ) (p2 : p < 2) {x y : ℕ → ℕ} {end : End} {u : End} {w : Place} (call : Call) → IsGivenTo link_config call → Cut link_config p x end Closed y u w → Cut link_config p x end (first_place (config_of link_config p) end call) y u w
 begin_cut link_config is p p2 {x} {y} {end} {u} {w} call given c = let m = seen link_config p x y in let l = first_leads link_config m p end u w call c.before in record {
-  before = record { mine = alone_kept.begins link_config p m end call is given c.before.mine; theirs = c.before.theirs; mark = l.sound.0; from = l.from; back = l.back; faces = l.faces };
+  before = record { mine = alone_kept.begins link_config p m end call is given c.before.mine; opposite = c.before.opposite; mark = l.sound.0; from = l.from; back = l.back; faces = l.faces };
   calm = l.sound.1;
-  theirs = c.theirs;
+  opposite = c.opposite;
 }

@@ -157,13 +157,13 @@ join {link_config} {field} {accepted} {accepted'} {delivered} {delivered'} {free
 
 module _ (link_config : LinkConfig) (memory : ℕ → ℕ) (p : ℕ) (end end' : End) (place place' : Place) (u u' : End) (w w' : Place) where
   joined : end'.accepted ≡ end.accepted → end'.returned ≡ end.returned → u'.accepted ≡ u.accepted → u'.returned ≡ u.returned → Facing link_config memory p end' place' u w → Facing link_config memory p end place u' w' → Facing link_config memory p end' place' u' w'
-  joined ea er ua ur f g = record { mine = f.mine; theirs = g.theirs; sends = join ea ur f.sends g.sends; takes = join ua er g.takes f.takes }
+  joined ea er ua ur f g = record { mine = f.mine; opposite = g.opposite; sends = join ea ur f.sends g.sends; takes = join ua er g.takes f.takes }
 
 -- The place after a Tick's load is a place of a Tick.
 ticks_mine : (link_config : LinkConfig) (memory : ℕ → ℕ) (p : ℕ) (end : End) (place place' : Place) (u : End) (w : Place) → IsTick place → IsTick place' → Facing link_config memory p end place u w → Facing link_config memory p end place' u w
 ticks_mine link_config memory p end place place' u w was goes f = record {
   mine = f.mine;
-  theirs = f.theirs;
+  opposite = f.opposite;
   sends = subst (λ k. InFlight link_config (fields link_config memory (1 - p)) end.accepted end.freed k u.delivered u.returned w) (tick_freed end.freed place was ∙ sym (tick_freed end.freed place' goes)) f.sends;
   takes = takes_on place' (λ k. refl) (tick_polls link_config (fields link_config memory p) u.accepted place' goes) f.takes;
 }
@@ -171,7 +171,7 @@ ticks_mine link_config memory p end place place' u w was goes f = record {
 ticks_theirs : (link_config : LinkConfig) (memory : ℕ → ℕ) (p : ℕ) (end : End) (place : Place) (u : End) (w w' : Place) → IsTick w → IsTick w' → Facing link_config memory p end place u w → Facing link_config memory p end place u w'
 ticks_theirs link_config memory p end place u w w' was goes f = record {
   mine = f.mine;
-  theirs = f.theirs;
+  opposite = f.opposite;
   sends = takes_on w' (λ k. refl) (tick_polls link_config (fields link_config memory (1 - p)) end.accepted w' goes) f.sends;
   takes = subst (λ k. InFlight link_config (fields link_config memory p) u.accepted u.freed k end.delivered end.returned place) (tick_freed u.freed w was ∙ sym (tick_freed u.freed w' goes)) f.takes;
 }
@@ -205,12 +205,12 @@ module _ (link_config : LinkConfig) (p : ℕ) (x y : ℕ → ℕ) (end end' : En
   diamond l k one two b c = record {
     before = record {
       mine = b.before.mine;
-      theirs = c.before.theirs;
+      opposite = c.before.opposite;
       mark = b.before.mark;
-      from = opens link_config (seen link_config p x y) (1 - p) end end' place place' u u' w w' l k c.before.theirs.holds b.before.from c.before.from one;
+      from = opens link_config (seen link_config p x y) (1 - p) end end' place place' u u' w w' l k c.before.opposite.holds b.before.from c.before.from one;
       back = opens link_config (seen link_config p x y) p u u' w w' end end' place place' k l b.before.mine.holds c.before.back b.before.back two;
       faces = faces l k b.before c.before;
     };
     calm = b.calm;
-    theirs = c.theirs;
+    opposite = c.opposite;
   }

@@ -20,8 +20,8 @@ use Rattle.weak_orders.specs.Sessions.{opens_at, opened}
 use Rattle.weak_orders.specs.Bell.{DoorbellsFollowIndexes}
 use Rattle.weak_orders.proofs.Rows.{offer_doorbell_releases, poll_doorbell_releases}
 use Rattle.weak_orders.proofs.Advance.{Held, Found, Reclaimed, Rung}
-use Rattle.weak_orders.proofs.RunsKeepInvariant.{held_lem}
-use Rattle.weak_orders.proofs.Sessions.{view_up, opened_up, one_lem}
+use Rattle.weak_orders.proofs.RunsKeepInvariant.{weak_runs_are_held}
+use Rattle.weak_orders.proofs.Sessions.{view_up, opened_up, sessions_are_one}
 use Rattle.weak_orders.proofs.DoorbellsRing.{not_two, longer}
 
 -- A doorbell whose place releases is a release.
@@ -70,29 +70,29 @@ module _ (link_config : LinkConfig) (is : IsLinkConfig link_config) (pasts : ℕ
         let after = r.1 (released link_config (1 - p) (pasts (1 - p) b).place (pasts (1 - p) (suc b)).action p link_config.vector rings r.0) in
         let up = view_up link_config is pasts now held p p2 (suc h) (a - suc h) (omega arith) in let at = ap (λ k. (pasts p k).view) (let e : suc h + (a - suc h) ≡ a = omega arith in e) in omega arith
 
-    finds_lem : (b h a t v : ℕ) (last : Bool) → h < a → suc a ≤ now p → (pasts (1 - p) b).place ≡ RingingOffer → (pasts p (suc h)).action ≡ Receives b → (pasts p a).place ≡ ReadingAvailIndex t last → (pasts p (suc a)).action ≡ Takes v →
+    poll_finds : (b h a t v : ℕ) (last : Bool) → h < a → suc a ≤ now p → (pasts (1 - p) b).place ≡ RingingOffer → (pasts p (suc h)).action ≡ Receives b → (pasts p a).place ≡ ReadingAvailIndex t last → (pasts p (suc a)).action ≡ Takes v →
         opened (pasts (1 - p)) b ≡ opened (pasts (1 - p)) (pasts p a).view → length (pasts (1 - p) b).end.accepted ≤ t + published_by t v
-    finds_lem b h a t v last ha an rings receives look took session = let o2 : 1 - p < 2 = omega arith in let after = known b h a ha an (ap releases rings ∙ offer_doorbell_releases) receives in
+    poll_finds b h a t v last ha an rings receives look took session = let o2 : 1 - p < 2 = omega arith in let after = known b h a ha an (ap releases rings ∙ offer_doorbell_releases) receives in
         let g : Found link_config p (pasts p a) (pasts p (suc a)) (pasts (1 - p)) (Takes v) = subst (λ d. Found link_config p (pasts p a) (pasts p (suc a)) (pasts (1 - p)) d) took (held.trail p p2 a an).found in
         let s = g t last look in let s1 = s.1 in let s2 = s.2 in let views = held.views p p2 (suc a) an in let back = held.causal p p2 a an s.0 s2 in
         let c = held.cuts p p2 a s.0 (omega arith) (omega arith) s1 back in let m = pasts (1 - p) s.0 in let x = seen link_config p (pasts p a).words m.words in
         let bf : Before link_config x p (pasts p a).end (ReadingAvailIndex t last) m.end m.place = subst (λ k. Before link_config x p (pasts p a).end k m.end m.place) look c.before in
-        let exact = published_is link_config is p x (pasts p a).end m.end m.place bf.mark t last v s.3 bf.theirs bf.mine (bf.faces (inl (inl bf.mine.holds.0))) in
-        let one = (one_lem link_config is pasts now held p p2 a s.0 (omega arith) (omega arith) (inl bf.mine.holds.0) s1 back).0 in
+        let exact = published_is link_config is p x (pasts p a).end m.end m.place bf.mark t last v s.3 bf.opposite bf.mine (bf.faces (inl (inl bf.mine.holds.0))) in
+        let one = (sessions_are_one link_config is pasts now held p p2 a s.0 (omega arith) (omega arith) (inl bf.mine.holds.0) s1 back).0 in
         let e : b + (s.0 - b) ≡ s.0 = omega arith in let z = ap (opened (pasts (1 - p))) e in let y = ap (λ k. length (pasts (1 - p) k).end.accepted) e in
         let l = longer link_config is pasts now held (1 - p) o2 b (s.0 - b) (omega arith) (omega arith) in omega arith
 
-    frees_lem : (b h a freed v : ℕ) (pending : PendingOffer) → h < a → suc a ≤ now p → (pasts (1 - p) b).place ≡ RingingPoll → (pasts p (suc h)).action ≡ Receives b → (pasts p a).place ≡ ReadingUsedIndex pending freed → (pasts p (suc a)).action ≡ Takes v →
+    offer_frees : (b h a freed v : ℕ) (pending : PendingOffer) → h < a → suc a ≤ now p → (pasts (1 - p) b).place ≡ RingingPoll → (pasts p (suc h)).action ≡ Receives b → (pasts p a).place ≡ ReadingUsedIndex pending freed → (pasts p (suc a)).action ≡ Takes v →
         opened (pasts (1 - p)) b ≡ opened (pasts (1 - p)) (pasts p a).view → (pasts (1 - p) b).end.returned ≤ freed + returned_by freed v
-    frees_lem b h a freed v pending ha an rings receives look took session = let o2 : 1 - p < 2 = omega arith in let after = known b h a ha an (ap releases rings ∙ poll_doorbell_releases) receives in
+    offer_frees b h a freed v pending ha an rings receives look took session = let o2 : 1 - p < 2 = omega arith in let after = known b h a ha an (ap releases rings ∙ poll_doorbell_releases) receives in
         let g : Reclaimed link_config p (pasts p a) (pasts p (suc a)) (pasts (1 - p)) (Takes v) = subst (λ d. Reclaimed link_config p (pasts p a) (pasts p (suc a)) (pasts (1 - p)) d) took (held.trail p p2 a an).reclaimed in
         let s = g pending freed look in let s1 = s.1 in let s2 = s.2 in let views = held.views p p2 (suc a) an in let back = held.causal p p2 a an s.0 s2 in
         let c = held.cuts p p2 a s.0 (omega arith) (omega arith) s1 back in let m = pasts (1 - p) s.0 in let x = seen link_config p (pasts p a).words m.words in
         let bf : Before link_config x p (pasts p a).end (ReadingUsedIndex pending freed) m.end m.place = subst (λ k. Before link_config x p (pasts p a).end k m.end m.place) look c.before in
         let exact = (returned_is link_config is p x (pasts p a).end m.end m.place bf.mark pending freed v s.3 bf.mine (bf.faces (inl (inl bf.mine.holds.0)))).0 in let same = bf.mine.holds.2 in
-        let one = (one_lem link_config is pasts now held p p2 a s.0 (omega arith) (omega arith) (inl bf.mine.holds.0) s1 back).0 in
+        let one = (sessions_are_one link_config is pasts now held p p2 a s.0 (omega arith) (omega arith) (inl bf.mine.holds.0) s1 back).0 in
         let e : b + (s.0 - b) ≡ s.0 = omega arith in let z = ap (opened (pasts (1 - p))) e in let y = ap (λ k. (pasts (1 - p) k).end.returned) e in
         let l = more (1 - p) o2 b (s.0 - b) (omega arith) (omega arith) in omega arith
 
-pub bell_lem : DoorbellsFollowIndexes
-bell_lem link_config pasts now is run p p2 = let h = held_lem link_config pasts now is run in record { finds = finds_lem link_config is pasts now h p p2; frees = frees_lem link_config is pasts now h p p2 }
+pub doorbells_follow_indexes : DoorbellsFollowIndexes
+doorbells_follow_indexes link_config pasts now is run p p2 = let h = weak_runs_are_held link_config pasts now is run in record { finds = poll_finds link_config is pasts now h p p2; frees = offer_frees link_config is pasts now h p p2 }

@@ -16,7 +16,7 @@ use Rattle.link_invariant.specs.EndInvariant.{PlaceInvariant}
 use Rattle.link_invariant.specs.Wake.{EventIndexIs}
 use Rattle.link_invariant.specs.Steps.{MemoryAfter}
 use Rattle.link_invariant.proofs.Fields.{field_read, fields_same, inside}
-use Rattle.link_invariant.proofs.WriteSteps.{puts_lem}
+use Rattle.link_invariant.proofs.WriteSteps.{place_puts}
 use Rattle.link_invariant.proofs.TickSteps.{not_phase}
 use Rattle.link_invariant.proofs.DoorbellIsRung.{asks_there, event_stays}
 use Rattle.link_handshake.specs.declared.Phase.TheVariants.{Init, Run}
@@ -31,9 +31,9 @@ use Rattle.weak_orders.proofs.Rows.{event_store_fences, reset_fences}
 use Rattle.weak_orders.proofs.Cuts.{their_word}
 use Rattle.weak_orders.proofs.Advance.{Held, Found, Sourced}
 use Rattle.weak_orders.proofs.OneLoadResult.{none, noted_grows, stated_keeps, state_in}
-use Rattle.weak_orders.proofs.RunsKeepInvariant.{held_lem}
-use Rattle.weak_orders.proofs.OneEnd.{safe_lem, alone_of}
-use Rattle.weak_orders.proofs.Sessions.{opened_up, one_lem}
+use Rattle.weak_orders.proofs.RunsKeepInvariant.{weak_runs_are_held}
+use Rattle.weak_orders.proofs.OneEnd.{end_is_safe, alone_of}
+use Rattle.weak_orders.proofs.Sessions.{opened_up, sessions_are_one}
 
 -- The number of accepted frames doesn't fall at an action that opens no session.
 pub not_two : (link_config : LinkConfig) (q : ℕ) (place : Place) (v : ℕ) → opens_at place (Takes v) ≡ 0 → (s : ℕ) → access_at (config_of link_config q) place ≡ access.State s → s ≢ 2
@@ -72,8 +72,8 @@ module _ (link_config : LinkConfig) (is : IsLinkConfig link_config) (pasts : ℕ
         let s = g t last look in let s1 = s.1 in let s2 = s.2 in let views = held.views p p2 (suc a) an in let back = held.causal p p2 a an s.0 s2 in
         let c = held.cuts p p2 a s.0 (omega arith) (omega arith) s1 back in let m = pasts (1 - p) s.0 in let x = seen link_config p (pasts p a).words m.words in
         let bf : Before link_config x p (pasts p a).end (ReadingAvailIndex t last) m.end m.place = subst (λ k. Before link_config x p (pasts p a).end k m.end m.place) look c.before in
-        let exact = published_is link_config is p x (pasts p a).end m.end m.place bf.mark t last v s.3 bf.theirs bf.mine (bf.faces (inl (inl bf.mine.holds.0))) in
-        let one = (one_lem link_config is pasts now held p p2 a s.0 (omega arith) (omega arith) (inl bf.mine.holds.0) s1 back).0 in
+        let exact = published_is link_config is p x (pasts p a).end m.end m.place bf.mark t last v s.3 bf.opposite bf.mine (bf.faces (inl (inl bf.mine.holds.0))) in
+        let one = (sessions_are_one link_config is pasts now held p p2 a s.0 (omega arith) (omega arith) (inl bf.mine.holds.0) s1 back).0 in
         dite (dec_lt b s.0)
         (λ lt. let e : b + (s.0 - b) ≡ s.0 = omega arith in let z = ap (opened (pasts (1 - p))) e in let l = longer (1 - p) o2 b (s.0 - b) (omega arith) (omega arith) in let y = ap (λ k. length (pasts (1 - p) k).end.accepted) e in let n = accepted_at b (omega arith) receives in omega arith)
         (λ ge. let n = accepted_at s.0 (omega arith) (held.received (1 - p) o2 b (omega arith) t s.0 free receives (omega arith) (omega arith)) in omega arith)
@@ -104,11 +104,11 @@ module _ (link_config : LinkConfig) (is : IsLinkConfig link_config) (pasts : ℕ
     Stands k = EventIndexIs link_config (pasts p k).words p t
 
     invariant_at : (k : ℕ) → k ≤ now p → (place : Place) → (pasts p k).place ≡ place → PlaceInvariant link_config (pasts p k).words p (pasts p k).end place
-    invariant_at k kn place e = subst (PlaceInvariant link_config (pasts p k).words p (pasts p k).end) e (safe_lem link_config is p p2 (pasts p) (now p) alone k kn).0.holds
+    invariant_at k kn place e = subst (PlaceInvariant link_config (pasts p k).words p (pasts p k).end) e (end_is_safe link_config is p p2 (pasts p) (now p) alone k kn).0.holds
 
     written : (k value : ℕ) → suc k ≤ now p → (pasts p k).place ≡ WritingAvailEvent t → Does link_config p (pasts p k) (pasts p (suc k)) (Takes value) → Stands (suc k)
     unfolding Stands
-    written k value kn e d = (puts_lem link_config is p p2 (pasts p k).words (pasts p (suc k)).words (pasts p k).end (WritingAvailEvent t)
+    written k value kn e d = (place_puts link_config is p p2 (pasts p k).words (pasts p (suc k)).words (pasts p k).end (WritingAvailEvent t)
         (subst (λ (x : Place). MemoryAfter p (pasts p k).words (access_at (config_of link_config p) x) (pasts p (suc k)).words) e d.1) (invariant_at k (omega arith) (WritingAvailEvent t) e)).here
 
     took_on : (k value : ℕ) (place : Place) → c < k → suc k ≤ now p → (pasts p k).place ≡ place → Does link_config p (pasts p k) (pasts p (suc k)) (Takes value) → Stands k → Stands (suc k) ⊎ HasMovedOn (pasts p) c (now p) t
@@ -136,9 +136,9 @@ module _ (link_config : LinkConfig) (is : IsLinkConfig link_config) (pasts : ℕ
         ⊎_elim (λ (h : Stands k). subst (λ k. Stands k ⊎ HasMovedOn (pasts p) c (now p) t) (let e : suc k ≡ suc c + suc j = omega arith in e) (stands_on k (pasts p (suc k)).action (omega arith) (omega arith) d h)) (λ moved. inr moved) (stands j (omega arith))
 
     -- If the load of the event knows the end's fence, then it gives the event, and the offer rings.
-    rings_lem : ((pasts (1 - p) (suc b)).place ≡ RingingOffer) ⊎ HasMovedOn (pasts p) c (now p) t
+    rings_or_moved_on : ((pasts (1 - p) (suc b)).place ≡ RingingOffer) ⊎ HasMovedOn (pasts p) c (now p) t
     unfolding Stands
-    rings_lem = let made = fence_made in let o2 : 1 - p < 2 = omega arith in let back : 1 - (1 - p) ≡ p = omega arith in let q = pasts (1 - p) b in let tr = held.trail (1 - p) o2 b bn in
+    rings_or_moved_on = let made = fence_made in let o2 : 1 - p < 2 = omega arith in let back : 1 - (1 - p) ≡ p = omega arith in let q = pasts (1 - p) b in let tr = held.trail (1 - p) o2 b bn in
         let d : Does link_config (1 - p) q (pasts (1 - p) (suc b)) (Takes w) = subst (λ d. Does link_config (1 - p) q (pasts (1 - p) (suc b)) d) received tr.does in
         let src : Sourced link_config (1 - p) q (pasts p) (now p) (Takes w) = subst (λ r. Sourced link_config (1 - p) q (pasts r) (now r) (Takes w)) back (subst (λ d. Sourced link_config (1 - p) q (pasts (1 - (1 - p))) (now (1 - (1 - p))) d) received tr.sourced) in
         let s = src (section_of link_config (1 - (1 - p)) + word_offset link_config.sizes AvailEvent) (ap (λ (k : Place). access_at (config_of link_config (1 - p)) k) receives) in let s1 = s.1 in
@@ -158,8 +158,8 @@ module _ (link_config : LinkConfig) (is : IsLinkConfig link_config) (pasts : ℕ
         rung true e = refl
         rung false e = absurd (cc)
 
-pub wake_lem : WeakDoorbellsRing
-wake_lem link_config pasts now is run p p2 = record {
+pub weak_doorbells_ring : WeakDoorbellsRing
+weak_doorbells_ring link_config pasts now is run p p2 = record {
   rings = λ c a b t x v w last ca an bn arms armed look took none receives received session.
-      rings_lem link_config is pasts now (held_lem link_config pasts now is run) p p2 c a b t x v w last ca an bn look took none arms armed (alone_of link_config pasts now is run p p2) receives received session;
+      rings_or_moved_on link_config is pasts now (weak_runs_are_held link_config pasts now is run) p p2 c a b t x v w last ca an bn look took none arms armed (alone_of link_config pasts now is run p p2) receives received session;
 }

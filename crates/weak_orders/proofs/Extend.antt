@@ -18,26 +18,26 @@ use Rattle.weak_orders.proofs.RunsKeepInvariant.{pick}
 
 -- A run depends on its moments up to the last ones alone.
 
-module _ (link_config : LinkConfig) (p : ℕ) (old new : Moment) (base : ℕ) (theirs theirs' : ℕ → Moment) (now : ℕ) (same : (k : ℕ) → k ≤ now → theirs' k ≡ theirs k) where
-  gives_same : (word value : ℕ) → base ≤ now → Gives link_config p old new base theirs now word value → Gives link_config p old new base theirs' now word value
+module _ (link_config : LinkConfig) (p : ℕ) (old new : Moment) (base : ℕ) (opposite opposite' : ℕ → Moment) (now : ℕ) (same : (k : ℕ) → k ≤ now → opposite' k ≡ opposite k) where
+  gives_same : (word value : ℕ) → base ≤ now → Gives link_config p old new base opposite now word value → Gives link_config p old new base opposite' now word value
   gives_same word value le (inl gave) = inl (subst (λ (m : Moment). value ≡ seen link_config p old.words m.words word) (sym (same base le)) gave)
   gives_same word value le (inr s) = let k = s.0 in let lt = s.2 in let e = sym (same k (omega arith)) in let f = sym (same (suc k) (omega arith)) in inr (
     k,
     s.1,
     s.2,
-    subst (λ (m : Moment). StoresTo (1 - p) (access_of link_config (1 - p) m.place (theirs' (suc k)).action) word) e (subst (λ (m : Moment). StoresTo (1 - p) (access_of link_config (1 - p) (theirs k).place m.action) word) f s.3),
+    subst (λ (m : Moment). StoresTo (1 - p) (access_of link_config (1 - p) m.place (opposite' (suc k)).action) word) e (subst (λ (m : Moment). StoresTo (1 - p) (access_of link_config (1 - p) (opposite k).place m.action) word) f s.3),
     subst (λ (m : Moment). value ≡ seen link_config p old.words m.words word) f s.4,
-    λ a. λ r. s.5 a (subst (λ (m : Moment). is_release m.place (theirs (suc k)).action ≡ true) (same k (omega arith)) (subst (λ (m : Moment). is_release (theirs' k).place m.action ≡ true) (same (suc k) (omega arith)) r)),
+    λ a. λ r. s.5 a (subst (λ (m : Moment). is_release m.place (opposite (suc k)).action ≡ true) (same k (omega arith)) (subst (λ (m : Moment). is_release (opposite' k).place m.action ≡ true) (same (suc k) (omega arith)) r)),
   )
 
-  loads_same' : (value : ℕ) (a : Access) → base ≤ now → LoadsBy link_config p old new base theirs now value a → LoadsBy link_config p old new base theirs' now value a
+  loads_same' : (value : ℕ) (a : Access) → base ≤ now → LoadsBy link_config p old new base opposite now value a → LoadsBy link_config p old new base opposite' now value a
   loads_same' value (access.Read word) le l = gives_same word value le l
   loads_same' value (access.Write at n) le l = tt
   loads_same' value (access.State state) le l = tt
   loads_same' value (access.Ring target vector) le l = tt
   loads_same' value access.Nothing le l = tt
 
-  loads_same : (action : Action) → base ≤ now → Loads link_config p old new base theirs now action → Loads link_config p old new base theirs' now action
+  loads_same : (action : Action) → base ≤ now → Loads link_config p old new base opposite now action → Loads link_config p old new base opposite' now action
   loads_same Starts le l = tt
   loads_same (Begins call) le l = tt
   loads_same (Takes value) le l = loads_same' value (access_at (config_of link_config p) old.place) le l
@@ -45,13 +45,13 @@ module _ (link_config : LinkConfig) (p : ℕ) (old new : Moment) (base : ℕ) (t
   loads_same (Receives k) le l = let lt = l.0 in let e = same k (omega arith) in let f = same (suc k) (omega arith) in (
     l.0,
     (
-      subst (λ (m : Moment). access_of link_config (1 - p) m.place (theirs' (suc k)).action ≡ access.Ring p link_config.vector) (sym e) (subst (λ (m : Moment). access_of link_config (1 - p) (theirs k).place m.action ≡ access.Ring p link_config.vector) (sym f) l.1.0),
-      λ r. l.1.1 (subst (λ (m : Moment). is_release m.place (theirs (suc k)).action ≡ true) e (subst (λ (m : Moment). is_release (theirs' k).place m.action ≡ true) f r)),
+      subst (λ (m : Moment). access_of link_config (1 - p) m.place (opposite' (suc k)).action ≡ access.Ring p link_config.vector) (sym e) (subst (λ (m : Moment). access_of link_config (1 - p) (opposite k).place m.action ≡ access.Ring p link_config.vector) (sym f) l.1.0),
+      λ r. l.1.1 (subst (λ (m : Moment). is_release m.place (opposite (suc k)).action ≡ true) e (subst (λ (m : Moment). is_release (opposite' k).place m.action ≡ true) f r)),
     ),
   )
   loads_same Resets le l = tt
 
-  fenced_same : (at : ℕ) (action : Action) → FencedBy old new at theirs now action → FencedBy old new at theirs' now action
+  fenced_same : (at : ℕ) (action : Action) → FencedBy old new at opposite now action → FencedBy old new at opposite' now action
   fenced_same at Starts f = f
   fenced_same at (Begins call) f = f
   fenced_same at (Takes value) f = f
@@ -59,14 +59,14 @@ module _ (link_config : LinkConfig) (p : ℕ) (old new : Moment) (base : ℕ) (t
   fenced_same at (Receives k) f = f
   fenced_same at Resets f = f
 
-knows_same : (link_config : LinkConfig) (p : ℕ) (old new : Moment) (at : ℕ) (theirs theirs' : ℕ → Moment) (now : ℕ) → ((k : ℕ) → k ≤ now → theirs' k ≡ theirs k) → Knows link_config p old new at theirs now → Knows link_config p old new at theirs' now
-knows_same link_config p old new at theirs theirs' now same k = let keeps = k.keeps in let known = k.known in record {
+knows_same : (link_config : LinkConfig) (p : ℕ) (old new : Moment) (at : ℕ) (opposite opposite' : ℕ → Moment) (now : ℕ) → ((k : ℕ) → k ≤ now → opposite' k ≡ opposite k) → Knows link_config p old new at opposite now → Knows link_config p old new at opposite' now
+knows_same link_config p old new at opposite opposite' now same k = let keeps = k.keeps in let known = k.known in record {
   base = k.base;
   rises = k.rises;
   keeps = k.keeps;
   known = k.known;
-  fence = fenced_same link_config p old new k.base theirs theirs' now same at new.action k.fence;
-  loads = loads_same link_config p old new k.base theirs theirs' now same new.action (omega arith) k.loads;
+  fence = fenced_same link_config p old new k.base opposite opposite' now same at new.action k.fence;
+  loads = loads_same link_config p old new k.base opposite opposite' now same new.action (omega arith) k.loads;
 }
 
 -- The same moments up to the last ones of both ends, and the same functions at numbers from 2 on.
@@ -137,7 +137,7 @@ pub record Further (link_config : LinkConfig) (pasts : ℕ → ℕ → Moment) (
   pub grows : (q : ℕ) → q < 2 → (k : ℕ) → k ≤ now q → k ≤ last q
   pub adds : after p (suc (now p)) ≡ new
   pub mine : last p ≡ suc (now p)
-  pub theirs : last (1 - p) ≡ now (1 - p)
+  pub opposite : last (1 - p) ≡ now (1 - p)
 
 pub further : (link_config : LinkConfig) (pasts : ℕ → ℕ → Moment) (now : ℕ → ℕ) (p : ℕ) (old new : Moment) → WeakRuns link_config pasts now → p < 2 → pasts p (now p) ≡ old → Does link_config p old new new.action →
     Knows link_config p old new (suc (now p)) (pasts (1 - p)) (now (1 - p)) → Further link_config pasts now p new
@@ -160,7 +160,7 @@ further link_config pasts now p old new run p2 at does knows =
       grows = pick p p2 (λ q. (k : ℕ) → k ≤ now q → k ≤ one_more now p q) (λ k le. let m = more_here now p in omega arith) (λ k le. let m = more_there now p (1 - p) ne in omega arith);
       adds = f;
       mine = more_here now p;
-      theirs = more_there now p (1 - p) ne;
+      opposite = more_there now p (1 - p) ne;
     }
 
 pub go_on : (link_config : LinkConfig) (pasts : ℕ → ℕ → Moment) (now : ℕ → ℕ) (p : ℕ) (new : Moment) → WeakRuns link_config pasts now → p < 2 → Does link_config p (pasts p (now p)) new new.action →
@@ -170,7 +170,7 @@ go_on link_config pasts now p new run p2 does knows = let f = further link_confi
   now = f.last;
   run = f.run;
   here = ap (f.after p) f.mine ∙ f.adds;
-  there = ap (f.after (1 - p)) f.theirs ∙ f.keeps (1 - p) (omega arith) (now (1 - p)) (omega arith);
+  there = ap (f.after (1 - p)) f.opposite ∙ f.keeps (1 - p) (omega arith) (now (1 - p)) (omega arith);
 }
 
 -- A load from an earlier moment
@@ -186,8 +186,8 @@ stale_moment link_config p m i value = let config = config_of link_config p in r
   owed = owes m.place (next_place config m.place value);
 }
 
-loads_at : (link_config : LinkConfig) (p : ℕ) (old new : Moment) (base : ℕ) (theirs : ℕ → Moment) (now value word : ℕ) (a : Access) → a ≡ access.Read word → value ≡ seen link_config p old.words (theirs base).words word → LoadsBy link_config p old new base theirs now value a
-loads_at link_config p old new base theirs now value word a e gave = subst (LoadsBy link_config p old new base theirs now value) (sym e) (inl gave)
+loads_at : (link_config : LinkConfig) (p : ℕ) (old new : Moment) (base : ℕ) (opposite : ℕ → Moment) (now value word : ℕ) (a : Access) → a ≡ access.Read word → value ≡ seen link_config p old.words (opposite base).words word → LoadsBy link_config p old new base opposite now value a
+loads_at link_config p old new base opposite now value word a e gave = subst (LoadsBy link_config p old new base opposite now value) (sym e) (inl gave)
 
 left_at : (p : ℕ) (words : ℕ → ℕ) (word : ℕ) (a : Access) → a ≡ access.Read word → MemoryAfter p words a words
 left_at p words word a e = subst (λ (k : Access). MemoryAfter p words k words) (sym e) refl
@@ -196,9 +196,9 @@ open_at : (link_config : LinkConfig) (p word : ℕ) (place : Place) → access_a
 open_at link_config p word Closed e = absurd (cc)
 open_at link_config p word place e = refl
 
-pub stale_lem : LoadsMayBeStale
+pub loads_may_be_stale : LoadsMayBeStale
 unfolding stale_moment
-stale_lem link_config pasts now p i word is run p2 free reads from to = let m = pasts p (now p) in let value = seen link_config p m.words (pasts (1 - p) i).words word in let new = stale_moment link_config p m i value in (
+loads_may_be_stale link_config pasts now p i word is run p2 free reads from to = let m = pasts p (now p) in let value = seen link_config p m.words (pasts (1 - p) i).words word in let new = stale_moment link_config p m i value in (
   new,
   refl,
   go_on link_config pasts now p new run p2 (open_at link_config p word m.place reads, left_at p m.words word (access_at (config_of link_config p) m.place) reads, refl, refl, free, refl) record {

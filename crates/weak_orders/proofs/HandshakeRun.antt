@@ -5,7 +5,7 @@ use Rattle.link_handshake.specs.declared.Phase.{Phase}
 use Rattle.link_handshake.specs.declared.Phase.TheVariants.{Reset, Init, Ready, Run}
 use Rattle.link_handshake.specs.declared.Move.{Move}
 use Rattle.link_handshake.specs.declared.Move.TheVariants.{Stay, Set, ClearThenSet}
-use Rattle.link_handshake.specs.PhaseTable.{move_on, phase_at, state_of}
+use Rattle.link_handshake.specs.PhaseTable.{phase_move, phase_of_state, state_of}
 use Rattle.split_ring.specs.Layout.{queue_size}
 use Rattle.call_grammar.specs.Ticks.{EndConfig, tick_marks}
 use Rattle.call_grammar.specs.Ends.{End, fresh, with_state, with_marks, end_after}
@@ -139,7 +139,7 @@ module _ (phases : ℕ → Phase) (p : ℕ) (p2 : p < 2) where
   config = config_of worked_config p
 
   abbrev move : Move
-  move = move_on (phases p) (state_of (phases (1 - p)))
+  move = phase_move (phases p) (state_of (phases (1 - p)))
 
   o2 : 1 - p < 2
   o2 = omega arith
@@ -188,8 +188,8 @@ module _ (phases : ℕ → Phase) (p : ℕ) (p2 : p < 2) where
   }
 
   -- The end stores its own State.
-  stores : (state : ℕ) → state_of (phase_at state) ≡ state → ((written : ℕ → ℕ) → with_state (idle (phases p) written) state ≡ idle (phase_at state) written) →
-      EndsAt phases (set all_closed p (WritingState state)) → EndsAt (set phases p (phase_at state)) all_closed
+  stores : (state : ℕ) → state_of (phase_of_state state) ≡ state → ((written : ℕ → ℕ) → with_state (idle (phases p) written) state ≡ idle (phase_of_state state) written) →
+      EndsAt phases (set all_closed p (WritingState state)) → EndsAt (set phases p (phase_of_state state)) all_closed
   unfolding after_of
   stores state named kept s = let end = idle (phases p) (s.written p) in
       let stored = step s.memory s.ends s.places p p2 end (s.ends_are p p2) (WritingState state) 0 s.run (s.places_are p p2 ∙ set_here all_closed p (WritingState state)) refl tt in
@@ -200,12 +200,12 @@ module _ (phases : ℕ → Phase) (p : ℕ) (p2 : p < 2) where
         written = s.written;
         run = stored;
         none = λ w le. set_there s.memory p state w (λ e. omega arith) ∙ s.none w le;
-        states = pick p p2 (λ q. memory q ≡ state_of (set phases p (phase_at state) q))
-            (set_here s.memory p state ∙ (sym named ∙ ap state_of (sym (set_here phases p (phase_at state)))))
-            (set_there s.memory p state (1 - p) apart ∙ (s.states (1 - p) o2 ∙ ap state_of (sym (set_there phases p (phase_at state) (1 - p) apart))));
-        ends_are = pick p p2 (λ q. set s.ends p end' q ≡ idle (set phases p (phase_at state) q) (s.written q))
-            (set_here s.ends p end' ∙ (kept (s.written p) ∙ ap (λ (f : Phase). idle f (s.written p)) (sym (set_here phases p (phase_at state)))))
-            (set_there s.ends p end' (1 - p) apart ∙ (s.ends_are (1 - p) o2 ∙ ap (λ (f : Phase). idle f (s.written (1 - p))) (sym (set_there phases p (phase_at state) (1 - p) apart))));
+        states = pick p p2 (λ q. memory q ≡ state_of (set phases p (phase_of_state state) q))
+            (set_here s.memory p state ∙ (sym named ∙ ap state_of (sym (set_here phases p (phase_of_state state)))))
+            (set_there s.memory p state (1 - p) apart ∙ (s.states (1 - p) o2 ∙ ap state_of (sym (set_there phases p (phase_of_state state) (1 - p) apart))));
+        ends_are = pick p p2 (λ q. set s.ends p end' q ≡ idle (set phases p (phase_of_state state) q) (s.written q))
+            (set_here s.ends p end' ∙ (kept (s.written p) ∙ ap (λ (f : Phase). idle f (s.written p)) (sym (set_here phases p (phase_of_state state)))))
+            (set_there s.ends p end' (1 - p) apart ∙ (s.ends_are (1 - p) o2 ∙ ap (λ (f : Phase). idle f (s.written (1 - p))) (sym (set_there phases p (phase_of_state state) (1 - p) apart))));
         places_are = pick p p2 (λ q. set s.places p Closed q ≡ Closed) (set_here s.places p Closed)
             (set_there s.places p Closed (1 - p) apart ∙ (s.places_are (1 - p) o2 ∙ set_there all_closed p (WritingState state) (1 - p) apart));
       }

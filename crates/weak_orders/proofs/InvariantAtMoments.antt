@@ -6,7 +6,7 @@ use Rattle.split_ring.specs.declared.steps.Access.TheVariants as access
 use Rattle.link_handshake.specs.declared.Phase.{Phase}
 use Rattle.link_handshake.specs.declared.Phase.TheVariants.{Reset, Init, Ready, Run}
 use Rattle.link_handshake.specs.declared.Move.TheVariants.{Stay}
-use Rattle.link_handshake.specs.PhaseTable.{move_on, state_of}
+use Rattle.link_handshake.specs.PhaseTable.{phase_move, state_of}
 use Rattle.call_grammar.specs.Ends.{End}
 use Rattle.call_grammar.specs.Ticks.{EndConfig}
 use Rattle.call_grammar.specs.Places.{Place, Closed, ReadingOtherState, Clearing, WritingState, clear_place, tick_place, access_at, next_place}
@@ -56,7 +56,7 @@ cleared : (at count : ℕ) → (state_at (clear_place at count 2) ≡ 2) ⊎ (st
 cleared at zero = inl refl
 cleared at (suc more) = inr refl
 
-pub threes : (config : EndConfig) (mark : Bool) (phase : Phase) (value : ℕ) → state_at (tick_place config (if mark then Stay else move_on phase value)) ≡ 3 → 2 ≤ value
+pub threes : (config : EndConfig) (mark : Bool) (phase : Phase) (value : ℕ) → state_at (tick_place config (if mark then Stay else phase_move phase value)) ≡ 3 → 2 ≤ value
 threes config true phase value e = absurd (omega arith)
 threes config false Reset zero e = absurd (omega arith)
 threes config false Reset (suc zero) e = absurd (omega arith)
@@ -69,7 +69,7 @@ threes config false Ready (suc (suc more)) e = omega arith
 threes config false Run zero e = absurd (omega arith)
 threes config false Run (suc more) e = absurd (omega arith)
 
-pub ones : (config : EndConfig) (mark : Bool) (phase : Phase) (value : ℕ) → state_at (tick_place config (if mark then Stay else move_on phase value)) ≡ 1 → value ≤ 1
+pub ones : (config : EndConfig) (mark : Bool) (phase : Phase) (value : ℕ) → state_at (tick_place config (if mark then Stay else phase_move phase value)) ≡ 1 → value ≤ 1
 ones config true phase value e = absurd (omega arith)
 ones config false Reset zero e = omega arith
 ones config false Reset (suc zero) e = omega arith
@@ -126,9 +126,9 @@ no_clash link_config is p p2 A B a b v v' word word' end' u' place' w' alone alo
     let one = saw_three (config_of link_config p) (A a).place v word l.was e (sym g ∙ x.1) in
     let two = saw_one (config_of link_config (1 - p)) (B b).place v' word' k.was e' (sym g' ∙ x.3) in
     let mine : (A a).words p ≡ 2 = sym (own_state link_config is p p2 (A a).words (B b).words) ∙ (alone.state ∙ ap state_of (sym (ap (λ (q : End). q.handshake.phase) l.same) ∙ x.0)) in
-    let theirs : (B b).words (1 - p) ≡ 0 = sym (their_state link_config is p p2 (A a).words (B b).words) ∙ (alone'.state ∙ ap state_of (sym (ap (λ (q : End). q.handshake.phase) k.same) ∙ x.2)) in
+    let opposite : (B b).words (1 - p) ≡ 0 = sym (their_state link_config is p p2 (A a).words (B b).words) ∙ (alone'.state ∙ ap state_of (sym (ap (λ (q : End). q.handshake.phase) k.same) ∙ x.2)) in
     let read : v ≡ (B c.0).words (1 - p) = c.3 ∙ (ap (seen link_config p (A a).words (B c.0).words) one.0 ∙ their_state link_config is p p2 (A a).words (B c.0).words) in
     let read' : v' ≡ (A c'.0).words p = c'.3 ∙ (ap (seen link_config (1 - p) (B b).words (A c'.0).words) two.0 ∙ (their_state link_config is (1 - p) o2 (B b).words (A c'.0).words ∙ ap (A c'.0).words back)) in
     let low = one.1 in let high = two.1 in let s1 = c.1 in let s1' = c'.1 in
-    ⊎_elim (λ h. let z = still' c.0 (omega arith) c.2 in let big : 2 ≤ v = low in let t : v ≡ 0 = read ∙ (z ∙ theirs) in omega arith)
+    ⊎_elim (λ h. let z = still' c.0 (omega arith) c.2 in let big : 2 ≤ v = low in let t : v ≡ 0 = read ∙ (z ∙ opposite) in omega arith)
     (λ h. let z = still c'.0 (omega arith) c'.2 in let t : v' ≡ 2 = read' ∙ (z ∙ mine) in omega arith) f

@@ -92,28 +92,28 @@ event_cut link_config is p p2 x y end number v u w c = let m = seen link_config 
     rests place a nr ns = let b = c.before in let run = b.mine.holds.0 in record {
       before = record {
         mine = a;
-        theirs = b.theirs;
+        opposite = b.opposite;
         mark = b.mark;
         from = λ t. b.from (inl run);
         back = λ t. ((b.back t).0, ns);
-        faces = λ t. let f = b.faces (inl (inl run)) in record { mine = f.mine; theirs = f.theirs; sends = f.sends; takes = takes_on RingingOffer (λ k. refl) tt f.takes };
+        faces = λ t. let f = b.faces (inl (inl run)) in record { mine = f.mine; opposite = f.opposite; sends = f.sends; takes = takes_on RingingOffer (λ k. refl) tt f.takes };
       };
       calm = nr;
-      theirs = c.theirs;
+      opposite = c.opposite;
     }
 
     closes : EndInvariant link_config (seen link_config p x y) p end Closed → Cut link_config p x end Closed y u w
     closes a = let b = c.before in let run = b.mine.holds.0 in record {
       before = record {
         mine = a;
-        theirs = b.theirs;
+        opposite = b.opposite;
         mark = b.mark;
         from = λ t. b.from (inl run);
         back = λ t. ((b.back t).0, λ e. cc);
-        faces = λ t. let f = b.faces (inl (inl run)) in record { mine = f.mine; theirs = f.theirs; sends = f.sends; takes = takes_on Closed (λ k. refl) tt f.takes };
+        faces = λ t. let f = b.faces (inl (inl run)) in record { mine = f.mine; opposite = f.opposite; sends = f.sends; takes = takes_on Closed (λ k. refl) tt f.takes };
       };
       calm = λ e. cc;
-      theirs = c.theirs;
+      opposite = c.opposite;
     }
 
 -- The last action
@@ -134,7 +134,7 @@ module _ (link_config : LinkConfig) (is : IsLinkConfig link_config) (pasts : ℕ
           nil (x ∷ xs) = ap (λ (y : List (List ℕ)). x ∷ y) (nil xs)
   grown run i (suc j) from to = let g = grown run i j from (omega arith) in let k = i + j in let b = beside link_config is pasts now held p p2 k (omega arith) (omega arith) in
       let t = held.trail (1 - p) (omega arith) k (omega arith) in let m = pasts (1 - p) k in
-      let h = grows link_config (seen link_config p Old.words m.words) (1 - p) m (pasts (1 - p) (suc k)) (pasts (1 - p) (suc k)).action t.does b.before.theirs.holds (b.before.from (inl run)).0 in
+      let h = grows link_config (seen link_config p Old.words m.words) (1 - p) m (pasts (1 - p) (suc k)) (pasts (1 - p) (suc k)).action t.does b.before.opposite.holds (b.before.from (inl run)).0 in
       (g.0 ++ h.0, ap (λ l. (pasts (1 - p) l).end.accepted) (let e : i + suc j ≡ suc k = omega arith in e) ∙ (h.1 ∙ (ap (λ (x : List (List ℕ)). x ++ h.0) g.1 ∙ append_assoc (pasts (1 - p) i).end.accepted g.0 h.0)))
 
   module _ (new : Moment) (v word : ℕ) (reads : access_at (config_of link_config p) Old.place ≡ access.Read word) (d : Does link_config p Old new (Takes v)) where

@@ -17,7 +17,7 @@ use Rattle.weak_orders.specs.Memory.{Moment, Action, Starts, Begins, Takes, Fenc
 use Rattle.weak_orders.specs.Runs.{WeakRuns, starts, goes, IsFirst}
 use Rattle.weak_orders.specs.OneEnd.{RunsAlone, EndsAreSafe}
 use Rattle.weak_orders.proofs.Cuts.{own_test, owns_section}
-use Rattle.weak_orders.proofs.RunsKeepInvariant.{held_lem}
+use Rattle.weak_orders.proofs.RunsKeepInvariant.{weak_runs_are_held}
 
 -- The invariant of one end
 
@@ -74,13 +74,13 @@ module _ (link_config : LinkConfig) (is : IsLinkConfig link_config) (p : ℕ) (p
   others_by old new Resets d a w apart = d.0.neighbour_word w (λ e. let h = own_test link_config is p p2 old.words old.words w e in let g : ⊥ = cc in g)
 
   module _ (past : ℕ → Moment) (now : ℕ) (run : RunsAlone link_config p past now) where
-    pub safe_lem : (k : ℕ) → k ≤ now → EndInvariant link_config (past k).words p (past k).end (past k).place × Reaches (past k).place × ((w : ℕ) → is_own link_config p w ≡ false → (past k).words w ≡ 0)
-    safe_lem zero le = let f = run.first in (
+    pub end_is_safe : (k : ℕ) → k ≤ now → EndInvariant link_config (past k).words p (past k).end (past k).place × Reaches (past k).place × ((w : ℕ) → is_own link_config p w ≡ false → (past k).words w ≡ 0)
+    end_is_safe zero le = let f = run.first in (
       end_like refl f.end f.place (starts_alone link_config (past 0).words (λ q. fresh) (λ q. Closed) f.words (λ q. refl) (λ q. refl) p),
       subst Reaches (sym f.place) tt,
       λ w apart. f.words w,
     )
-    safe_lem (suc k) le = let h = safe_lem k (omega arith) in let d = run.does k (omega arith) in let action = (past (suc k)).action in (
+    end_is_safe (suc k) le = let h = end_is_safe k (omega arith) in let d = run.does k (omega arith) in let action = (past (suc k)).action in (
       alone_by (past k) (past (suc k)) action d h.0,
       reaches_by (past k) (past (suc k)) action d h.1,
       λ w apart. others_by (past k) (past (suc k)) action d h.0 w apart ∙ h.2 w apart,
@@ -93,7 +93,7 @@ run_first link_config pasts _ (starts now none first) p = first p
 run_first link_config pasts _ (goes now next q run q2 does knows nq nr) p = run_first link_config pasts now run p
 
 pub alone_of : (link_config : LinkConfig) (pasts : ℕ → ℕ → Moment) (now : ℕ → ℕ) → IsLinkConfig link_config → WeakRuns link_config pasts now → (p : ℕ) → p < 2 → RunsAlone link_config p (pasts p) (now p)
-alone_of link_config pasts now is run p p2 = let h = held_lem link_config pasts now is run in record { first = run_first link_config pasts now run p; does = λ k lt. (h.trail p p2 k (omega arith)).does }
+alone_of link_config pasts now is run p p2 = let h = weak_runs_are_held link_config pasts now is run in record { first = run_first link_config pasts now run p; does = λ k lt. (h.trail p p2 k (omega arith)).does }
 
 -- The mark of a refusal
 
@@ -124,9 +124,9 @@ module _ (link_config : LinkConfig) (p : ℕ) (past : ℕ → Moment) (now : ℕ
   mark_stays (suc j) le h quiet = let k = a + j in subst (λ k. (past k).end.handshake.mark ≡ true) (let e : suc k ≡ a + suc j = omega arith in e)
       (mark_by link_config p (past k) (past (suc k)) (past (suc k)).action (run.does k (omega arith)) (quiet k (omega arith) (omega arith)) (mark_stays j (omega arith) h (λ i lo hi. quiet i lo (omega arith))))
 
-pub one_end_lem : EndsAreSafe
-one_end_lem = record {
-  safe = λ link_config p past now k is p2 run le. let h = safe_lem link_config is p p2 past now run k le in record { alone = h.0; permitted = permitted_at link_config is p p2 (past k).place h.1; others = h.2 };
+pub ends_are_safe : EndsAreSafe
+ends_are_safe = record {
+  safe = λ link_config p past now k is p2 run le. let h = end_is_safe link_config is p p2 past now run k le in record { alone = h.0; permitted = permitted_at link_config is p p2 (past k).place h.1; others = h.2 };
   refused = λ link_config p past now a b run ab bn h quiet. let e : a + (b - a) ≡ b = omega arith in
       subst (λ k. (past k).end.handshake.mark ≡ true) e (mark_stays link_config p past now run a (b - a) (omega arith) h (λ k lo hi. quiet k lo (omega arith)));
 }

@@ -10,7 +10,7 @@ use Rattle.split_ring.specs.declared.steps.Access.{Access}
 use Rattle.split_ring.specs.declared.steps.Access.TheVariants as access
 use Rattle.split_ring.specs.Spelling.{desc_flags}
 use Rattle.split_ring.specs.Ranges.{is_avail_entry, is_desc_address, is_desc_length, is_desc_flags}
-use Rattle.split_ring.proofs.Frames.{frames_lem}
+use Rattle.split_ring.proofs.FramesAreLaidOut.{frames_are_laid_out}
 use Rattle.link_handshake.specs.declared.Phase.TheVariants.{Init}
 use Rattle.call_grammar.specs.Steps.{Mark, Saw, Reclaim, Full, Accept, Look, Deliver, Return, Done, Down, Refuse, Over}
 use Rattle.call_grammar.specs.Ends.{End, with_mark, with_marks, with_access, end_after}
@@ -24,7 +24,7 @@ use Rattle.link_invariant.specs.LinkConfig.{LinkConfig, config_of, first_words}
 use Rattle.link_invariant.specs.EndInvariant.{frame_at, start_in, PlaceInvariant}
 use Rattle.link_invariant.specs.Pair.{Polls}
 use Rattle.weak_orders.specs.Memory.{Moment, Action, Starts, Begins, Takes, Fences, Receives, Resets, Does}
-use Rattle.split_ring.proofs.Tests.{flags_of_test}
+use Rattle.split_ring.proofs.TestsDecideRanges.{flags_of_test}
 
 passed : (b : Bool) (x : Place) → (if b then x else Refusing) ≢ Refusing → b ≡ true
 passed true x h = refl
@@ -38,7 +38,7 @@ frame_more : (fs gs t : List (List ℕ)) (k : ℕ) → gs ≡ fs ++ t → k < le
 frame_more fs gs t k e lt = ap (λ (x : List (List ℕ)). frame_at x k) e ∙ get_or-append fs t [] k lt
 
 start_more : (link_config : LinkConfig) (fs gs t : List (List ℕ)) (k : ℕ) → gs ≡ fs ++ t → k < length fs → start_in link_config gs k ≡ start_in link_config fs k
-start_more link_config fs gs t k e lt = frames_lem.by_prefix link_config.sizes (lengths_of gs) (lengths_of fs) k (λ j le. ap length (frame_more fs gs t j e (omega arith)))
+start_more link_config fs gs t k e lt = frames_are_laid_out.by_prefix link_config.sizes (lengths_of gs) (lengths_of fs) k (λ j le. ap length (frame_more fs gs t j e (omega arith)))
 
 -- A delivered frame is the accepted frame with the same number.
 refines : (done fs rest : List (List ℕ)) (f : List ℕ) → fs ≡ (done ++ f ∷ []) ++ rest → frame_at fs (length done) ≡ f

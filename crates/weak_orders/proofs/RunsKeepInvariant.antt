@@ -31,8 +31,8 @@ use Rattle.weak_orders.proofs.Advance.{Held, Trail, Sourced, Took, Found, Reclai
 use Rattle.weak_orders.proofs.StoresAreReleases.{IsKey, key_released}
 use Rattle.weak_orders.proofs.LastAction.{Kind, kinds, event_cut, acquired, relaxed}
 
-gives_of : (link_config : LinkConfig) (p : ℕ) (old new : Moment) (base : ℕ) (theirs : ℕ → Moment) (now v word : ℕ) (a : Access) → a ≡ access.Read word → LoadsBy link_config p old new base theirs now v a → Gives link_config p old new base theirs now word v
-gives_of link_config p old new base theirs now v word a e l = let g : LoadsBy link_config p old new base theirs now v (access.Read word) = subst (λ (k : Access). LoadsBy link_config p old new base theirs now v k) e l in g
+gives_of : (link_config : LinkConfig) (p : ℕ) (old new : Moment) (base : ℕ) (opposite : ℕ → Moment) (now v word : ℕ) (a : Access) → a ≡ access.Read word → LoadsBy link_config p old new base opposite now v a → Gives link_config p old new base opposite now word v
+gives_of link_config p old new base opposite now v word a e l = let g : LoadsBy link_config p old new base opposite now v (access.Read word) = subst (λ (k : Access). LoadsBy link_config p old new base opposite now v k) e l in g
 
 module _ (link_config : LinkConfig) (is : IsLinkConfig link_config) (pasts : ℕ → ℕ → Moment) (now : ℕ → ℕ) (held : Held link_config pasts now) (p : ℕ) (p2 : p < 2) where
   abbrev New : Moment
@@ -52,7 +52,7 @@ module _ (link_config : LinkConfig) (is : IsLinkConfig link_config) (pasts : ℕ
       by_action (Receives h) s = absurd s
       by_action Resets s = reset_releases (pasts (1 - p) k).place
       by_action (Takes value) s = let b = beside link_config is pasts now held p p2 k from (omega arith) in let m = pasts (1 - p) k in
-          key_released link_config is (1 - p) (omega arith) (seen link_config p Old.words m.words) m.end m.place word b.before.theirs.holds (⊎_elim (λ run. inl (b.before.from (inl run)).0) inr runs) s key
+          key_released link_config is (1 - p) (omega arith) (seen link_config p Old.words m.words) m.end m.place word b.before.opposite.holds (⊎_elim (λ run. inl (b.before.from (inl run)).0) inr runs) s key
 
   module _ (knows : Knows link_config p Old New (suc (now p)) (pasts (1 - p)) (now (1 - p))) where
     reads_cut : (v word : ℕ) → access_at (config_of link_config p) Old.place ≡ access.Read word → Does link_config p Old New (Takes v) → Gives link_config p Old New knows.base (pasts (1 - p)) (now (1 - p)) word v → (j : ℕ) → New.view ≤ j → j ≤ now (1 - p) → Kind link_config p Old.place word → At link_config p New (pasts (1 - p) j)
@@ -189,13 +189,13 @@ event_fenced link_config p old new (Receives k) t d f e = inr ((k, refl), sym d.
 event_fenced link_config p old new Resets t d f e = absurd (no_false (sym (reset_fences link_config p old new d) ∙ f))
 
 -- An action is a fence, or the moment of the last fence stays.
-fence_or : (old new : Moment) (at : ℕ) (theirs : ℕ → Moment) (now : ℕ) (action : Action) → FencedBy old new at theirs now action → (((theirs now).fenced ≤ new.view) × (new.fenced ≡ at)) ⊎ (new.fenced ≡ old.fenced)
-fence_or old new at theirs now Starts f = inr f
-fence_or old new at theirs now (Begins call) f = inr f
-fence_or old new at theirs now (Takes v) f = inr f
-fence_or old new at theirs now Fences f = inl f
-fence_or old new at theirs now (Receives h) f = inr f
-fence_or old new at theirs now Resets f = inr f
+fence_or : (old new : Moment) (at : ℕ) (opposite : ℕ → Moment) (now : ℕ) (action : Action) → FencedBy old new at opposite now action → (((opposite now).fenced ≤ new.view) × (new.fenced ≡ at)) ⊎ (new.fenced ≡ old.fenced)
+fence_or old new at opposite now Starts f = inr f
+fence_or old new at opposite now (Begins call) f = inr f
+fence_or old new at opposite now (Takes v) f = inr f
+fence_or old new at opposite now Fences f = inl f
+fence_or old new at opposite now (Receives h) f = inr f
+fence_or old new at opposite now Resets f = inr f
 
 state_word : (link_config : LinkConfig) → IsLinkConfig link_config → (p : ℕ) → p < 2 → (m n : Moment) → At link_config p m n → m.words p ≡ state_of m.end.handshake.phase
 state_word link_config is p p2 m n c = sym (own_state link_config is p p2 m.words n.words) ∙ c.before.mine.state
@@ -341,9 +341,9 @@ first_cut link_config p p2 m n a b = like refl a.end a.place (subst (λ (u : End
 
     start : Cut link_config p m.words fresh Closed n.words fresh Closed
     start = record {
-      before = record { mine = none p; theirs = none (1 - p); mark = refl; from = λ t. absurd (idle t); back = λ t. absurd (idle t); faces = λ t. absurd (⊎_elim idle idle t) };
+      before = record { mine = none p; opposite = none (1 - p); mark = refl; from = λ t. absurd (idle t); back = λ t. absurd (idle t); faces = λ t. absurd (⊎_elim idle idle t) };
       calm = λ e. cc;
-      theirs = (refl, λ e. cc);
+      opposite = (refl, λ e. cc);
     }
 
 held_first : (link_config : LinkConfig) (pasts : ℕ → ℕ → Moment) (now : ℕ → ℕ) → ((p : ℕ) → now p ≡ 0) → ((p : ℕ) → IsFirst (pasts p 0)) → Held link_config pasts now
@@ -360,12 +360,12 @@ held_first link_config pasts now none first = record {
   trail = λ p p2 k kl. let n = none p in absurd (omega arith);
 }
 
-pub held_lem : (link_config : LinkConfig) (pasts : ℕ → ℕ → Moment) (now : ℕ → ℕ) → IsLinkConfig link_config → WeakRuns link_config pasts now → Held link_config pasts now
-held_lem link_config pasts _ is (starts now none first) = held_first link_config pasts now none first
-held_lem link_config pasts _ is (goes now next p run p2 does knows np nq) = held_on link_config is pasts now (held_lem link_config pasts now is run) p p2 does knows next np nq
+pub weak_runs_are_held : (link_config : LinkConfig) (pasts : ℕ → ℕ → Moment) (now : ℕ → ℕ) → IsLinkConfig link_config → WeakRuns link_config pasts now → Held link_config pasts now
+weak_runs_are_held link_config pasts _ is (starts now none first) = held_first link_config pasts now none first
+weak_runs_are_held link_config pasts _ is (goes now next p run p2 does knows np nq) = held_on link_config is pasts now (weak_runs_are_held link_config pasts now is run) p p2 does knows next np nq
 
-pub agree_lem : WeakRunsAgree
-agree_lem link_config pasts now is run p p2 = let h = held_lem link_config pasts now is run in let o2 : 1 - p < 2 = omega arith in let v = h.views (1 - p) o2 (now (1 - p)) (omega arith) in let e = ap now (let b : 1 - (1 - p) ≡ p = omega arith in b) in
+pub weak_runs_agree : WeakRunsAgree
+weak_runs_agree link_config pasts now is run p p2 = let h = weak_runs_are_held link_config pasts now is run in let o2 : 1 - p < 2 = omega arith in let v = h.views (1 - p) o2 (now (1 - p)) (omega arith) in let e = ap now (let b : 1 - (1 - p) ≡ p = omega arith in b) in
     let c = h.cuts p p2 (now p) (now (1 - p)) (omega arith) (omega arith) (h.views p p2 (now p) (omega arith)) (omega arith) in record {
       place = c.calm;
       mark = c.before.mark;

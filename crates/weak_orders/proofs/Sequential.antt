@@ -13,14 +13,14 @@ use Rattle.link_invariant.specs.Steps.{IsUntouched, ReadsMemory, MemoryAfter, Be
 use Rattle.link_invariant.specs.Runs as seq
 use Rattle.link_invariant.specs.Runs.{HonestRuns}
 use Rattle.link_invariant.proofs.PairKept.{untouched, by_state}
-use Rattle.link_invariant.proofs.RunsKept.{whole_lem}
+use Rattle.link_invariant.proofs.RunsKept.{runs_keep_invariant}
 use Rattle.weak_orders.specs.Memory.{Moment, Starts, Begins, Takes, Fences, Resets, Does, Knows, Loads, LoadsBy, FencedBy, is_own, seen}
 use Rattle.weak_orders.specs.Orders.{owes}
 use Rattle.weak_orders.specs.Runs.{WeakRuns, starts, IsFirst}
 use Rattle.weak_orders.specs.Stronger.{ComesTo, IsMomentOf, HasWeakRun, SequentialRunsAreWeak}
 use Rattle.weak_orders.proofs.Cuts.{own_test, owns_section, own_stays, their_state, their_word, after_of, put, left_so, one_put, own_after}
-use Rattle.weak_orders.proofs.RunsKeepInvariant.{held_lem, pick}
-use Rattle.weak_orders.proofs.OneEnd.{safe_lem, permitted_at, alone_of}
+use Rattle.weak_orders.proofs.RunsKeepInvariant.{weak_runs_are_held, pick}
+use Rattle.weak_orders.proofs.OneEnd.{end_is_safe, permitted_at, alone_of}
 use Rattle.weak_orders.proofs.Extend.{go_on}
 
 module _ (link_config : LinkConfig) (is : IsLinkConfig link_config) where
@@ -28,7 +28,7 @@ module _ (link_config : LinkConfig) (is : IsLinkConfig link_config) where
   pub newest : (pasts : ℕ → ℕ → Moment) (now : ℕ → ℕ) (p : ℕ) (new : Moment) → WeakRuns link_config pasts now → p < 2 → new.view ≡ now (1 - p) →
       FencedBy (pasts p (now p)) new (suc (now p)) (pasts (1 - p)) (now (1 - p)) new.action → Loads link_config p (pasts p (now p)) new (now (1 - p)) (pasts (1 - p)) (now (1 - p)) new.action →
       Knows link_config p (pasts p (now p)) new (suc (now p)) (pasts (1 - p)) (now (1 - p))
-  newest pasts now p new run p2 view fence loads = let h = (held_lem link_config pasts now is run).views p p2 (now p) (omega arith) in
+  newest pasts now p new run p2 view fence loads = let h = (weak_runs_are_held link_config pasts now is run).views p p2 (now p) (omega arith) in
       record { base = now (1 - p); rises = h; keeps = omega arith; known = omega arith; fence = fence; loads = loads }
 
   -- The extended run leads to these two ends.
@@ -40,13 +40,13 @@ module _ (link_config : LinkConfig) (is : IsLinkConfig link_config) where
     Theirs = w.pasts (1 - p) (w.now (1 - p))
 
     went : ComesTo link_config p new Theirs → IsMomentOf link_config memory' p (ends' p) (places' p) new → IsMomentOf link_config memory' (1 - p) (ends' (1 - p)) (places' (1 - p)) Theirs → HasWeakRun link_config memory' ends' places'
-    went g mine theirs = record {
+    went g mine opposite = record {
       pasts = g.pasts;
       now = g.now;
       run = g.run;
       are = pick p p2 (λ q. IsMomentOf link_config memory' q (ends' q) (places' q) (g.pasts q (g.now q)))
           (subst (IsMomentOf link_config memory' p (ends' p) (places' p)) (sym g.here) mine)
-          (subst (IsMomentOf link_config memory' (1 - p) (ends' (1 - p)) (places' (1 - p))) (sym g.there) theirs);
+          (subst (IsMomentOf link_config memory' (1 - p) (ends' (1 - p)) (places' (1 - p))) (sym g.there) opposite);
     }
 
     goes_so : Does link_config p Mine new new.action → new.view ≡ w.now (1 - p) → FencedBy Mine new (suc (w.now p)) (w.pasts (1 - p)) (w.now (1 - p)) new.action →
@@ -64,7 +64,7 @@ module _ (link_config : LinkConfig) (is : IsLinkConfig link_config) where
 
     fences : ComesTo link_config p fence_moment (w.pasts (1 - p) (w.now (1 - p)))
     unfolding fence_moment
-    fences = let n = (held_lem link_config w.pasts w.now is w.run).near (1 - p) (omega arith) (w.now (1 - p)) (omega arith) in
+    fences = let n = (weak_runs_are_held link_config w.pasts w.now is w.run).near (1 - p) (omega arith) (w.now (1 - p)) (omega arith) in
         goes_so memory memory ends ends places places p p2 w fence_moment (refl, refl, refl, refl) refl (n, refl) tt
 
     freed : Free memory ends places p
@@ -85,15 +85,15 @@ module _ (link_config : LinkConfig) (is : IsLinkConfig link_config) where
         }
 
   -- The words of the other that an end finds are those of memory.
-  module _ (memory : ℕ → ℕ) (p : ℕ) (p2 : p < 2) (old new : Moment) (theirs : ℕ → Moment) (now value : ℕ) (b : (w : ℕ) → is_own link_config (1 - p) w ≡ true → (theirs now).words w ≡ memory w) where
-    sees : (word : ℕ) → MayRead (config_of link_config p) word → seen link_config p old.words (theirs now).words word ≡ memory word
-    sees word (inl e) = let o2 : 1 - p < 2 = omega arith in let n = (theirs now).words in
+  module _ (memory : ℕ → ℕ) (p : ℕ) (p2 : p < 2) (old new : Moment) (opposite : ℕ → Moment) (now value : ℕ) (b : (w : ℕ) → is_own link_config (1 - p) w ≡ true → (opposite now).words w ≡ memory w) where
+    sees : (word : ℕ) → MayRead (config_of link_config p) word → seen link_config p old.words (opposite now).words word ≡ memory word
+    sees word (inl e) = let o2 : 1 - p < 2 = omega arith in let n = (opposite now).words in
         ap (seen link_config p old.words n) e ∙ (their_state link_config is p p2 old.words n ∙ (b (1 - p) (own_test link_config is (1 - p) o2 n n (1 - p) refl) ∙ ap memory (sym e)))
-    sees word (inr h) = let o2 : 1 - p < 2 = omega arith in let n = (theirs now).words in let low = h.0 in let high = h.1 in let s = section_of link_config (1 - p) in let j = word - s in
+    sees word (inr h) = let o2 : 1 - p < 2 = omega arith in let n = (opposite now).words in let low = h.0 in let high = h.1 in let s = section_of link_config (1 - p) in let j = word - s in
         let e : word ≡ s + j = omega arith in let lt : j < link_config.words = omega arith in
         ap (seen link_config p old.words n) e ∙ (their_word link_config is p p2 old.words n j lt ∙ (b (s + j) (owns_section link_config is (1 - p) o2 n n (s + j) j refl lt) ∙ ap memory (sym e)))
 
-    loads_newest : (a : Access) → ReadsMemory memory a value → IsPermittedAccess (config_of link_config p) a → LoadsBy link_config p old new now theirs now value a
+    loads_newest : (a : Access) → ReadsMemory memory a value → IsPermittedAccess (config_of link_config p) a → LoadsBy link_config p old new now opposite now value a
     loads_newest (access.Read word) met may = inl (met ∙ sym (sees word may))
     loads_newest (access.Write at n) met may = tt
     loads_newest (access.State state) met may = tt
@@ -136,21 +136,21 @@ module _ (link_config : LinkConfig) (is : IsLinkConfig link_config) where
 
     stepped : (w : HasWeakRun link_config memory ends places) (value : ℕ) → (w.pasts p (w.now p)).owed ≡ false → IsUntouched link_config memory memory' (1 - p) → TakesStep link_config memory memory' ends ends' places places' p value → HasWeakRun link_config memory' ends' places'
     unfolding step_moment
-    stepped w value free keep s = let m = w.pasts p (w.now p) in let config = config_of link_config p in let a = w.are p p2 in let ne : 1 - p ≢ p = λ e. omega arith in let theirs = w.are (1 - p) (omega arith) in
+    stepped w value free keep s = let m = w.pasts p (w.now p) in let config = config_of link_config p in let a = w.are p p2 in let ne : 1 - p ≢ p = λ e. omega arith in let opposite = w.are (1 - p) (omega arith) in
         let back = sym a.place_is in
         let opened = subst (λ (k : Place). is_open k ≡ true) back s.opened in
         let met = subst (λ (k : Place). ReadsMemory memory (access_at config k) value) back s.meets in
         let left = subst (λ (k : Place). MemoryAfter p memory (access_at config k) memory') back s.leaves in
-        let alone = safe_lem link_config is p p2 (w.pasts p) (w.now p) (alone_of link_config w.pasts w.now is w.run p p2) (w.now p) (omega arith) in
+        let alone = end_is_safe link_config is p p2 (w.pasts p) (w.now p) (alone_of link_config w.pasts w.now is w.run p p2) (w.now p) (omega arith) in
         went memory memory' ends ends' places places' p p2 w (step_moment w value)
         (goes_so memory memory' ends ends' places places' p p2 w (step_moment w value) (opened, left_so p m.words (access_at config m.place), refl, refl, free, refl) refl refl
-        (loads_newest memory p p2 m (step_moment w value) (w.pasts (1 - p)) (w.now (1 - p)) value theirs.words (access_at config m.place) met (permitted_at link_config is p p2 m.place alone.1)))
+        (loads_newest memory p p2 m (step_moment w value) (w.pasts (1 - p)) (w.now (1 - p)) value opposite.words (access_at config m.place) met (permitted_at link_config is p p2 m.place alone.1)))
         record {
           end_is = ap (λ (e : End). end_after e (step_at config m.place value)) a.end_is ∙ (ap (λ (k : Place). end_after (ends p) (step_at config k value)) a.place_is ∙ sym s.comes.end_is);
           place_is = ap (λ (k : Place). next_place config k value) a.place_is ∙ sym s.comes.place_is;
           words = λ v own. sym (own_after p memory memory' m.words (access_at config m.place) v left (a.words v own));
         }
-        (other_same memory memory' ends ends' places places' (1 - p) (w.pasts (1 - p) (w.now (1 - p))) (s.comes.ends_stay (1 - p) ne) (s.comes.places_stay (1 - p) ne) keep theirs)
+        (other_same memory memory' ends ends' places places' (1 - p) (w.pasts (1 - p) (w.now (1 - p))) (s.comes.ends_stay (1 - p) ne) (s.comes.places_stay (1 - p) ne) keep opposite)
 
     -- A reset.
     reset_moment : HasWeakRun link_config memory ends places → Moment
@@ -186,18 +186,18 @@ started link_config memory ends places none new closed = let f = first_is in rec
   are = λ p p2. record { end_is = f.end ∙ sym (new p); place_is = f.place ∙ sym (closed p); words = λ w own. f.words w ∙ sym (none w) };
 }
 
-pub sequential_lem : SequentialRunsAreWeak
-sequential_lem link_config _ _ _ is (seq.starts memory ends places none new closed) = started link_config memory ends places none new closed
-sequential_lem link_config _ _ _ is (seq.begins memory ends after_ends places after_places p call run p2 hp b) =
-    begun link_config is memory memory ends after_ends places after_places p p2 (sequential_lem link_config memory ends places is run) call b
-sequential_lem link_config _ _ _ is (seq.steps memory after ends after_ends places after_places p value run p2 hp s) =
-    let f = freed link_config is memory ends places p p2 (sequential_lem link_config memory ends places is run) in
-    let alone = (whole_lem link_config (λ p. true) memory ends places is run).alone p p2 refl in
+pub sequential_runs_are_weak : SequentialRunsAreWeak
+sequential_runs_are_weak link_config _ _ _ is (seq.starts memory ends places none new closed) = started link_config memory ends places none new closed
+sequential_runs_are_weak link_config _ _ _ is (seq.begins memory ends after_ends places after_places p call run p2 hp b) =
+    begun link_config is memory memory ends after_ends places after_places p p2 (sequential_runs_are_weak link_config memory ends places is run) call b
+sequential_runs_are_weak link_config _ _ _ is (seq.steps memory after ends after_ends places after_places p value run p2 hp s) =
+    let f = freed link_config is memory ends places p p2 (sequential_runs_are_weak link_config memory ends places is run) in
+    let alone = (runs_keep_invariant link_config (λ p. true) memory ends places is run).alone p p2 refl in
     stepped link_config is memory after ends after_ends places after_places p p2 f.weak value f.free (untouched link_config is p p2 memory after (ends p) (places p) alone s.leaves) s
-sequential_lem link_config _ _ _ is (seq.resets memory after ends after_ends places after_places p run p2 hp r) =
-    let alone = (whole_lem link_config (λ p. true) memory ends places is run).alone p p2 refl in
-    was_reset link_config is memory after ends after_ends places after_places p p2 (sequential_lem link_config memory ends places is run) (by_state link_config is p p2 memory after (ends p) 0 r.stored) r
-sequential_lem link_config _ _ _ is (seq.others memory after ends places run keep) = let w = sequential_lem link_config memory ends places is run in record {
+sequential_runs_are_weak link_config _ _ _ is (seq.resets memory after ends after_ends places after_places p run p2 hp r) =
+    let alone = (runs_keep_invariant link_config (λ p. true) memory ends places is run).alone p p2 refl in
+    was_reset link_config is memory after ends after_ends places after_places p p2 (sequential_runs_are_weak link_config memory ends places is run) (by_state link_config is p p2 memory after (ends p) 0 r.stored) r
+sequential_runs_are_weak link_config _ _ _ is (seq.others memory after ends places run keep) = let w = sequential_runs_are_weak link_config memory ends places is run in record {
   pasts = w.pasts;
   now = w.now;
   run = w.run;

@@ -73,11 +73,11 @@ module _ (link_config : LinkConfig) (is : IsLinkConfig link_config) (pasts : ℕ
     one_session a to attends (suc j) b bq back from = let k = (pasts p a).view + j in let o2 : 1 - p < 2 = omega arith in
         let up = view_up (1 - p) o2 k (b - k) (omega arith) in let at = ap (λ n. (pasts (1 - p) n).view) (let e : k + (b - k) ≡ b = omega arith in e) in
         let c = held.cuts p p2 a k to (omega arith) (omega arith) (omega arith) in
-        let none = no_opening link_config (seen link_config p (pasts p a).words (pasts (1 - p) k).words) (1 - p) (pasts (1 - p) k).end (pasts (1 - p) k).place (pasts (1 - p) (suc k)).action c.before.theirs.holds (c.before.from attends).0 in
+        let none = no_opening link_config (seen link_config p (pasts p a).words (pasts (1 - p) k).words) (1 - p) (pasts (1 - p) k).end (pasts (1 - p) k).place (pasts (1 - p) (suc k)).action c.before.opposite.holds (c.before.from attends).0 in
         let e = ap (opened (pasts (1 - p))) (let e : (pasts p a).view + suc j ≡ suc k = omega arith in e) in
         let h = one_session a to attends j b bq back (omega arith) in omega arith
 
-    pub one_lem : (a b : ℕ) → a ≤ now p → b ≤ now (1 - p) → IsAttached (pasts p a).end (pasts p a).place → (pasts p a).view ≤ b → (pasts (1 - p) b).view ≤ a →
+    pub sessions_are_one : (a b : ℕ) → a ≤ now p → b ≤ now (1 - p) → IsAttached (pasts p a).end (pasts p a).place → (pasts p a).view ≤ b → (pasts (1 - p) b).view ≤ a →
         (opened (pasts (1 - p)) b ≡ opened (pasts (1 - p)) (pasts p a).view) × ((rest : List (List ℕ)) × ((pasts (1 - p) b).end.accepted ≡ (pasts p a).end.delivered ++ rest))
-    one_lem a b to bq attends from back = let j = b - (pasts p a).view in let e : (pasts p a).view + j ≡ b = omega arith in let c = held.cuts p p2 a b to bq from back in
+    sessions_are_one a b to bq attends from back = let j = b - (pasts p a).view in let e : (pasts p a).view + j ≡ b = omega arith in let c = held.cuts p p2 a b to bq from back in
         (sym (ap (opened (pasts (1 - p))) e) ∙ one_session a to attends j b bq back (omega arith), (c.before.faces (inl attends)).takes.prefix)

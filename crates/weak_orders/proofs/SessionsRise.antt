@@ -3,7 +3,7 @@ use Rattle.std.proofs.Common.{◌≡◌, ◌≢◌, ℕ, zero, suc, ◌+◌, ◌
 use Rattle.std.specs.Prelude.{if◌then◌else◌}
 use Rattle.split_ring.specs.declared.steps.Access.TheVariants as access
 use Rattle.link_handshake.specs.declared.Phase.TheVariants.{Reset, Init, Ready, Run}
-use Rattle.link_handshake.specs.PhaseTable.{phase_at, state_of}
+use Rattle.link_handshake.specs.PhaseTable.{phase_of_state, state_of}
 use Rattle.link_handshake.specs.HandshakeState.{HandshakeState, move_of}
 use Rattle.call_grammar.specs.Ends.{End}
 use Rattle.call_grammar.specs.Ticks.{EndConfig}
@@ -21,8 +21,8 @@ use Rattle.weak_orders.specs.Sessions.{opens_at, opened, WeakSessionsRise}
 use Rattle.weak_orders.proofs.Diamond.{sets_one}
 use Rattle.weak_orders.proofs.InvariantAtMoments.{threes, ones}
 use Rattle.weak_orders.proofs.Advance.{Held, Took}
-use Rattle.weak_orders.proofs.RunsKeepInvariant.{held_lem}
-use Rattle.weak_orders.proofs.Sessions.{view_up, opened_up, climbs, one_lem}
+use Rattle.weak_orders.proofs.RunsKeepInvariant.{weak_runs_are_held}
+use Rattle.weak_orders.proofs.Sessions.{view_up, opened_up, climbs, sessions_are_one}
 
 -- The only call that begins at a State step is a Stop, which stores 0.
 by_either : (b : Bool) (x y : Place) → state_at x ≡ 9 → state_at y ≡ 9 → state_at (if b then x else y) ≡ 9
@@ -121,7 +121,7 @@ module _ (link_config : LinkConfig) (is : IsLinkConfig link_config) (pasts : ℕ
   }
 
   -- A State step.
-  set_way : (memory : ℕ → ℕ) (m m' : Moment) (n n' s v : ℕ) → m.place ≡ WritingState s → PlaceInvariant link_config memory p m.end (WritingState s) → m'.end.handshake.phase ≡ phase_at s → m'.place ≡ Closed → n' ≡ n + opens_at (WritingState s) (Takes v) → m.view ≤ m'.view → Way m n → Way m' n'
+  set_way : (memory : ℕ → ℕ) (m m' : Moment) (n n' s v : ℕ) → m.place ≡ WritingState s → PlaceInvariant link_config memory p m.end (WritingState s) → m'.end.handshake.phase ≡ phase_of_state s → m'.place ≡ Closed → n' ≡ n + opens_at (WritingState s) (Takes v) → m.view ≤ m'.view → Way m n → Way m' n'
   set_way memory m m' n n' zero v at h ph closed e up w = reset_way m' n' ph closed
   set_way memory m m' n n' (suc zero) v at h ph closed e up w = record {
     init = λ i. low_up m.view m'.view up (w.one at);
@@ -210,14 +210,14 @@ module _ (link_config : LinkConfig) (is : IsLinkConfig link_config) (pasts : ℕ
   ways zero h = subst (λ k. Way (pasts p k) (opened (pasts p) k)) (let e : a ≡ a + zero = omega arith in e) first_way
   ways (suc j) h = subst (λ k. Way (pasts p k) (opened (pasts p) k)) (let e : suc (a + j) ≡ a + suc j = omega arith in e) (next_way (a + j) (omega arith) (omega arith) (ways j (omega arith)))
 
-  pub rise_lem : (b : ℕ) → a ≤ b → b ≤ now p → IsAttached (pasts p b).end (pasts p b).place → opened (pasts p) a < opened (pasts p) b → opened (pasts (1 - p)) (pasts p a).view < opened (pasts (1 - p)) (pasts p b).view
-  rise_lem b ab bn attends more = let w : Way (pasts p b) (opened (pasts p) b) = subst (λ k. Way (pasts p k) (opened (pasts p) k)) (let e : a + (b - a) ≡ b = omega arith in e) (ways (b - a) (omega arith)) in
+  pub later_session_rises : (b : ℕ) → a ≤ b → b ≤ now p → IsAttached (pasts p b).end (pasts p b).place → opened (pasts p) a < opened (pasts p) b → opened (pasts (1 - p)) (pasts p a).view < opened (pasts (1 - p)) (pasts p b).view
+  later_session_rises b ab bn attends more = let w : Way (pasts p b) (opened (pasts p) b) = subst (λ k. Way (pasts p k) (opened (pasts p) k)) (let e : a + (b - a) ≡ b = omega arith in e) (ways (b - a) (omega arith)) in
       ⊎_elim (λ (e : opened (pasts p) b ≡ opened (pasts p) a). absurd (omega arith))
       (λ (h : High (pasts p b).view). let le = h.1 in let lt = h.2 in let u = opened_up link_config is pasts now held (1 - p) h.0 ((pasts p b).view - h.0) in let e = ap (opened (pasts (1 - p))) (let e : h.0 + ((pasts p b).view - h.0) ≡ (pasts p b).view = omega arith in e) in omega arith)
       (w.attends attends)
 
-pub sessions_lem : WeakSessionsRise
-sessions_lem link_config pasts now is run p p2 = let h = held_lem link_config pasts now is run in record {
-  one = one_lem link_config is pasts now h p p2;
-  rise = λ a b ab bn at bt more. rise_lem link_config is pasts now h p p2 a (omega arith) at b ab bn bt more;
+pub weak_sessions_rise : WeakSessionsRise
+weak_sessions_rise link_config pasts now is run p p2 = let h = weak_runs_are_held link_config pasts now is run in record {
+  one = sessions_are_one link_config is pasts now h p p2;
+  rise = λ a b ab bn at bt more. later_session_rises link_config is pasts now h p p2 a (omega arith) at b ab bn bt more;
 }

@@ -9,7 +9,7 @@ use Rattle.call_grammar.specs.Places.{Place, Clearing, WritingState, Refusing, W
 use Rattle.link_invariant.specs.LinkConfig.{LinkConfig, IsLinkConfig, section_of, config_of}
 use Rattle.link_invariant.specs.EndInvariant.{start_for, PlaceInvariant}
 use Rattle.link_invariant.proofs.Fields.{numbers}
-use Rattle.link_invariant.proofs.EndObligations.{job_good}
+use Rattle.link_invariant.proofs.EndObligations.{pending_is_good}
 use Rattle.weak_orders.specs.Orders.{releases}
 use Rattle.weak_orders.specs.Memory.{StoresTo}
 use Rattle.weak_orders.proofs.Rows.{state_store_releases, refusal_releases, avail_index_store_releases, used_index_store_releases}
@@ -44,7 +44,7 @@ key_released link_config is q q2 memory end place word h apart s key = by_place 
     by_place (WritingAvailIndex pending) h s = avail_index_store_releases pending
     by_place (WritingUsedIndex number more) h s = used_index_store_releases number more
     by_place (Clearing at more state) h s = absurd (⊎_elim (λ (f : end.handshake.phase ≢ Init). f h.0) (λ (e : word ≡ q). let clear = h.2 in let here = clear.1 in let l = low in omega arith) apart)
-    by_place (WritingFrameWord pending at more) h s = let good = job_good is h.1.next in let after = good.after in none (start_for link_config pending / 4 + at) (omega arith) (λ e. omega arith) (λ e. omega arith) false
+    by_place (WritingFrameWord pending at more) h s = let good = pending_is_good is h.1.next in let after = good.after in none (start_for link_config pending / 4 + at) (omega arith) (λ e. omega arith) (λ e. omega arith) false
     by_place (WritingDescAddressLow pending) h s = let d = descriptor pending in none _ s (λ e. omega arith) (λ e. omega arith) false
     by_place (WritingDescAddressHigh pending) h s = let d = descriptor pending in none (16 * (pending.number % limit_of link_config.sizes) / 4 + 1) (omega arith) (λ e. omega arith) (λ e. omega arith) false
     by_place (WritingDescLength pending) h s = let d = descriptor pending in none _ s (λ e. omega arith) (λ e. omega arith) false

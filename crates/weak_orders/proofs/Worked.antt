@@ -14,9 +14,9 @@ use Rattle.weak_orders.specs.Memory.{Moment, Action, Starts, Begins, Takes, Fenc
 use Rattle.weak_orders.specs.Runs.{WeakRuns}
 use Rattle.weak_orders.specs.Worked.{worked_config, worked_actions, Acts, LoadsNewest, SequentialOrder, starts, goes, IsStale, BothLooksMayBeStale}
 use Rattle.weak_orders.proofs.Cuts.{after_of, their_word}
-use Rattle.weak_orders.proofs.RunsKeepInvariant.{held_lem, pick}
+use Rattle.weak_orders.proofs.RunsKeepInvariant.{weak_runs_are_held, pick}
 use Rattle.weak_orders.proofs.Extend.{Further, further}
-use Rattle.weak_orders.proofs.Sequential.{newest, sequential_lem}
+use Rattle.weak_orders.proofs.Sequential.{newest, sequential_runs_are_weak}
 use Rattle.weak_orders.proofs.HandshakeRun.{worked_is, idle, EndsAt, run_run, all_closed, both_run}
 use Rattle.weak_orders.proofs.RunExtensions.{after_action, CanAct, CanActs, HasMoments, plays}
 
@@ -53,7 +53,7 @@ fence_moment words written view fenced = record { action = Fences; words = words
 fences : (pasts : ℕ → ℕ → Moment) (now : ℕ → ℕ) (p : ℕ) (old : Moment) (written : ℕ → ℕ) → WeakRuns worked_config pasts now → p < 2 → pasts p (now p) ≡ old → old.end ≡ idle Run written → old.place ≡ Closed →
     Further worked_config pasts now p (fence_moment old.words written (now (1 - p)) (suc (now p)))
 fences pasts now p old written run p2 at end place =
-    let new = fence_moment old.words written (now (1 - p)) (suc (now p)) in let n = (held_lem worked_config pasts now worked_is run).near (1 - p) (omega arith) (now (1 - p)) (omega arith) in
+    let new = fence_moment old.words written (now (1 - p)) (suc (now p)) in let n = (weak_runs_are_held worked_config pasts now worked_is run).near (1 - p) (omega arith) (now (1 - p)) (omega arith) in
     further worked_config pasts now p (pasts p (now p)) new run p2 refl
     (ap (λ (m : Moment). m.words) (sym at), sym end ∙ ap (λ (m : Moment). m.end) (sym at), sym place ∙ ap (λ (m : Moment). m.place) (sym at), refl)
     (newest worked_config worked_is pasts now p new run p2 refl (n, refl) tt)
@@ -67,14 +67,14 @@ bytes_are (suc count) = All-cons below 1 (replicate count 1) (omega arith) (byte
 
 -- The worked actions of end p after its fence
 
-module _ (p : ℕ) (p2 : p < 2) (words written theirs : ℕ → ℕ) (view fenced : ℕ) where
+module _ (p : ℕ) (p2 : p < 2) (words written opposite : ℕ → ℕ) (view fenced : ℕ) where
   abbrev start : Moment
   start = fence_moment words written view fenced
 
-  can : theirs (section_of worked_config (1 - p) + 304) ≡ 0 → theirs (section_of worked_config (1 - p) + 256) ≡ 0 → CanActs worked_config p theirs start worked_actions
+  can : opposite (section_of worked_config (1 - p) + 304) ≡ 0 → opposite (section_of worked_config (1 - p) + 256) ≡ 0 → CanActs worked_config p opposite start worked_actions
   unfolding queue_size slots_of limit_of start_of has_room
   can used avail =
-      let zero_at = λ (own : ℕ → ℕ) (j : ℕ) (lt : j < 4096) (e : theirs (section_of worked_config (1 - p) + j) ≡ 0). sym (their_word worked_config worked_is p p2 own theirs j lt ∙ e) in (
+      let zero_at = λ (own : ℕ → ℕ) (j : ℕ) (lt : j < 4096) (e : opposite (section_of worked_config (1 - p) + j) ≡ 0). sym (their_word worked_config worked_is p p2 own opposite j lt ∙ e) in (
         (record { least = omega arith; most = omega arith; bytes = bytes_are 14 }, refl),
         (
           (refl, refl, zero_at _ 304 (omega arith) used),
@@ -138,12 +138,12 @@ no_order : (pasts : ℕ → ℕ → Moment) (now : ℕ → ℕ) → ((p : ℕ) �
 unfolding queue_size
 no_order pasts _ ends (starts now zeros) = let count = (ends 0 (omega arith)).count in let zero' = zeros 0 in omega arith
 no_order pasts _ ends (goes now next p order p2 loads np nq) =
-    let mine = ends p p2 in let count = mine.count in let o2 : 1 - p < 2 = omega arith in let theirs = ends (1 - p) o2 in let e : now p ≡ mine.before = omega arith in
+    let mine = ends p p2 in let count = mine.count in let o2 : 1 - p < 2 = omega arith in let opposite = ends (1 - p) o2 in let e : now p ≡ mine.before = omega arith in
     let old = pasts p mine.before in let other = pasts (1 - p) (now (1 - p)) in
     let loaded : LoadsNewest worked_config p old other (Takes 0) = subst (λ a. LoadsNewest worked_config p old other a) mine.action (subst (λ k. LoadsNewest worked_config p (pasts p k) other (pasts p (suc k)).action) e loads) in
     let met : 0 ≡ seen worked_config p old.words other.words (section_of worked_config (1 - p) + 256) =
     subst (λ (k : Place). ReadsMemory (seen worked_config p old.words other.words) (access_at (config_of worked_config p) k) 0) mine.look loaded in
-    let index = ap (λ k. (pasts (1 - p) k).words (section_of worked_config (1 - p) + 256)) (sym nq) ∙ theirs.stale.index in
+    let index = ap (λ k. (pasts (1 - p) k).words (section_of worked_config (1 - p) + 256)) (sym nq) ∙ opposite.stale.index in
     no_word (other.words (section_of worked_config (1 - p) + 256)) (met ∙ their_word worked_config worked_is p p2 old.words other.words 256 (omega arith)) index
 
 ends_of : (pasts : ℕ → ℕ → Moment) (now : ℕ → ℕ) (p from : ℕ) → now p ≡ from + 15 → (pasts p (from + 14)).place ≡ ReadingAvailIndex 0 true →
@@ -199,12 +199,12 @@ two x y q = if q == 0 then x else y
 
 both_fenced : EndsAt run_run all_closed → BothFenced
 both_fenced r =
-    let w = sequential_lem worked_config r.memory r.ends r.places worked_is r.run in let now = w.now in
+    let w = sequential_runs_are_weak worked_config r.memory r.ends r.places worked_is r.run in let now = w.now in
     let a0 = w.are 0 first_end in let a1 = w.are 1 second_end in let m0 = w.pasts 0 (now 0) in let m1 = w.pasts 1 (now 1) in
     let f0 = fences w.pasts now 0 m0 (r.written 0) w.run first_end refl (a0.end_is ∙ r.ends_are 0 first_end) (a0.place_is ∙ r.places_are 0 first_end) in
-    let f1 = fences f0.after f0.last 1 m1 (r.written 1) f0.run second_end (ap (f0.after 1) f0.theirs ∙ f0.keeps 1 second_end (now 1) (same (now 1))) (a1.end_is ∙ r.ends_are 1 second_end) (a1.place_is ∙ r.places_are 1 second_end) in
+    let f1 = fences f0.after f0.last 1 m1 (r.written 1) f0.run second_end (ap (f0.after 1) f0.opposite ∙ f0.keeps 1 second_end (now 1) (same (now 1))) (a1.end_is ∙ r.ends_are 1 second_end) (a1.place_is ∙ r.places_are 1 second_end) in
     let at = f1.keeps 0 first_end (f0.last 0) (same (f0.last 0)) ∙ (ap (f0.after 0) f0.mine ∙ f0.adds) in
-    let known : now 1 ≤ f0.last 1 = subst (λ k. now 1 ≤ k) (sym f0.theirs) (same (now 1)) in
+    let known : now 1 ≤ f0.last 1 = subst (λ k. now 1 ≤ k) (sym f0.opposite) (same (now 1)) in
     let reached : now 1 ≤ f1.last 1 = f1.grows 1 second_end (now 1) known in record {
       pasts = f1.after;
       from = f1.last;
@@ -213,10 +213,10 @@ both_fenced r =
       written = two (r.written 0) (r.written 1);
       view = two (now 1) (f0.last 0);
       fenced = two (suc (now 0)) (suc (f0.last 1));
-      at_0 = ap (f1.after 0) f1.theirs ∙ at;
+      at_0 = ap (f1.after 0) f1.opposite ∙ at;
       at_1 = ap (f1.after 1) f1.mine ∙ f1.adds;
       low_0 = reached;
-      low_1 = subst (λ k. f0.last 0 ≤ k) (sym f1.theirs) (same (f0.last 0));
+      low_1 = subst (λ k. f0.last 0 ≤ k) (sym f1.opposite) (same (f0.last 0));
       seen_0 = ap (λ (m : Moment). m.words) (f1.keeps 1 second_end (now 1) known ∙ f0.keeps 1 second_end (now 1) (same (now 1)));
       seen_1 = ap (λ (m : Moment). m.words) at;
       zero_0 = λ j own. a0.words (1024 + j) own ∙ r.none (1024 + j) (omega arith);
@@ -232,12 +232,12 @@ worked_by r =
     let can1 = can 1 second_end (r.words 1) (r.written 1) (r.words 0) (r.view 1) (r.fenced 1) (r.zero_0 304 refl) (r.zero_0 256 refl) in
     let a = plays worked_config 0 worked_actions r.pasts r.from m0 (r.words 1) r.run first_end r.at_0 r.low_0 r.seen_0 can0 in
     let b = plays worked_config 1 worked_actions a.after a.last m1 (r.words 0) a.run second_end
-    (ap (a.after 1) a.theirs ∙ (a.keeps 1 second_end (r.from 1) (same (r.from 1)) ∙ r.at_1))
+    (ap (a.after 1) a.opposite ∙ (a.keeps 1 second_end (r.from 1) (same (r.from 1)) ∙ r.at_1))
     (up (r.view 1) (a.last 0) (r.from 0) 15 r.low_1 a.mine)
     (ap (λ (m : Moment). m.words) (a.keeps 0 first_end (r.view 1) r.low_1) ∙ r.seen_1) can1 in
     let h0 = kept 0 (a.after 0) (b.after 0) worked_actions (r.from 0) m0 (λ k le. b.keeps 0 first_end k (within k (a.last 0) (r.from 0) 15 le a.mine)) a.moments in
-    let h1 = subst (λ k. HasMoments worked_config 1 (b.after 1) k m1 worked_actions) a.theirs b.moments in
-    let count0 : b.last 0 ≡ r.from 0 + 15 = b.theirs ∙ a.mine in let count1 : b.last 1 ≡ r.from 1 + 15 = b.mine ∙ ap (λ k. k + 15) a.theirs in
+    let h1 = subst (λ k. HasMoments worked_config 1 (b.after 1) k m1 worked_actions) a.opposite b.moments in
+    let count0 : b.last 0 ≡ r.from 0 + 15 = b.opposite ∙ a.mine in let count1 : b.last 1 ≡ r.from 1 + 15 = b.mine ∙ ap (λ k. k + 15) a.opposite in
     let acts0 = acts_of 0 (r.words 1) (b.after 0) worked_actions (r.from 0) m0 can0 h0 in
     let acts1 = acts_of 1 (r.words 0) (b.after 1) worked_actions (r.from 1) m1 can1 h1 in
     let stale0 = subst (λ k. IsStale 0 (b.after 0 k)) (sym count0) (last_is 0 first_end (r.words 0) (r.written 0) (r.words 1) (r.view 0) (r.fenced 0) (b.after 0) (r.from 0) h0) in
@@ -256,5 +256,5 @@ worked_by r =
           (ends_of b.after b.last 1 (r.from 1) count1 look1 (acts1.1.1.1.1.1.1.1.1.1.1.1.1.1.1.0) stale1));
     }
 
-pub worked_lem : BothLooksMayBeStale
-worked_lem = worked_by (both_fenced both_run)
+pub both_looks_may_be_stale : BothLooksMayBeStale
+both_looks_may_be_stale = worked_by (both_fenced both_run)

@@ -52,8 +52,8 @@ abbrev pub is_own : LinkConfig → ℕ → ℕ → Bool
 is_own link_config p w = (w == p) || (nat_le (section_of link_config p) w && nat_lt w (section_of link_config p + link_config.words))
 
 -- The words as end p finds them: its own as it stored them, and the others as the other had them.
-unfoldable pub seen : LinkConfig → ℕ → (own theirs : ℕ → ℕ) → ℕ → ℕ
-seen link_config p own theirs w = if is_own link_config p w then own w else theirs w
+unfoldable pub seen : LinkConfig → ℕ → (own opposite : ℕ → ℕ) → ℕ → ℕ
+seen link_config p own opposite w = if is_own link_config p w then own w else opposite w
 
 -- The access of end q stores to this word.
 abbrev pub StoresTo : ℕ → Access → ℕ → Type 0
@@ -68,44 +68,44 @@ Stores link_config q past k word = StoresTo q (access_of link_config q (past k).
 -- hides which happens before the load. Here: the word at the view, or after any later store of the
 -- other, in any order of earlier loads. C11: a release synchronizes with the acquire that takes its
 -- value. Here: the view comes to that store.
-abbrev pub Gives : LinkConfig → ℕ → (old new : Moment) → (base : ℕ) → (theirs : ℕ → Moment) → (now word value : ℕ) → Type 0
-Gives link_config p old new base theirs now word value =
-    (value ≡ seen link_config p old.words (theirs base).words word) ⊎
-    ((k : ℕ) × (base ≤ k) × (k < now) × Stores link_config (1 - p) theirs k word × (value ≡ seen link_config p old.words (theirs (suc k)).words word) ×
-    (acquires old.place ≡ true → is_release (theirs k).place (theirs (suc k)).action ≡ true → suc k ≤ new.view))
+abbrev pub Gives : LinkConfig → ℕ → (old new : Moment) → (base : ℕ) → (opposite : ℕ → Moment) → (now word value : ℕ) → Type 0
+Gives link_config p old new base opposite now word value =
+    (value ≡ seen link_config p old.words (opposite base).words word) ⊎
+    ((k : ℕ) × (base ≤ k) × (k < now) × Stores link_config (1 - p) opposite k word × (value ≡ seen link_config p old.words (opposite (suc k)).words word) ×
+    (acquires old.place ≡ true → is_release (opposite k).place (opposite (suc k)).action ≡ true → suc k ≤ new.view))
 
-abbrev pub LoadsBy : LinkConfig → ℕ → (old new : Moment) → (base : ℕ) → (theirs : ℕ → Moment) → (now value : ℕ) → Access → Type 0
-LoadsBy link_config p old new base theirs now value (access.Read word) = Gives link_config p old new base theirs now word value
-LoadsBy link_config p old new base theirs now value _ = Unit {0}
+abbrev pub LoadsBy : LinkConfig → ℕ → (old new : Moment) → (base : ℕ) → (opposite : ℕ → Moment) → (now value : ℕ) → Access → Type 0
+LoadsBy link_config p old new base opposite now value (access.Read word) = Gives link_config p old new base opposite now word value
+LoadsBy link_config p old new base opposite now value _ = Unit {0}
 
 -- ARM: a store-release is observed after all that comes before it in program order, a store to a
 -- device as any other. Here: the view of an end that receives a doorbell includes its store.
-abbrev pub Received : LinkConfig → ℕ → (new : Moment) → (theirs : ℕ → Moment) → ℕ → Type 0
-Received link_config p new theirs k = (access_of link_config (1 - p) (theirs k).place (theirs (suc k)).action ≡ access.Ring p link_config.vector) ×
-    (is_release (theirs k).place (theirs (suc k)).action ≡ true → suc k ≤ new.view)
+abbrev pub Received : LinkConfig → ℕ → (new : Moment) → (opposite : ℕ → Moment) → ℕ → Type 0
+Received link_config p new opposite k = (access_of link_config (1 - p) (opposite k).place (opposite (suc k)).action ≡ access.Ring p link_config.vector) ×
+    (is_release (opposite k).place (opposite (suc k)).action ≡ true → suc k ≤ new.view)
 
-abbrev pub Loads : LinkConfig → ℕ → (old new : Moment) → (base : ℕ) → (theirs : ℕ → Moment) → (now : ℕ) → Action → Type 0
-Loads link_config p old new base theirs now (Takes value) = LoadsBy link_config p old new base theirs now value (access_at (config_of link_config p) old.place)
-Loads link_config p old new base theirs now (Receives k) = (k < now) × Received link_config p new theirs k
-Loads link_config p old new base theirs now _ = Unit {0}
+abbrev pub Loads : LinkConfig → ℕ → (old new : Moment) → (base : ℕ) → (opposite : ℕ → Moment) → (now : ℕ) → Action → Type 0
+Loads link_config p old new base opposite now (Takes value) = LoadsBy link_config p old new base opposite now value (access_at (config_of link_config p) old.place)
+Loads link_config p old new base opposite now (Receives k) = (k < now) × Received link_config p new opposite k
+Loads link_config p old new base opposite now _ = Unit {0}
 
 -- C11: sequentially consistent fences are in one order. A load after the later fence gives a store
 -- before the earlier one, or a later store. Here: the view comes to the other's last fence.
-abbrev pub FencedBy : (old new : Moment) → (at : ℕ) → (theirs : ℕ → Moment) → ℕ → Action → Type 0
-FencedBy old new at theirs now Fences = ((theirs now).fenced ≤ new.view) × (new.fenced ≡ at)
-FencedBy old new at theirs now _ = new.fenced ≡ old.fenced
+abbrev pub FencedBy : (old new : Moment) → (at : ℕ) → (opposite : ℕ → Moment) → ℕ → Action → Type 0
+FencedBy old new at opposite now Fences = ((opposite now).fenced ≤ new.view) × (new.fenced ≡ at)
+FencedBy old new at opposite now _ = new.fenced ≡ old.fenced
 
 -- The knowledge of end p after its action, its moment `at`, if the other is at its moment `now`.
 -- C11: happens before is transitive. Here: the view never falls. It may rise by more than the rules
 -- ask, so the runs of stronger memory are here too. It is at most `now`: no load gives a later
 -- store.
-pub record Knows (link_config : LinkConfig) (p : ℕ) (old new : Moment) (at : ℕ) (theirs : ℕ → Moment) (now : ℕ) : Type 0 where
+pub record Knows (link_config : LinkConfig) (p : ℕ) (old new : Moment) (at : ℕ) (opposite : ℕ → Moment) (now : ℕ) : Type 0 where
   pub base : ℕ
   pub rises : old.view ≤ base
   pub keeps : base ≤ new.view
   pub known : new.view ≤ now
-  pub fence : FencedBy old new at theirs now new.action
-  pub loads : Loads link_config p old new base theirs now new.action
+  pub fence : FencedBy old new at opposite now new.action
+  pub loads : Loads link_config p old new base opposite now new.action
 
 -- The actions of end p, by the call grammar. C11: a fence is sequenced between two accesses. Here:
 -- the end takes no step while it owes a full fence.

@@ -32,10 +32,10 @@ SequentialRunsAreWeak = (link_config : LinkConfig) (memory : ℕ → ℕ) (ends 
 -- x86-TSO. The stores of an end, and its doorbells, pass through its store buffer, first in first
 -- out. So memory has its words as they were at one of its moments: `out p` moments of end p have
 -- left its buffer. A load of the other's words gives what memory has, and the view is that moment.
-pub record IsBuffered (link_config : LinkConfig) (p : ℕ) (old new : Moment) (theirs : ℕ → Moment) (out : ℕ) : Type 0 where
+pub record IsBuffered (link_config : LinkConfig) (p : ℕ) (old new : Moment) (opposite : ℕ → Moment) (out : ℕ) : Type 0 where
   pub view : new.view ≡ out
-  pub loads : (value : ℕ) → new.action ≡ Takes value → ReadsMemory (seen link_config p old.words (theirs out).words) (access_at (config_of link_config p) old.place) value
-  pub receives : (k : ℕ) → new.action ≡ Receives k → (k < out) × (access_of link_config (1 - p) (theirs k).place (theirs (suc k)).action ≡ access.Ring p link_config.vector)
+  pub loads : (value : ℕ) → new.action ≡ Takes value → ReadsMemory (seen link_config p old.words (opposite out).words) (access_at (config_of link_config p) old.place) value
+  pub receives : (k : ℕ) → new.action ≡ Receives k → (k < out) × (access_of link_config (1 - p) (opposite k).place (opposite (suc k)).action ≡ access.Ring p link_config.vector)
 
 -- A full fence empties the end's own buffer.
 abbrev pub IsFenced : (old new : Moment) → (at out : ℕ) → Action → Type 0
@@ -57,12 +57,12 @@ abbrev pub StoreBufferRunsAreWeak : Type 0
 StoreBufferRunsAreWeak = (link_config : LinkConfig) (pasts : ℕ → ℕ → Moment) (now out : ℕ → ℕ) → BufferedRuns link_config pasts now out → WeakRuns link_config pasts now
 
 -- A weak run in which end p is at this moment, and the other end at that one.
-pub record ComesTo (link_config : LinkConfig) (p : ℕ) (mine theirs : Moment) : Type 0 where
+pub record ComesTo (link_config : LinkConfig) (p : ℕ) (mine opposite : Moment) : Type 0 where
   pub pasts : ℕ → ℕ → Moment
   pub now : ℕ → ℕ
   pub run : WeakRuns link_config pasts now
   pub here : pasts p (now p) ≡ mine
-  pub there : pasts (1 - p) (now (1 - p)) ≡ theirs
+  pub there : pasts (1 - p) (now (1 - p)) ≡ opposite
 
 -- A run continues by a load that gives the word at moment i of the other, for each i from the end's
 -- view on.

@@ -47,9 +47,9 @@ Acts past from [] = Unit {0}
 Acts past from (action ∷ actions) = ((past (suc from)).action ≡ action) × Acts past (suc from) actions
 
 -- A load gives the word as the other end left it.
-abbrev pub LoadsNewest : LinkConfig → ℕ → (old theirs : Moment) → Action → Type 0
-LoadsNewest link_config p old theirs (Takes value) = ReadsMemory (seen link_config p old.words theirs.words) (access_at (config_of link_config p) old.place) value
-LoadsNewest link_config p old theirs action = Unit {0}
+abbrev pub LoadsNewest : LinkConfig → ℕ → (old opposite : Moment) → Action → Type 0
+LoadsNewest link_config p old opposite (Takes value) = ReadsMemory (seen link_config p old.words opposite.words) (access_at (config_of link_config p) old.place) value
+LoadsNewest link_config p old opposite action = Unit {0}
 
 -- The actions of two ends up to their moments `now`, in an order that is sequentially consistent:
 -- each load gives the newest word.

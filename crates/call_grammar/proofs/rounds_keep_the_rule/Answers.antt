@@ -1,5 +1,5 @@
-use Rattle.call_grammar.proofs.AutomaticRounds.{rounds_lem}
+use Rattle.call_grammar.proofs.AutomaticRounds.{rounds_keep_the_rule}
 use Rattle.call_grammar.proofs.rounds_keep_the_rule.Goals as goal
 
 pub returns : goal.returns
-returns c = rounds_lem
+returns c = rounds_keep_the_rule

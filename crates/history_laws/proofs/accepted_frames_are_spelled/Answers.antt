@@ -1,5 +1,5 @@
-use Rattle.history_laws.proofs.AtMarks.{accepted_lem}
+use Rattle.history_laws.proofs.AtMarks.{histories_spell_accepted}
 use Rattle.history_laws.proofs.accepted_frames_are_spelled.Goals as goal
 
 pub returns : goal.returns
-returns c = accepted_lem
+returns c = histories_spell_accepted

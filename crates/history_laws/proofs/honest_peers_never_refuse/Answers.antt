@@ -1,5 +1,5 @@
-use Rattle.history_laws.proofs.RefusalRows.{never_lem}
+use Rattle.history_laws.proofs.RefusalRows.{honest_peers_never_refuse}
 use Rattle.history_laws.proofs.honest_peers_never_refuse.Goals as goal
 
 pub returns : goal.returns
-returns c = never_lem
+returns c = honest_peers_never_refuse

@@ -1,5 +1,5 @@
-use Rattle.history_laws.proofs.NextFrameRings.{wake_lem}
+use Rattle.history_laws.proofs.NextFrameRings.{wakes_are_rung}
 use Rattle.history_laws.proofs.wakes_are_rung.Goals as goal
 
 pub returns : goal.returns
-returns c = wake_lem
+returns c = wakes_are_rung

@@ -1,5 +1,5 @@
-use Rattle.link_invariant.proofs.DoorbellIsRung.{wake_lem}
+use Rattle.link_invariant.proofs.DoorbellIsRung.{asked_doorbell_is_rung}
 use Rattle.link_invariant.proofs.asked_doorbell_is_rung.Goals as goal
 
 pub returns : goal.returns
-returns c = wake_lem
+returns c = asked_doorbell_is_rung

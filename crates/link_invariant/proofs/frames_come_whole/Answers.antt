@@ -1,5 +1,5 @@
-use Rattle.link_invariant.proofs.Frames.{frames_lem}
+use Rattle.link_invariant.proofs.Frames.{frames_come_whole}
 use Rattle.link_invariant.proofs.frames_come_whole.Goals as goal
 
 pub returns : goal.returns
-returns c = frames_lem
+returns c = frames_come_whole

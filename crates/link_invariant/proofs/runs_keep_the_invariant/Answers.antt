@@ -1,5 +1,5 @@
-use Rattle.link_invariant.proofs.RunsKept.{whole_lem}
+use Rattle.link_invariant.proofs.RunsKept.{runs_keep_invariant}
 use Rattle.link_invariant.proofs.runs_keep_the_invariant.Goals as goal
 
 pub returns : goal.returns
-returns c = whole_lem
+returns c = runs_keep_invariant

@@ -1,5 +1,5 @@
-use Rattle.pair_sessions.proofs.SessionsArePaired.{paired_lem}
+use Rattle.pair_sessions.proofs.SessionsArePaired.{sessions_are_paired}
 use Rattle.pair_sessions.proofs.sessions_are_paired.Goals as goal
 
 pub returns : goal.returns
-returns c = paired_lem
+returns c = sessions_are_paired

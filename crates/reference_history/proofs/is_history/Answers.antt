@@ -40,7 +40,7 @@ returns-then-not-goes_on c =
     let at = rw c.items-act-items.ensures at c.act-item.is in
     let before = run world (schedule (take i world.acts)) (initial_state world) in
     let no : c.in_ok-goes_on.goes_on ≡ false = search rules in
-    let other = subst (λ (b : Bool). GoesOn world lines (turns_of (take i world.acts) + cost c.act-item.result) (run world (events_of c.act-item.result) before) c.read_act.new.moment b) no
+    let other = subst (λ (b : Bool). GoesOn world lines (turns_of (take i world.acts) + cost c.act-item.result) (run world (events_of c.act-item.result) before) c.read_act.new.so_far b) no
     (c.in_ok-goes_on.ensures (turns_of (take i world.acts)) before c.loop-act.invariant) in
     let none = not_schedule world lines world.acts (i + 1) (initial_state world) (subst (λ (m : history.HistoryState). Reads lines m.past None) (sym (one_act world world.acts i c.act-item.result (initial_state world) inside at)) other) in (
       λ t. absurd (let e : false ≡ true = t in cc),
@@ -56,17 +56,17 @@ loop-act-preserved c =
     let at = rw c.items-act-items.ensures at c.act-item.is in
     let before = run world (schedule (take i world.acts)) (initial_state world) in
     let yes : c.in_ok-goes_on.goes_on ≡ true = search rules in
-    let next = subst (λ (b : Bool). GoesOn world lines (turns_of (take i world.acts) + cost c.act-item.result) (run world (events_of c.act-item.result) before) c.read_act.new.moment b) yes
+    let next = subst (λ (b : Bool). GoesOn world lines (turns_of (take i world.acts) + cost c.act-item.result) (run world (events_of c.act-item.result) before) c.read_act.new.so_far b) yes
     (c.in_ok-goes_on.ensures (turns_of (take i world.acts)) before c.loop-act.invariant) in
-    subst (λ n. RefinesState world lines n (run world (schedule (take (i + 1) world.acts)) (initial_state world)) c.read_act.new.moment) (sym (turns_more world.acts i c.act-item.result inside at))
-    (subst (λ (m : history.HistoryState). RefinesState world lines (turns_of (take i world.acts) + cost c.act-item.result) m c.read_act.new.moment) (sym (one_act world world.acts i c.act-item.result (initial_state world) inside at)) next)
+    subst (λ n. RefinesState world lines n (run world (schedule (take (i + 1) world.acts)) (initial_state world)) c.read_act.new.so_far) (sym (turns_more world.acts i c.act-item.result inside at))
+    (subst (λ (m : history.HistoryState). RefinesState world lines (turns_of (take i world.acts) + cost c.act-item.result) m c.read_act.new.so_far) (sym (one_act world world.acts i c.act-item.result (initial_state world) inside at)) next)
 
 pub returns : goal.returns
 returns c =
     let world = world_of c.args.scenario in
     let lines = c.args.lines.now in
     let lawful = c.history_is_lawful.ensures world c.args.scenario.world in
-    let here = all_acts world lines c.loop-act.act-index c.loop-act.moment (omega (arith, ap length c.items-act-items.ensures)) c.loop-act.invariant in (
-      λ t. subst (λ (ls : List Line). IsLawful world ls) (sym (whole world lines (turns_of world.acts) c.loop-act.moment here (is_same c.loop-act.moment.read (length lines) t))) lawful,
-      λ k. let all = all_read world lines (turns_of world.acts) c.loop-act.moment here (c.one_history.ensures world lines (history.history world) k lawful) in subst (λ n. IsTrue (c.loop-act.moment.read == n)) all (same_test c.loop-act.moment.read),
+    let here = all_acts world lines c.loop-act.act-index c.loop-act.so_far (omega (arith, ap length c.items-act-items.ensures)) c.loop-act.invariant in (
+      λ t. subst (λ (ls : List Line). IsLawful world ls) (sym (whole world lines (turns_of world.acts) c.loop-act.so_far here (is_same c.loop-act.so_far.read (length lines) t))) lawful,
+      λ k. let all = all_read world lines (turns_of world.acts) c.loop-act.so_far here (c.one_history.ensures world lines (history.history world) k lawful) in subst (λ n. IsTrue (c.loop-act.so_far.read == n)) all (same_test c.loop-act.so_far.read),
     )

@@ -65,5 +65,5 @@ returns c = λ count at is.
     let most = c.cost-k-end.ensures in
     let all : c.loop-k._k ≡ cost act = let within = c.loop-k.invariant.within in omega arith in
     let here = c.loop-k.invariant.here count at is in
-    subst (λ n. RefinesState world c.args.lines.now (count + n) (run world (events_of act) at) c.loop-k.moment) all
-    (subst (λ es. RefinesState world c.args.lines.now (count + c.loop-k._k) (run world es at) c.loop-k.moment) (all_events act c.loop-k._k all) here)
+    subst (λ n. RefinesState world c.args.lines.now (count + n) (run world (events_of act) at) c.loop-k.so_far) all
+    (subst (λ es. RefinesState world c.args.lines.now (count + c.loop-k._k) (run world es at) c.loop-k.so_far) (all_events act c.loop-k._k all) here)

@@ -10,6 +10,6 @@ use Rattle.reference_history.proofs.read_act.Given as goal
 abbrev pub invariant-loop-k : goal.invariant-loop-k
 invariant-loop-k l = record {
   within : l._k ≤ cost l.act;
-  here : (count : ℕ) (at : history.HistoryState) → RefinesState (world_of l.scenario) l.lines count at l.initial.moment →
-      RefinesState (world_of l.scenario) l.lines (count + l._k) (run (world_of l.scenario) (take l._k (events_of l.act)) at) l.moment;
+  here : (count : ℕ) (at : history.HistoryState) → RefinesState (world_of l.scenario) l.lines count at l.initial.so_far →
+      RefinesState (world_of l.scenario) l.lines (count + l._k) (run (world_of l.scenario) (take l._k (events_of l.act)) at) l.so_far;
 }

@@ -1,5 +1,5 @@
-use Rattle.weak_orders.proofs.DoorbellsFind.{bell_lem}
+use Rattle.weak_orders.proofs.DoorbellsFind.{doorbells_follow_indexes}
 use Rattle.weak_orders.proofs.doorbells_follow_indexes.Goals as goal
 
 pub returns : goal.returns
-returns c = bell_lem
+returns c = doorbells_follow_indexes

@@ -1,5 +1,5 @@
-use Rattle.weak_orders.proofs.Extend.{stale_lem}
+use Rattle.weak_orders.proofs.Extend.{loads_may_be_stale}
 use Rattle.weak_orders.proofs.loads_may_be_stale.Goals as goal
 
 pub returns : goal.returns
-returns c = stale_lem
+returns c = loads_may_be_stale

@@ -1,5 +1,5 @@
-use Rattle.weak_orders.proofs.Buffered.{buffered_lem}
+use Rattle.weak_orders.proofs.Buffered.{store_buffer_runs_are_weak}
 use Rattle.weak_orders.proofs.store_buffer_runs_are_weak.Goals as goal
 
 pub returns : goal.returns
-returns c = buffered_lem
+returns c = store_buffer_runs_are_weak

@@ -9,9 +9,9 @@ use Rattle.doorbell_irq.proofs.laws.peers_apart_are_the_device.Goals as goal
 pub returns : goal.returns
 returns c w events source peer offset value own before after other is was taken =
     let spares = register_spares w events source offset value peer other in
-    let told = ap (λ state. register_vector state source offset value peer) (state_same w events source own is) in (
+    let same_vector = ap (λ state. register_vector state source offset value peer) (state_same w events source own is) in (
       peer_taken w events peer (RegisterWritten source offset value) _ before after spares.registers (spares.connection (is_connected events peer))
-          (sym told) spares.writes was taken,
+          (sym same_vector) spares.writes was taken,
       delivery_same w events peer before was w.wiring was.count _
-          ∙ ap (delivery_by w.wiring (is_connected events peer) (bytes_after w events peer)) told,
+          ∙ ap (delivery_by w.wiring (is_connected events peer) (bytes_after w events peer)) same_vector,
     )

@@ -1,6 +1,6 @@
 use Rattle.std.proofs.Common.{[], ◌∷◌, ◌++◌, ◌∙◌, length, drop, ap}
 use Rattle.byteorder.specs.Endian.{little_number}
-use Rattle.ivs_base.proofs.Words.{word_of-padded}
+use Rattle.ivs_base.proofs.PaddedWords.{word_of-padded}
 use Rattle.ivs_base.proofs.numbers.word_of.Goals as goal
 
 pub returns : goal.returns

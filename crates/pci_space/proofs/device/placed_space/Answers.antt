@@ -2,7 +2,7 @@ use Rattle.std.proofs.Common.{◌∙◌, ap, lit<, sym, subst}
 use Rattle.std.specs.Prelude.{ℕ, List, None, ◌≡◌}
 use Rattle.pci_space.specs.declared.field.Field.{Field}
 use Rattle.pci_space.specs.Fields.{reset_byte, table_fault}
-use Rattle.pci_space.proofs.SoundRows.{sound_rows}
+use Rattle.pci_space.proofs.DeviceRowsAreTable.{sound_rows}
 use Rattle.pci_space.proofs.device.placed_space.Goals as goal
 
 pub table_of-table-requires : goal.table_of-table-requires

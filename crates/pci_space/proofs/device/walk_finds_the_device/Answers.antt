@@ -1,5 +1,5 @@
-use Rattle.pci_space.proofs.OneEnd.{one_answer}
-use Rattle.pci_space.proofs.DeviceWalk.{finds_the_device}
+use Rattle.pci_space.proofs.WalkIsUnique.{one_answer}
+use Rattle.pci_space.proofs.WalkFindsDevice.{finds_the_device}
 use Rattle.pci_space.proofs.device.walk_finds_the_device.Goals as goal
 
 pub returns : goal.returns

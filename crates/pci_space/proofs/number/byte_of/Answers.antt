@@ -1,4 +1,4 @@
-use Rattle.pci_space.proofs.NumberLemmas.{number_byte-past}
+use Rattle.pci_space.proofs.NumberBytes.{number_byte-past}
 use Rattle.pci_space.proofs.number.byte_of.Goals as goal
 
 pub returns-then-i-ge8 : goal.returns-then-i-ge8

@@ -1,6 +1,6 @@
 use Rattle.std.proofs.Common.{◌<◌, ◌^◌, ◌-◌, ◌∙◌, subst, sym, drop, length, arith}
 use Rattle.byteorder.specs.Numbers.{little_from-take}
-use Rattle.pci_space.proofs.NumberLemmas.{little_number-drop, number_from-fits}
+use Rattle.pci_space.proofs.NumberBytes.{little_number-drop, number_from-fits}
 use Rattle.pci_space.proofs.number.number_in.Goals as goal
 
 pub returns-clause-is : goal.returns-clause-is

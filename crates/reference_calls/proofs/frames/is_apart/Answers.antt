@@ -1,5 +1,5 @@
 use Rattle.std.proofs.Common.{rules, ◌≡◌, true, false, ◌-◌, ◌<◌, sym, ◌∙◌, subst, refl, arith}
-use Rattle.split_ring.proofs.Frames.{apart_each}
+use Rattle.split_ring.proofs.FramesAreLaidOut.{apart_each}
 use Rattle.split_ring.specs.Frames.{is_apart_from}
 use Rattle.reference_calls.specs.Begun.{length_at}
 use Rattle.reference_calls.specs.Blocks.{RefinesBlocks, are_apart_blocks}

@@ -1,5 +1,5 @@
-use Rattle.sampling_port.proofs.Unique.{one_history_lem}
+use Rattle.sampling_port.proofs.Unique.{has_one_history}
 use Rattle.sampling_port.proofs.laws.one_history.Goals as goal
 
 pub returns : goal.returns
-returns c = one_history_lem
+returns c = has_one_history

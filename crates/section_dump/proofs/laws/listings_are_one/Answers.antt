@@ -1,5 +1,5 @@
-use Rattle.section_dump.proofs.OneListing.{listings_lem}
+use Rattle.section_dump.proofs.OneListing.{listings_are_one}
 use Rattle.section_dump.proofs.laws.listings_are_one.Goals as goal
 
 pub returns : goal.returns
-returns c = listings_lem
+returns c = listings_are_one

@@ -1,5 +1,5 @@
-use Rattle.split_ring.proofs.Frames.{frames_lem}
+use Rattle.split_ring.proofs.FramesAreLaidOut.{frames_are_laid_out}
 use Rattle.split_ring.proofs.layout.frames_are_laid_out.Goals as goal
 
 pub returns : goal.returns
-returns c = frames_lem
+returns c = frames_are_laid_out

@@ -1,5 +1,5 @@
 use Rattle.std.proofs.Common.{refl, arith}
-use Rattle.frame_slots.proofs.Flights.{placed_on, freed_on, oldest_is, same_on}
+use Rattle.frame_slots.proofs.FramesInOrder.{placed_on, freed_on, oldest_is, same_on}
 use Rattle.tests_ring.proofs.slots.descriptors_go_round.Goals as goal
 
 pub loop-i-preserved : goal.loop-i-preserved

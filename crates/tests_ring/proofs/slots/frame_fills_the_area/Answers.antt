@@ -1,5 +1,5 @@
 use Rattle.std.proofs.Common.{◌+◌, refl, arith, rules}
-use Rattle.frame_slots.proofs.Flights.{begun, placed_on, freed_on, oldest_is, same_on}
+use Rattle.frame_slots.proofs.FramesInOrder.{begun, placed_on, freed_on, oldest_is, same_on}
 use Rattle.tests_ring.proofs.slots.frame_fills_the_area.Goals as goal
 
 pub loop-init : goal.loop-init

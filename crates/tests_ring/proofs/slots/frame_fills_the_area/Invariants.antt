@@ -1,5 +1,5 @@
 use Rattle.std.proofs.Common.{ℕ}
-use Rattle.frame_slots.proofs.Flights.{IsFlight}
+use Rattle.frame_slots.proofs.FramesInOrder.{IsFlight}
 use Rattle.tests_ring.proofs.slots.frame_fills_the_area.Given as goal
 
 abbrev pub invariant-loop : goal.invariant-loop

@@ -1,5 +1,5 @@
 use Rattle.std.proofs.Common.{◌+◌, refl, arith, rules}
-use Rattle.frame_slots.proofs.Flights.{begun, placed_on, freed_on, oldest_is}
+use Rattle.frame_slots.proofs.FramesInOrder.{begun, placed_on, freed_on, oldest_is}
 use Rattle.tests_ring.proofs.slots.frames_go_round_the_ring.Goals as goal
 
 pub loop-i-init : goal.loop-i-init

@@ -1,4 +1,4 @@
-use Rattle.frame_slots.proofs.Flights.{IsFlight}
+use Rattle.frame_slots.proofs.FramesInOrder.{IsFlight}
 use Rattle.tests_ring.proofs.slots.frames_go_round_the_ring.Given as goal
 
 abbrev pub invariant-loop-i : goal.invariant-loop-i

@@ -1,5 +1,5 @@
 use Rattle.std.proofs.Common.{◌≡◌, ◌+◌, arith, rules}
-use Rattle.frame_slots.proofs.Flights.{lengths, long_is, short_is, begun, placed_on, freed_on, oldest_is, same_on}
+use Rattle.frame_slots.proofs.FramesInOrder.{lengths, long_is, short_is, begun, placed_on, freed_on, oldest_is, same_on}
 use Rattle.tests_ring.proofs.slots.ring_is_full.Goals as goal
 
 pub loop-i-init : goal.loop-i-init

@@ -1,4 +1,4 @@
-use Rattle.frame_slots.proofs.Flights.{IsFlight, lengths}
+use Rattle.frame_slots.proofs.FramesInOrder.{IsFlight, lengths}
 use Rattle.tests_ring.proofs.slots.ring_is_full.Given as goal
 
 abbrev pub invariant-loop-i : goal.invariant-loop-i

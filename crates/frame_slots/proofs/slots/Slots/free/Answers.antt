@@ -1,6 +1,6 @@
 use Rattle.std.proofs.Common.{sym, subst, arith}
 use Rattle.frame_slots.specs.Refinement.{IsOldest}
-use Rattle.frame_slots.proofs.Fitting.{oldest_fits}
+use Rattle.frame_slots.proofs.PlacedFramesFit.{oldest_fits}
 use Rattle.frame_slots.proofs.slots.Slots.free.Goals as goal
 use Rattle.frame_slots.proofs.slots.Slots.free.Goals.{then-self+then-end-self, else-self}
 

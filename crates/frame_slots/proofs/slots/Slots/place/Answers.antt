@@ -1,5 +1,5 @@
 use Rattle.std.proofs.Common.{rules}
-use Rattle.frame_slots.proofs.Fitting.{alone_of}
+use Rattle.frame_slots.proofs.PlacedFramesFit.{alone_of}
 use Rattle.frame_slots.proofs.slots.Slots.place.Goals as goal
 
 pub returns-clause-alone : goal.returns-clause-alone

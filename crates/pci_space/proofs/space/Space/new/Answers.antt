@@ -1,7 +1,7 @@
 use Rattle.std.proofs.Common.{◌≡◌, ◌∙◌, ap, subst, None}
 use Rattle.pci_space.specs.Fields.{reset_byte, table_fault}
-use Rattle.pci_space.proofs.Bits.{kept_at_reset}
-use Rattle.pci_space.proofs.Ends.{reset_everywhere}
+use Rattle.pci_space.proofs.UnmaskedBitsAreKept.{kept_at_reset}
+use Rattle.pci_space.proofs.FieldsEndInside.{reset_everywhere}
 use Rattle.pci_space.proofs.space.Space.new.Goals as goal
 
 pub returns-clause-bytes : goal.returns-clause-bytes

@@ -1,8 +1,8 @@
 use Rattle.std.proofs.Common.{◌≡◌, ℕ, ◌∙◌, ap, subst, None}
 use Rattle.std.specs.Prelude.{slice_index}
 use Rattle.pci_space.specs.Fields.{reset_byte, table_fault}
-use Rattle.pci_space.proofs.Bits.{kept_at_reset}
-use Rattle.pci_space.proofs.Ends.{reset_everywhere}
+use Rattle.pci_space.proofs.UnmaskedBitsAreKept.{kept_at_reset}
+use Rattle.pci_space.proofs.FieldsEndInside.{reset_everywhere}
 use Rattle.pci_space.proofs.space.Space.reset.Goals as goal
 
 at_reset : (g : _) (c : goal.After-self-1 g) → (k : ℕ) → slice_index c.bytes_at_reset-self-inside.result k ≡ reset_byte c.self.inside.table.rows k

@@ -1,7 +1,7 @@
 use Rattle.std.proofs.Common.{◌∙◌, ap}
 use Rattle.std.specs.Prelude.{slice_index}
 use Rattle.pci_space.specs.Fields.{merged_byte}
-use Rattle.pci_space.proofs.Bits.{kept_after}
+use Rattle.pci_space.proofs.UnmaskedBitsAreKept.{kept_after}
 use Rattle.pci_space.proofs.space.Space.write.Goals as goal
 
 pub invariant_of-self : goal.invariant_of-self

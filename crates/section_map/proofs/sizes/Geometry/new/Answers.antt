@@ -1,5 +1,5 @@
 use Rattle.std.proofs.Common.{rules}
-use Rattle.section_map.proofs.Rooms.{IsShape-shape_of}
+use Rattle.section_map.proofs.SizesAreShape.{IsShape-shape_of}
 use Rattle.section_map.proofs.sizes.Geometry.new.Goals as goal
 
 pub invariant_of-result : goal.invariant_of-result

@@ -12,8 +12,8 @@ invariant_of-result c =
     let lengths : c.in_ok-lengths.lengths.items ≡ replicate (limit_of q) 0 = search rules in
     let entries : c.in_ok-entries.entries.items ≡ replicate (size_of q / 2) 0 = search rules in
     record {
-      sender = subst IsSender (begun_is q c.args.own c.args.theirs c.args.target c.args.vector [] c.new.result c.in_ok-lengths.lengths.items c.in_ok-entries.entries.items c.new.ensures lengths entries)
-          (fresh_is q c.args.own c.args.theirs c.args.target c.args.vector [] c.size.ensures.queue c.requires.own c.requires.theirs);
+      sender = subst IsSender (begun_is q c.args.own c.args.other_start c.args.target c.args.vector [] c.new.result c.in_ok-lengths.lengths.items c.in_ok-entries.entries.items c.new.ensures lengths entries)
+          (fresh_is q c.args.own c.args.other_start c.args.target c.args.vector [] c.size.ensures.queue c.requires.own c.requires.other_start);
       slots = search rules;
       buffer = search rules;
       length = omega arith;
@@ -24,5 +24,5 @@ returns-clause-refines c = λ config end.
     let q = c.args.queue.now in
     let lengths : c.in_ok-lengths.lengths.items ≡ replicate (limit_of q) 0 = search rules in
     let entries : c.in_ok-entries.entries.items ≡ replicate (size_of q / 2) 0 = search rules in
-    subst (λ (s : Sender). IsMadeFor s config → IsFreshSession config end → RefinesAt s config end laws.Closed) (begun_is q c.args.own c.args.theirs c.args.target c.args.vector [] c.new.result c.in_ok-lengths.lengths.items c.in_ok-entries.entries.items c.new.ensures lengths entries)
-    (fresh_stands q c.args.own c.args.theirs c.args.target c.args.vector [] config end)
+    subst (λ (s : Sender). IsMadeFor s config → IsFreshSession config end → RefinesAt s config end laws.Closed) (begun_is q c.args.own c.args.other_start c.args.target c.args.vector [] c.new.result c.in_ok-lengths.lengths.items c.in_ok-entries.entries.items c.new.ensures lengths entries)
+    (fresh_stands q c.args.own c.args.other_start c.args.target c.args.vector [] config end)

@@ -13,7 +13,7 @@ returns-in-ReadingUsedId-clause-access c config end place refines =
     let read = id_access _ config end place c.in-ReadingUsedId.more c.self.invariant.sender here.made (at_here _ _ config end place c.in-ReadingUsedId.is here) in
     let freed = c.freed.ensures ∙ ap (λ (s : Sender). (s.accepted + 65536 - s.in_flight) % 65536) (sym c.self.view_is) in
     let word = c.used_id.ensures.place ∙ ap (λ n. word_offset t.queue (UsedId (n % size_of t.queue))) (c.from.ensures ∙ freed) in
-    c.read-in-ReadingUsedId.ensures ∙ (ap (λ (s : Sender). Read (s.theirs + c.used_id.result)) (sym c.self.view_is) ∙ (ap (λ n. Read (t.theirs + n)) word ∙ read))
+    c.read-in-ReadingUsedId.ensures ∙ (ap (λ (s : Sender). Read (s.other_start + c.used_id.result)) (sym c.self.view_is) ∙ (ap (λ n. Read (t.other_start + n)) word ∙ read))
 
 pub returns-in-WritingAvailEntry-clause-access : goal.returns-in-WritingAvailEntry-clause-access
 returns-in-WritingAvailEntry-clause-access c config end place refines =

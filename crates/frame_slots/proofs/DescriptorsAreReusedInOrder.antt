@@ -5,33 +5,33 @@ use Rattle.std.proofs.lemmas.Bool.{cases_lt}
 use Rattle.split_ring.specs.Layout.{limit_of}
 use Rattle.frame_slots.specs.Allocator.{Allocator, IsAllocator, IsInFlight, oldest_of, with_placed, with_freed, DescriptorsAreReusedInOrder}
 
--- The descriptor `turns` before the next of c descriptors.
-abbrev back : (next c turns : ℕ) → ℕ
-back next c turns = (next + c - turns) % c
+-- The descriptor `count` before the next of c descriptors.
+abbrev back : (next c count : ℕ) → ℕ
+back next c count = (next + c - count) % c
 
-back_near : (next c turns : ℕ) → next < c → turns ≤ next → back next c turns ≡ next - turns
-back_near next c turns in_range near =
-    let shifted : next + c - turns ≡ next - turns + c = omega arith in
-    let small : next - turns < c = omega arith in
-    ap (λ n. n % c) shifted ∙ (add-mod_right (next - turns) c ∙ mod-eq_of_lt small)
+back_near : (next c count : ℕ) → next < c → count ≤ next → back next c count ≡ next - count
+back_near next c count in_range near =
+    let shifted : next + c - count ≡ next - count + c = omega arith in
+    let small : next - count < c = omega arith in
+    ap (λ n. n % c) shifted ∙ (add-mod_right (next - count) c ∙ mod-eq_of_lt small)
 
-back_far : (next c turns : ℕ) → next < turns → turns ≤ c → next < c → back next c turns ≡ next + c - turns
-back_far next c turns far within in_range = mod-eq_of_lt (omega arith)
+back_far : (next c count : ℕ) → next < count → count ≤ c → next < c → back next c count ≡ next + c - count
+back_far next c count far within in_range = mod-eq_of_lt (omega arith)
 
 -- After the next descriptor advances, each descriptor is one more before it.
-back_on : (next c turns : ℕ) → next < c → turns < c → back ((next + 1) % c) c (turns + 1) ≡ back next c turns
-back_on next c turns in_range within =
+back_on : (next c count : ℕ) → next < c → count < c → back ((next + 1) % c) c (count + 1) ≡ back next c count
+back_on next c count in_range within =
     elim (cases_lt (next + 1) c) [
       | inl more ↦
-          let same : next + 1 + c - (turns + 1) ≡ next + c - turns = omega arith in
-          ap (λ n. back n c (turns + 1)) (mod-eq_of_lt more) ∙ ap (λ n. n % c) same
+          let same : next + 1 + c - (count + 1) ≡ next + c - count = omega arith in
+          ap (λ n. back n c (count + 1)) (mod-eq_of_lt more) ∙ ap (λ n. n % c) same
       | inr last ↦
           let is_last : next + 1 ≡ c = omega arith in
-          let same : c - (turns + 1) ≡ next - turns = omega arith in
+          let same : c - (count + 1) ≡ next - count = omega arith in
           let begins : (next + 1) % c ≡ 0 = ap (λ n. n % c) is_last ∙ mod_self c in
-          let far : back 0 c (turns + 1) ≡ 0 + c - (turns + 1) = back_far 0 c (turns + 1) (omega arith) (omega arith) (omega arith) in
-          let near = back_near next c turns in_range (omega arith) in
-          ap (λ n. back n c (turns + 1)) begins ∙ (far ∙ (omega (arith, near)))
+          let far : back 0 c (count + 1) ≡ 0 + c - (count + 1) = back_far 0 c (count + 1) (omega arith) (omega arith) (omega arith) in
+          let near = back_near next c count in_range (omega arith) in
+          ap (λ n. back n c (count + 1)) begins ∙ (far ∙ (omega (arith, near)))
     ]
 
 -- The descriptors before the next one are all different.
@@ -48,47 +48,47 @@ back_apart next c fewer more in_range less within some same =
 
 -- A descriptor in flight is the placed one, or was in flight before.
 joins : (t : Allocator) (bytes descriptor : ℕ) → IsAllocator t → t.in_flight < limit_of t.sizes → IsInFlight (with_placed t bytes) descriptor → IsInFlight t descriptor ⊎ (descriptor ≡ t.next)
-joins t bytes descriptor is room (turns, some, within, same) =
+joins t bytes descriptor is room (count, some, within, same) =
     let c = limit_of t.sizes in
-    elim (cases_lt 1 turns) [
+    elim (cases_lt 1 count) [
       | inl more ↦
-          let one_more : turns ≡ turns - 1 + 1 = omega arith in
-          inl (turns - 1, omega arith, omega arith, same ∙ (ap (back ((t.next + 1) % c) c) one_more ∙ back_on t.next c (turns - 1) is.next (omega arith)))
+          let one_more : count ≡ count - 1 + 1 = omega arith in
+          inl (count - 1, omega arith, omega arith, same ∙ (ap (back ((t.next + 1) % c) c) one_more ∙ back_on t.next c (count - 1) is.next (omega arith)))
       | inr one ↦
-          let just_one : turns ≡ 0 + 1 = omega arith in
+          let just_one : count ≡ 0 + 1 = omega arith in
           inr (same ∙ (ap (back ((t.next + 1) % c) c) just_one ∙ (back_on t.next c 0 is.next (omega arith) ∙ (back_near t.next c 0 is.next (omega arith) ∙ sub-zero t.next))))
     ]
 
 joined : (t : Allocator) (bytes descriptor : ℕ) → IsAllocator t → t.in_flight < limit_of t.sizes → IsInFlight t descriptor ⊎ (descriptor ≡ t.next) → IsInFlight (with_placed t bytes) descriptor
-joined t bytes descriptor is room (inl (turns, some, within, same)) =
-    (turns + 1, omega arith, omega arith, same ∙ sym (back_on t.next (limit_of t.sizes) turns is.next (omega arith)))
+joined t bytes descriptor is room (inl (count, some, within, same)) =
+    (count + 1, omega arith, omega arith, same ∙ sym (back_on t.next (limit_of t.sizes) count is.next (omega arith)))
 joined t bytes descriptor is room (inr same) =
     let c = limit_of t.sizes in
     (0 + 1, omega arith, omega arith, same ∙ sym (back_on t.next c 0 is.next (omega arith) ∙ (back_near t.next c 0 is.next (omega arith) ∙ sub-zero t.next)))
 
 leaves : (t : Allocator) (bytes descriptor : ℕ) → IsAllocator t → 0 < t.in_flight → IsInFlight (with_freed t bytes) descriptor → IsInFlight t descriptor × (descriptor ≢ oldest_of t)
-leaves t bytes descriptor is some_there (turns, some, within, same) =
-    ((turns, some, omega arith, same), λ oldest. back_apart t.next (limit_of t.sizes) turns t.in_flight is.next (omega arith) is.in_flight some (sym same ∙ oldest))
+leaves t bytes descriptor is some_there (count, some, within, same) =
+    ((count, some, omega arith, same), λ oldest. back_apart t.next (limit_of t.sizes) count t.in_flight is.next (omega arith) is.in_flight some (sym same ∙ oldest))
 
 stays : (t : Allocator) (bytes descriptor : ℕ) → IsAllocator t → 0 < t.in_flight → IsInFlight t descriptor × (descriptor ≢ oldest_of t) → IsInFlight (with_freed t bytes) descriptor
-stays t bytes descriptor is some_there ((turns, some, within, same), not_oldest) =
-    elim (cases_lt turns t.in_flight) [
-      | inl fewer ↦ (turns, some, omega arith, same)
+stays t bytes descriptor is some_there ((count, some, within, same), not_oldest) =
+    elim (cases_lt count t.in_flight) [
+      | inl fewer ↦ (count, some, omega arith, same)
       | inr all ↦
-          let at_oldest : turns ≡ t.in_flight = omega arith in
+          let at_oldest : count ≡ t.in_flight = omega arith in
           absurd (not_oldest (same ∙ ap (back t.next (limit_of t.sizes)) at_oldest))
     ]
 
-pub goes_round : DescriptorsAreReusedInOrder
-goes_round = record {
+pub descriptors_are_reused_in_order : DescriptorsAreReusedInOrder
+descriptors_are_reused_in_order = record {
   placed = λ t bytes descriptor is room. (joins t bytes descriptor is room, joined t bytes descriptor is room);
   freed = λ t bytes descriptor is some_there. (leaves t bytes descriptor is some_there, stays t bytes descriptor is some_there);
 }
 
 -- The next descriptor isn't in flight if the number of frames in flight is below the limit.
 pub next_alone : (t : Allocator) → IsAllocator t → t.in_flight < limit_of t.sizes → ¬ IsInFlight t t.next
-next_alone t is few (turns, some, within, same) =
-    elim (cases_lt t.next turns) [
-      | inl far ↦ omega (arith, same, back_far t.next (limit_of t.sizes) turns far (omega arith) is.next)
-      | inr near ↦ omega (arith, same, back_near t.next (limit_of t.sizes) turns is.next near)
+next_alone t is few (count, some, within, same) =
+    elim (cases_lt t.next count) [
+      | inl far ↦ omega (arith, same, back_far t.next (limit_of t.sizes) count far (omega arith) is.next)
+      | inr near ↦ omega (arith, same, back_near t.next (limit_of t.sizes) count is.next near)
     ]

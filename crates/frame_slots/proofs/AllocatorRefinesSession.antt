@@ -8,11 +8,11 @@ use Rattle.std.proofs.Math.Nat.{mod-add-mod}
 use Rattle.ivs_base.specs.Numbers.{up64}
 use Rattle.split_ring.specs.Layout.{Sizes, IsQueue, FrameSlot, is_byte_ring, data_area_len, slot_of, limit_of, data_area_start, offset_of}
 use Rattle.split_ring.specs.Frames.{footprint_of, start_after, ring_start, start_of, AreApart, is_apart_from, has_room}
-use Rattle.split_ring.proofs.Frames.{after_is, ring_inside, ring_told, few, apart_each, frames_lem}
+use Rattle.split_ring.proofs.FramesAreLaidOut.{after_is, ring_inside, ring_start_by_prefix, few, apart_each, frames_are_laid_out}
 use Rattle.frame_slots.specs.declared.slots.Slot as slots
 use Rattle.frame_slots.specs.Allocator.{Allocator, initial_allocator, ring_bytes, bytes_are_free, has_room_in, next_start, next_slot, with_placed, second_start, with_freed}
 use Rattle.frame_slots.specs.Refinement.{ring_end, AreContiguous, WrapsOnce, RingRefinesSession, RefinesSession, AllocatorRefinesSession}
-use Rattle.frame_slots.proofs.Fitting.{ring_fits, few_of}
+use Rattle.frame_slots.proofs.PlacedFramesFit.{ring_fits, few_of}
 
 -- A frame starts after the end of the frame before it, or at 0.
 start_is : (room : ℕ) (length_of : ℕ → ℕ) (k : ℕ) → ring_start room length_of k ≡ start_after room (ring_end room length_of k) (up64 (length_of k))
@@ -294,17 +294,17 @@ ring_frees t n room length_of freed sent bytes bytes_is h lt head_is tail_is lef
           before = omega arith;
         }))
 
-end_told : (room : ℕ) (length_of others : ℕ → ℕ) (k : ℕ) → ((j : ℕ) → j < k → length_of j ≡ others j) → ring_end room length_of k ≡ ring_end room others k
+ring_end_by_prefix : (room : ℕ) (length_of others : ℕ → ℕ) (k : ℕ) → ((j : ℕ) → j < k → length_of j ≡ others j) → ring_end room length_of k ≡ ring_end room others k
 unfolding ring_end
-end_told room length_of others zero same = refl
-end_told room length_of others (suc k) same =
-    let start = ring_told room length_of others k (λ j le. same j (omega arith)) in
+ring_end_by_prefix room length_of others zero same = refl
+ring_end_by_prefix room length_of others (suc k) same =
+    let start = ring_start_by_prefix room length_of others k (λ j le. same j (omega arith)) in
     ap (λ a. a + up64 (length_of k)) start ∙ ap (λ l. ring_start room others k + up64 l) (same k (omega arith))
 
 -- The lengths of frames from `sent` on make no difference.
-ring_told_of : (t : Allocator) (room : ℕ) (length_of others : ℕ → ℕ) (freed sent : ℕ) → ((j : ℕ) → j < sent → length_of j ≡ others j) →
+ring_by_prefix : (t : Allocator) (room : ℕ) (length_of others : ℕ → ℕ) (freed sent : ℕ) → ((j : ℕ) → j < sent → length_of j ≡ others j) →
     RingRefinesSession t room length_of freed sent → RingRefinesSession t room others freed sent
-ring_told_of t room length_of others freed sent same h = record {
+ring_by_prefix t room length_of others freed sent same h = record {
   some = λ k from below. subst (λ l. 1 ≤ l) (same k below) (h.some k from below);
   fits = λ k from below. subst (λ l. up64 l ≤ room) (same k below) (h.fits k from below);
   tail = h.tail ∙ ends sent (omega arith);
@@ -325,10 +325,10 @@ ring_told_of t room length_of others freed sent same h = record {
 }
   where
     start : (k : ℕ) → k < sent → ring_start room length_of k ≡ ring_start room others k
-    start k lt = ring_told room length_of others k (λ j le. same j (omega arith))
+    start k lt = ring_start_by_prefix room length_of others k (λ j le. same j (omega arith))
 
     ends : (k : ℕ) → k ≤ sent → ring_end room length_of k ≡ ring_end room others k
-    ends k le = end_told room length_of others k (λ j lt. same j (omega arith))
+    ends k le = ring_end_by_prefix room length_of others k (λ j lt. same j (omega arith))
 
     goes : (a b : ℕ) → b ≤ sent → AreContiguous room length_of a b → AreContiguous room others a b
     goes a b le straight k from below = sym (start k (omega arith)) ∙ (straight k from below ∙ ends k (omega arith))
@@ -414,7 +414,7 @@ free_of_session : (q : Sizes) (length_of : ℕ → ℕ) (freed sent : ℕ) → I
 free_of_session q length_of freed sent is ring room k from below =
     moved_back (data_area_start q) _ _ _ _ (apart_as _ _ _ _ _ _ _ _
     (ring_start_is q length_of k ring) (ring_takes q (length_of k) ring) (ring_start_is q length_of sent ring) (ring_takes q (length_of sent) ring)
-    (frames_lem.apart q length_of freed sent k is room from below))
+    (frames_are_laid_out.apart q length_of freed sent k is room from below))
 
 -- With slots the numbers of the byte ring are 0, and the test depends on the count alone.
 slots_say : (count : ℕ) (room head tail bytes : ℕ) → head ≡ 0 → tail ≡ 0 → bytes ≡ 0 → has_bytes room count head tail bytes ≡ true
@@ -446,7 +446,7 @@ decides t length_of freed sent is h least most = pick (is_byte_ring t.sizes) ref
         (subst (λ n. SaysRoom (data_area_len t.sizes) n t.head t.tail (up64 (length_of sent))) count
         (needs_test t (data_area_len t.sizes) length_of freed sent (omega (arith, all)) (h.ring ring) (omega (arith, least)) (free_of_session t.sizes length_of freed sent is ring room))))))
     pick false none = let zero = h.slots none in same_test _ _
-        (λ test. let lt = (room_of_test t (length_of sent) test).0 in frames_lem.slots t.sizes length_of freed sent none ∙ less_test sent (freed + limit_of t.sizes) (omega (arith, all, lt)))
+        (λ test. let lt = (room_of_test t (length_of sent) test).0 in frames_are_laid_out.slots t.sizes length_of freed sent none ∙ less_test sent (freed + limit_of t.sizes) (omega (arith, all, lt)))
         (λ room. let lt = few t.sizes length_of freed sent room in
         test_of_room t (length_of sent) (omega (arith, all, lt)) (slots_say t.in_flight (data_area_len t.sizes) t.head t.tail bytes zero.0 zero.1 (bytes_in_slots t.sizes (length_of sent) none)))
 
@@ -550,14 +550,14 @@ begins q length_of = record {
     zero_mod : (c : ℕ) → 0 % c ≡ 0
     zero_mod c = grind arith
 
-told : (t : Allocator) (length_of others : ℕ → ℕ) (freed sent : ℕ) → ((j : ℕ) → j < sent → length_of j ≡ others j) → RefinesSession t length_of freed sent → RefinesSession t others freed sent
-told t length_of others freed sent same h = record {
+session_by_prefix : (t : Allocator) (length_of others : ℕ → ℕ) (freed sent : ℕ) → ((j : ℕ) → j < sent → length_of j ≡ others j) → RefinesSession t length_of freed sent → RefinesSession t others freed sent
+session_by_prefix t length_of others freed sent same h = record {
   next = h.next;
   in_flight = h.in_flight;
   most = h.most;
-  ring = λ ring. ring_told_of t (data_area_len t.sizes) length_of others freed sent same (h.ring ring);
+  ring = λ ring. ring_by_prefix t (data_area_len t.sizes) length_of others freed sent same (h.ring ring);
   slots = h.slots;
 }
 
-pub turns_lem : AllocatorRefinesSession
-turns_lem = record { starts = begins; by_prefix = told; decides = decides; places = places; goes_on = goes_on; frees = frees }
+pub allocator_refines_session : AllocatorRefinesSession
+allocator_refines_session = record { starts = begins; by_prefix = session_by_prefix; decides = decides; places = places; goes_on = goes_on; frees = frees }

@@ -6,11 +6,11 @@ use Rattle.std.proofs.Math.Nat.{mul-le-mul_left}
 use Rattle.ivs_base.specs.Numbers.{up64}
 use Rattle.split_ring.specs.Layout.{Sizes, IsQueue, FrameSlot, is_byte_ring, data_area_len, slot_of, size_of, slots_of, limit_of, data_area_start, offset_of}
 use Rattle.split_ring.specs.Frames.{start_after}
-use Rattle.split_ring.proofs.Bounds.{bounds}
-use Rattle.split_ring.proofs.Frames.{after_is, ring_inside}
+use Rattle.split_ring.proofs.QueueHasBounds.{bounds}
+use Rattle.split_ring.proofs.FramesAreLaidOut.{after_is, ring_inside}
 use Rattle.frame_slots.specs.Allocator.{Allocator, IsAllocator, IsInFlight, ring_bytes, has_room_in, next_start, next_slot, second_start}
 use Rattle.frame_slots.specs.Refinement.{IsOldest}
-use Rattle.frame_slots.proofs.Rounds.{next_alone}
+use Rattle.frame_slots.proofs.DescriptorsAreReusedInOrder.{next_alone}
 
 -- A frame fits into the area.
 pub ring_fits : (q : Sizes) (len : ℕ) → IsQueue q → len ≤ q.mtu + 18 → ring_bytes q len ≤ data_area_len q

@@ -5,14 +5,14 @@ use Rattle.section_map.specs.declared.limits.TheConstants.{LARGEST_REGION}
 use Rattle.split_ring.specs.declared.sizes.TheConstants.{FRAME_OVERHEAD, LEAST_MTU, MOST_MTU}
 use Rattle.split_ring.specs.Layout.{Sizes, IsVersion, size_of, queue_size, rings_len, used_ring_offset, slots_of, limit_of, IsQueue}
 use Rattle.split_ring.specs.Representation.{IsWellFormed}
-use Rattle.split_ring.proofs.Bounds.{bounds}
+use Rattle.split_ring.proofs.QueueHasBounds.{bounds}
 
-pub kept : (version out mtu n used payload slot limit : ℕ)
+pub new_queue_is_well_formed : (version out mtu n used payload slot limit : ℕ)
     → IsVersion version → queue_size out ≡ Some n → LEAST_MTU ≤ mtu → mtu ≤ MOST_MTU → out ≤ LARGEST_REGION
     → used ≡ used_ring_offset n → payload ≡ rings_len n → slot ≡ up64 (FRAME_OVERHEAD + mtu) → slot ≤ out - payload → limit ≡ cond (nat_le 3 version) n (min n ((out - payload) / slot))
     → IsWellFormed (record { version = version; out = out; mtu = mtu; size = n; used = used; payload = payload; slot = slot; limit = limit })
 unfolding limit_of slots_of
-kept version out mtu n used payload slot limit known found least most section used_is payload_is slot_is fits limit_is =
+new_queue_is_well_formed version out mtu n used payload slot limit known found least most section used_is payload_is slot_is fits limit_is =
     let q : Sizes = record { version = version; out = out; mtu = mtu } in
     let n_is : size_of q ≡ n = ap (λ o. unwrap_or o 0) found in
     let h : IsQueue q = record {

@@ -99,9 +99,9 @@ is_queue_size out (Some n) h = record {
   greatest = λ k least most fits. h.greatest (2 ^ k) (power_among k least most) (test_is _ _ fits);
 }
 
-pub queue_size_lem : QueueSizeIsGreatest
+pub queue_size_is_greatest : QueueSizeIsGreatest
 unfolding queue_size
-queue_size_lem out = is_queue_size out (find (λ n. nat_lt (8 * rings_len n) out) queue_sizes) (find_greatest (λ n. nat_lt (8 * rings_len n) out) queue_sizes sizes_descend)
+queue_size_is_greatest out = is_queue_size out (find (λ n. nat_lt (8 * rings_len n) out) queue_sizes) (find_greatest (λ n. nat_lt (8 * rings_len n) out) queue_sizes sizes_descend)
 
 size_range : (m : ℕ) → Among m queue_sizes → (LEAST_QUEUE ≤ m) × (m ≤ MOST_QUEUE)
 size_range m a = (grind arith, grind arith)
@@ -136,10 +136,10 @@ pub record IsFound (out n : ℕ) : Type 0 where
   pub least : LEAST_QUEUE ≤ n
   pub most : n ≤ MOST_QUEUE
   pub whole : n % 64 ≡ 0
-  pub turns : 65536 % n ≡ 0
+  pub divides : 65536 % n ≡ 0
 
 pub found : (out n : ℕ) → queue_size out ≡ Some n → IsFound out n
 unfolding queue_size
 found out n e =
     let h : IsGreatest (λ m. nat_lt (8 * rings_len m) out) queue_sizes n = MatchOption-at_some _ _ n e (find_greatest (λ m. nat_lt (8 * rings_len m) out) queue_sizes sizes_descend) in
-    record { fits = is_test _ _ h.passes; least = (size_range n h.among).0; most = (size_range n h.among).1; whole = size_whole n h.among; turns = size_turns n h.among }
+    record { fits = is_test _ _ h.passes; least = (size_range n h.among).0; most = (size_range n h.among).1; whole = size_whole n h.among; divides = size_turns n h.among }

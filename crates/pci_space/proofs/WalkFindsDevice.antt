@@ -17,9 +17,9 @@ use Rattle.pci_space.specs.declared.place.RegionPlace.{RegionPlace}
 use Rattle.pci_space.specs.declared.place.RegionPlace.TheVariants.{Address, Bar2}
 use Rattle.pci_space.specs.Place.{IsRegionPlace, base_of, capability_length}
 use Rattle.pci_space.specs.Device.{placed_rows, found_of, msix_of}
-use Rattle.pci_space.specs.Walk.{number_at, pointer_at, nothing_listed, listed_with, head_fault, found_in, Comes, IsWalk}
-use Rattle.pci_space.specs.Walk.Comes.{ends, goes_on}
-use Rattle.pci_space.proofs.NumberLemmas.{number_from-within, number_from-bytes}
+use Rattle.pci_space.specs.Walk.{number_at, pointer_at, nothing_listed, listed_with, head_fault, found_in, FollowsList, IsWalk}
+use Rattle.pci_space.specs.Walk.FollowsList.{ends, continues}
+use Rattle.pci_space.proofs.NumberBytes.{number_from-within, number_from-bytes}
 
 -- The vendor capability of a device.
 abbrev vendor_of : Shape → RegionPlace → Vendor
@@ -113,22 +113,22 @@ last_pointer shape protocol vectors (Bar2 bits) bytes same = pointer shape proto
 -- The whole list of a device.
 comes : (shape : Shape) (protocol : ℕ) (wiring : Wiring) (region : RegionPlace) (bytes : List ℕ) → IsShape shape → IsWiring wiring → IsRegionPlace region →
     ((k : ℕ) → k < 256 → slice_index bytes k ≡ reset_byte (placed_rows shape protocol wiring region) k) →
-    Comes bytes [] (pointer_at bytes 0x34) nothing_listed (Ok (record { vendor = Some (vendor_of shape region); msix = msix_of wiring }))
+    FollowsList bytes [] (pointer_at bytes 0x34) nothing_listed (Ok (record { vendor = Some (vendor_of shape region); msix = msix_of wiring }))
 comes shape protocol (Msix vectors) region bytes shaped wired placed same =
     let last : Result Listed CapabilityFault = Ok (record { vendor = Some (vendor_of shape region); msix = msix_of (Msix vectors) }) in
-    subst (λ p. Comes bytes [] p nothing_listed last) (sym (pointer shape protocol (Msix vectors) region bytes same 0x34 (lit< tt)))
-    (goes_on [] 0x40 nothing_listed _ last (lit≤ tt) refl (vendor shape protocol (Msix vectors) region bytes shaped placed same)
-    (subst (λ p. Comes bytes (0x40 ∷ []) p (record { vendor = Some (vendor_of shape region); msix = None }) last)
+    subst (λ p. FollowsList bytes [] p nothing_listed last) (sym (pointer shape protocol (Msix vectors) region bytes same 0x34 (lit< tt)))
+    (continues [] 0x40 nothing_listed _ last (lit≤ tt) refl (vendor shape protocol (Msix vectors) region bytes shaped placed same)
+    (subst (λ p. FollowsList bytes (0x40 ∷ []) p (record { vendor = Some (vendor_of shape region); msix = None }) last)
     (sym (pointer shape protocol (Msix vectors) region bytes same 0x41 (lit< tt)))
-    (goes_on (0x40 ∷ []) 0x60 _ _ last (lit≤ tt) refl (msix shape protocol vectors region bytes wired same)
-    (subst (λ p. Comes bytes (0x60 ∷ 0x40 ∷ []) p (record { vendor = Some (vendor_of shape region); msix = msix_of (Msix vectors) }) last)
+    (continues (0x40 ∷ []) 0x60 _ _ last (lit≤ tt) refl (msix shape protocol vectors region bytes wired same)
+    (subst (λ p. FollowsList bytes (0x60 ∷ 0x40 ∷ []) p (record { vendor = Some (vendor_of shape region); msix = msix_of (Msix vectors) }) last)
     (sym (last_pointer shape protocol vectors region bytes same))
     (ends (0x60 ∷ 0x40 ∷ []) (record { vendor = Some (vendor_of shape region); msix = msix_of (Msix vectors) }))))))
 comes shape protocol Intx region bytes shaped wired placed same =
     let last : Result Listed CapabilityFault = Ok (record { vendor = Some (vendor_of shape region); msix = None }) in
-    subst (λ p. Comes bytes [] p nothing_listed last) (sym (pointer shape protocol Intx region bytes same 0x34 (lit< tt)))
-    (goes_on [] 0x40 nothing_listed _ last (lit≤ tt) refl (vendor shape protocol Intx region bytes shaped placed same)
-    (subst (λ p. Comes bytes (0x40 ∷ []) p (record { vendor = Some (vendor_of shape region); msix = None }) last)
+    subst (λ p. FollowsList bytes [] p nothing_listed last) (sym (pointer shape protocol Intx region bytes same 0x34 (lit< tt)))
+    (continues [] 0x40 nothing_listed _ last (lit≤ tt) refl (vendor shape protocol Intx region bytes shaped placed same)
+    (subst (λ p. FollowsList bytes (0x40 ∷ []) p (record { vendor = Some (vendor_of shape region); msix = None }) last)
     (sym (pointer shape protocol Intx region bytes same 0x41 (lit< tt)))
     (ends (0x40 ∷ []) (record { vendor = Some (vendor_of shape region); msix = None }))))
 
@@ -140,5 +140,5 @@ finds_the_device shape protocol wiring region bytes shaped small wired placed sa
     let answer : Result Found CapabilityFault = Ok (found_of shape protocol wiring region) in
     let found : answer ≡ found_in bytes last = rw (named shape protocol wiring region bytes same small) refl in
     subst (λ fault. MatchOption fault
-    ((l : Result Listed CapabilityFault) × Comes bytes [] (pointer_at bytes 0x34) nothing_listed l × (answer ≡ found_in bytes l))
+    ((l : Result Listed CapabilityFault) × FollowsList bytes [] (pointer_at bytes 0x34) nothing_listed l × (answer ≡ found_in bytes l))
     (λ f. answer ≡ Err f)) (sym (head shape protocol wiring region bytes same)) (last, comes shape protocol wiring region bytes shaped wired placed same, found)

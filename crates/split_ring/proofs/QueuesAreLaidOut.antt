@@ -4,7 +4,7 @@ use mathlib.Core.Logic.{dite}
 use native.Mathlib.Decide.{dec_lt}
 use Rattle.std.proofs.Math.Nat.{mul-le-mul_left}
 use Rattle.split_ring.specs.Layout.{Sizes, Field, DescAddress, DescLength, DescFlags, DescNext, AvailFlags, AvailIndex, AvailEntry, UsedEvent, UsedFlags, UsedIndex, UsedId, UsedLength, AvailEvent, FrameSlot, slots_of, slot_of, data_area_start, offset_of, width_of, alignment_of, IsField, HasByte, HasBounds, QueuesAreLaidOut}
-use Rattle.split_ring.proofs.Bounds.{bounds}
+use Rattle.split_ring.proofs.QueueHasBounds.{bounds}
 
 -- Slots of one size share no byte.
 same_slot : (slot i j b : ℕ) → slot * i ≤ b → b < slot * i + slot → slot * j ≤ b → b < slot * j + slot → i ≡ j
@@ -49,8 +49,8 @@ aligned q (UsedLength k) = omega arith
 aligned q AvailEvent = omega arith
 aligned q (FrameSlot i) = omega arith
 
-pub places_lem : QueuesAreLaidOut
-places_lem q h =
+pub queues_are_laid_out : QueuesAreLaidOut
+queues_are_laid_out q h =
     let b = bounds q h in
     let whole = b.size_whole in
     record {

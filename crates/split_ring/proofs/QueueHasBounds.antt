@@ -2,7 +2,7 @@
 use Rattle.std.proofs.Common.{ℕ, ◌*◌, ◌/◌, ◌<◌, ◌≤◌, min, Bool, true, false, cond, arith}
 use Rattle.std.proofs.Math.Nat.{mul-le-mul_left, mul-div-le, le-div_iff_mul-le}
 use Rattle.split_ring.specs.Layout.{Sizes, size_of, data_area_len, slot_of, slots_of, limit_of, is_byte_ring, IsQueue, HasBounds}
-use Rattle.split_ring.proofs.QueueSizes.{found}
+use Rattle.split_ring.proofs.QueueSizeIsGreatest.{found}
 
 slots_fit : (size room slot : ℕ) → slot * min size (room / slot) ≤ room
 slots_fit size room slot =
@@ -31,7 +31,7 @@ bounds q h =
       size_least = f.least;
       size_most = f.most;
       size_whole = f.whole;
-      turns = f.turns;
+      divides = f.divides;
       limit_least = of_limit (λ n. 0 < n) (is_byte_ring q) (size_of q) (min (size_of q) (data_area_len q / slot_of q)) (omega arith) (omega arith);
       limit_most = of_limit (λ n. n ≤ size_of q) (is_byte_ring q) (size_of q) (min (size_of q) (data_area_len q / slot_of q)) (omega arith) (omega arith);
       rings = f.fits;

@@ -7,7 +7,7 @@ use Rattle.std.proofs.lemmas.Grind.{and-not_self}
 use Rattle.std.proofs.lemmas.Bool.{cases_lt}
 use Rattle.pci_space.specs.declared.field.Field.{Field}
 use Rattle.pci_space.specs.Numbers.{number_byte}
-use Rattle.pci_space.specs.Fields.{merged, mask_byte, reset_byte, merged_byte, reaches, KeepsUnmasked}
+use Rattle.pci_space.specs.Fields.{merged, mask_byte, reset_byte, merged_byte, access_has_byte, KeepsUnmasked}
 
 -- The bits that a mask lets through are none of the other bits.
 apart : (new mask : ℕ) → mask ≤ 255 → bit_and (bit_and new mask) (255 - mask) ≡ 0
@@ -37,7 +37,7 @@ pub kept_after : (rows : List Field) (old new : List ℕ) (at count value : ℕ)
     ((k : ℕ) → slice_index new k ≡ merged_byte rows at count value k (slice_index old k)) → KeepsUnmasked rows new
 kept_after rows old new at count value was written k =
     ap (λ b. bit_and b (255 - mask_byte rows k)) (written k)
-    ∙ kept_at (reaches at count k) (slice_index old k) (number_byte value (k - at)) (mask_byte rows k) (reset_byte rows k) (was k)
+    ∙ kept_at (access_has_byte at count k) (slice_index old k) (number_byte value (k - at)) (mask_byte rows k) (reset_byte rows k) (was k)
 
 -- A space at reset has the reset values' bits.
 pub kept_at_reset : (rows : List Field) (bytes : List ℕ) → ((k : ℕ) → slice_index bytes k ≡ reset_byte rows k) → KeepsUnmasked rows bytes

@@ -9,8 +9,8 @@ use Rattle.std.proofs.Math.Nat.{mul-le-mul_left}
 use Rattle.ivs_base.specs.Numbers.{up64}
 use Rattle.split_ring.specs.Layout.{Sizes, IsQueue, FrameSlot, is_byte_ring, data_area_len, slot_of, size_of, slots_of, limit_of, data_area_start, offset_of}
 use Rattle.split_ring.specs.Frames.{footprint_of, start_after, ring_start, start_of, AreApart, are_apart, is_apart_from, has_room, IsPlaced, FramesAreLaidOut}
-use Rattle.split_ring.proofs.Bounds.{bounds}
-use Rattle.split_ring.proofs.Places.{places_lem}
+use Rattle.split_ring.proofs.QueueHasBounds.{bounds}
+use Rattle.split_ring.proofs.QueuesAreLaidOut.{queues_are_laid_out}
 
 -- The only case split on the version: a property in a byte ring and with slots.
 by_ring : {B : Type 0} (Holds : B → Type 0) (b : Bool) (ring slots : B) → (b ≡ true → Holds ring) → (b ≡ false → Holds slots) → Holds (cond b ring slots)
@@ -43,11 +43,11 @@ ring_even room length_of (suc k) =
     let before = ring_even room length_of k in
     after_is (λ b. b % 64 ≡ 0) room (ring_start room length_of k + up64 (length_of k)) (up64 (length_of (suc k))) (λ le. omega arith) (λ over. refl)
 
-pub ring_told : (room : ℕ) (length_of others : ℕ → ℕ) (k : ℕ) → ((j : ℕ) → j ≤ k → length_of j ≡ others j) → ring_start room length_of k ≡ ring_start room others k
+pub ring_start_by_prefix : (room : ℕ) (length_of others : ℕ → ℕ) (k : ℕ) → ((j : ℕ) → j ≤ k → length_of j ≡ others j) → ring_start room length_of k ≡ ring_start room others k
 unfolding ring_start
-ring_told room length_of others zero same = refl
-ring_told room length_of others (suc k) same =
-    let before = ring_told room length_of others k (λ j le. same j (omega arith)) in
+ring_start_by_prefix room length_of others zero same = refl
+ring_start_by_prefix room length_of others (suc k) same =
+    let before = ring_start_by_prefix room length_of others k (λ j le. same j (omega arith)) in
     ap (λ b. start_after room (b + up64 (length_of k)) (up64 (length_of (suc k)))) before ∙
     (ap (λ l. start_after room (ring_start room others k + up64 l) (up64 (length_of (suc k)))) (same k (omega arith)) ∙
     ap (λ l. start_after room (ring_start room others k + up64 (others k)) (up64 l)) (same (suc k) (omega arith)))
@@ -64,7 +64,7 @@ slot_below q is none k =
 placed : (q : Sizes) (length_of : ℕ → ℕ) (k : ℕ) → IsQueue q → IsPlaced q length_of k
 unfolding start_of footprint_of
 placed q length_of k is =
-    let laid = places_lem q is in
+    let laid = queues_are_laid_out q is in
     let ring = data_area_start q + ring_start (data_area_len q) length_of k in
     let slot = offset_of q (FrameSlot (k % limit_of q)) in
     let even = ring_even (data_area_len q) length_of k in
@@ -85,34 +85,34 @@ placed q length_of k is =
     pick true ring slot h g = h refl
     pick false ring slot h g = g refl
 
-told : (q : Sizes) (length_of others : ℕ → ℕ) (k : ℕ) → ((j : ℕ) → j ≤ k → length_of j ≡ others j) → start_of q length_of k ≡ start_of q others k
+start_by_prefix : (q : Sizes) (length_of others : ℕ → ℕ) (k : ℕ) → ((j : ℕ) → j ≤ k → length_of j ≡ others j) → start_of q length_of k ≡ start_of q others k
 unfolding start_of
-told q length_of others k same =
-    ap (λ b. cond (is_byte_ring q) (data_area_start q + b) (offset_of q (FrameSlot (k % limit_of q)))) (ring_told (data_area_len q) length_of others k same)
+start_by_prefix q length_of others k same =
+    ap (λ b. cond (is_byte_ring q) (data_area_start q + b) (offset_of q (FrameSlot (k % limit_of q)))) (ring_start_by_prefix (data_area_len q) length_of others k same)
 
-apart_told : (q : Sizes) (length_of others : ℕ → ℕ) (number k count : ℕ) → k + count ≤ number → ((j : ℕ) → j ≤ number → length_of j ≡ others j) →
+apart_by_prefix : (q : Sizes) (length_of others : ℕ → ℕ) (number k count : ℕ) → k + count ≤ number → ((j : ℕ) → j ≤ number → length_of j ≡ others j) →
     is_apart_from q length_of number k count ≡ is_apart_from q others number k count
-apart_told q length_of others number k zero within same = refl
-apart_told q length_of others number k (suc count) within same =
+apart_by_prefix q length_of others number k zero within same = refl
+apart_by_prefix q length_of others number k (suc count) within same =
     ap (λ b. are_apart b (footprint_of q (length_of k)) (start_of q length_of number) (footprint_of q (length_of number)) && is_apart_from q length_of number (k + 1) count)
-    (told q length_of others k (λ j le. same j (omega arith))) ∙
+    (start_by_prefix q length_of others k (λ j le. same j (omega arith))) ∙
     (ap (λ l. are_apart (start_of q others k) (footprint_of q l) (start_of q length_of number) (footprint_of q (length_of number)) && is_apart_from q length_of number (k + 1) count)
     (same k (omega arith)) ∙
     (ap (λ b. are_apart (start_of q others k) (footprint_of q (others k)) b (footprint_of q (length_of number)) && is_apart_from q length_of number (k + 1) count)
-    (told q length_of others number same) ∙
+    (start_by_prefix q length_of others number same) ∙
     (ap (λ l. are_apart (start_of q others k) (footprint_of q (others k)) (start_of q others number) (footprint_of q l) && is_apart_from q length_of number (k + 1) count)
     (same number (omega arith)) ∙
     ap (λ b. are_apart (start_of q others k) (footprint_of q (others k)) (start_of q others number) (footprint_of q (others number)) && b)
-    (apart_told q length_of others number (k + 1) count (omega arith) same))))
+    (apart_by_prefix q length_of others number (k + 1) count (omega arith) same))))
 
-room_told : (q : Sizes) (length_of others : ℕ → ℕ) (freed number : ℕ) → ((j : ℕ) → j ≤ number → length_of j ≡ others j) →
+has_room_by_prefix : (q : Sizes) (length_of others : ℕ → ℕ) (freed number : ℕ) → ((j : ℕ) → j ≤ number → length_of j ≡ others j) →
     has_room q length_of freed number ≡ has_room q others freed number
 unfolding has_room
-room_told q length_of others freed number same = dite (dec_lt number freed)
+has_room_by_prefix q length_of others freed number same = dite (dec_lt number freed)
     (λ less. let none : number - freed ≡ 0 = omega arith in
     ap (λ n. nat_lt number (freed + limit_of q) && (not (is_byte_ring q) || is_apart_from q length_of number freed n)) none ∙
     sym (ap (λ n. nat_lt number (freed + limit_of q) && (not (is_byte_ring q) || is_apart_from q others number freed n)) none))
-    (λ more. ap (λ b. nat_lt number (freed + limit_of q) && (not (is_byte_ring q) || b)) (apart_told q length_of others number freed (number - freed) (omega arith) same))
+    (λ more. ap (λ b. nat_lt number (freed + limit_of q) && (not (is_byte_ring q) || b)) (apart_by_prefix q length_of others number freed (number - freed) (omega arith) same))
 
 false_is_true : (b : Bool) → false ≡ true → b ≡ true
 false_is_true b h = grind arith
@@ -215,5 +215,5 @@ empty q length_of number is =
     or_true true = refl
     or_true false = refl
 
-pub frames_lem : FramesAreLaidOut
-frames_lem = record { placed = placed; by_prefix = told; room_by_prefix = room_told; few = few; apart = apart; slots = slots; empty = empty }
+pub frames_are_laid_out : FramesAreLaidOut
+frames_are_laid_out = record { placed = placed; by_prefix = start_by_prefix; room_by_prefix = has_room_by_prefix; few = few; apart = apart; slots = slots; empty = empty }

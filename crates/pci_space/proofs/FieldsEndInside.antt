@@ -6,7 +6,7 @@ use Rattle.std.proofs.lemmas.List.{get_or_past}
 use Rattle.pci_space.specs.declared.field.Field.{Field}
 use Rattle.pci_space.specs.declared.field.FieldFault.{FieldFault}
 use Rattle.pci_space.specs.declared.field.FieldFault.TheVariants.{BadWidth, TooWide, Outside}
-use Rattle.pci_space.specs.Fields.{covers, is_width, fits_width, overlap, reset_byte, row_fault, or_else, first_fault, table_fault}
+use Rattle.pci_space.specs.Fields.{field_has_byte, is_width, fits_width, overlap_fault, reset_byte, row_fault, or_else, first_fault, table_fault}
 use Rattle.pci_space.specs.Numbers.{number_byte}
 
 -- Both parts have no fault.
@@ -22,7 +22,7 @@ next_none (Some fault) b h = cc
 ends_inside : (size : ℕ) (earlier : List Field) (n : ℕ) (f : Field) → row_fault size earlier n f ≡ None → f.place + f.width ≤ size
 ends_inside size earlier n f sound = within (not (is_width f.width)) (not (fits_width f.reset f.width && fits_width f.mask f.width)) (nat_lt size (f.place + f.width)) refl sound where
   within : (wide long past : Bool) → past ≡ nat_lt size (f.place + f.width) →
-      (if wide then Some (BadWidth n) else if long then Some (TooWide n) else if past then Some (Outside n) else overlap f n 0 earlier) ≡ None →
+      (if wide then Some (BadWidth n) else if long then Some (TooWide n) else if past then Some (Outside n) else overlap_fault f n 0 earlier) ≡ None →
       f.place + f.width ≤ size
   within true long past e h = cc
   within false true past e h = cc
@@ -30,7 +30,7 @@ ends_inside size earlier n f sound = within (not (is_width f.width)) (not (fits_
   within false false false e h = ltb-false size (f.place + f.width) (sym e)
 
 -- A byte past the end of a field isn't its own.
-uncovered : (f : Field) (k : ℕ) → f.place + f.width ≤ k → covers f k ≡ false
+uncovered : (f : Field) (k : ℕ) → f.place + f.width ≤ k → field_has_byte f k ≡ false
 uncovered f k past = and_false (nat_le f.place k) (nat_lt k (f.place + f.width)) (le-ltb k (f.place + f.width) past) where
   and_false : (a b : Bool) → b ≡ false → (a && b) ≡ false
   and_false true b e = e
@@ -43,7 +43,7 @@ none_past size earlier n (f ∷ fs) sound k past =
     let row = first_none (row_fault size earlier n f) (first_fault size (earlier ++ f ∷ []) (n + 1) fs) sound in
     let rest = next_none (row_fault size earlier n f) (first_fault size (earlier ++ f ∷ []) (n + 1) fs) sound in
     let ends = ends_inside size earlier n f row in
-    let apart : covers f k ≡ false = uncovered f k (omega arith) in
+    let apart : field_has_byte f k ≡ false = uncovered f k (omega arith) in
     ap (λ b. if b then number_byte f.reset (k - f.place) else reset_byte fs k) apart
     ∙ none_past size (earlier ++ f ∷ []) (n + 1) fs rest k past
 

@@ -185,7 +185,8 @@ pub fn scenario_of(alloc: Global, capture: &Capture, peer: u32) -> Result<Scenar
     requires { peer < 2 }
     ensures made { IfOk result (λ scenario. world_of scenario ≡ feed_world peer (offered_frames capture.now.packets)) }
     ensures fits { OnOk result (¬ IsTooLarge (feed_world peer (offered_frames capture.now.packets))) }
-    ensures large { IsErrOf result FeedFault.TooLarge → IsTooLarge (feed_world peer (offered_frames capture.now.packets)) }
+    ensures large { IsErrOf result FeedFault.TooLarge →
+        IsTooLarge (feed_world peer (offered_frames capture.now.packets)) }
 {
     let packets = capture.packets.items();
     let Some(plan) = plan_of(packets) else {

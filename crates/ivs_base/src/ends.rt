@@ -116,7 +116,8 @@ pub fn read_all<S: Source>(alloc: Global, source: &mut S, limit: u64) -> Result<
     ensures within { IfOk result (λ v. length v.items ≤ limit) }
 
     // The byte after the limit shows that there are too many; no byte after it is consumed.
-    ensures too_long { IsErrOf result ReadEnd.TooLong → GaveCount (S.input source.old) (limit + 1) (S.input source.new) }
+    ensures too_long { IsErrOf result ReadEnd.TooLong →
+        GaveCount (S.input source.old) (limit + 1) (S.input source.new) }
     ensures fault { IsErrOf result ReadEnd.ReadFault → SourceFailed (S.input source.old) (S.input source.new) }
     ensures last { IsErrOf result ReadEnd.ReadFault → LastReadFailed (S.input source.old) (S.input source.new) }
     ensures front { IsErrOf result ReadEnd.ReadFault → GaveAtMost (S.input source.old) limit (S.input source.new) }

@@ -69,7 +69,8 @@ impl EndState {
 
     pub(crate) fn offer(&mut self, frame: &[u8])
         requires closed { is_busy self.old.endpoint ≡ false }
-        requires frame { (SHORTEST_FRAME ≤ length frame.now) × (length frame.now ≤ self.old.endpoint.config.sizes.mtu + FRAME_OVERHEAD) }
+        requires frame { (SHORTEST_FRAME ≤ length frame.now) ×
+            (length frame.now ≤ self.old.endpoint.config.sizes.mtu + FRAME_OVERHEAD) }
         ensures offers { Offers frame.now self.old.endpoint self.new.endpoint }
         ensures outcome { self.new.outcome ≡ Outcome.Open }
         ensures counts { self.new.counts ≡ self.old.counts }
@@ -95,7 +96,8 @@ impl EndState {
         requires empty { notes.old.items ≡ [] }
         ensures steps { Steps self.old.endpoint value notes.new.items self.new.endpoint }
         ensures outcome { self.new.outcome ≡ outcome_after notes.new.items self.old.outcome }
-        ensures counts { self.new.counts ≡ counts_after self.old.endpoint.phase self.new.endpoint.phase notes.new.items self.old.counts }
+        ensures counts { self.new.counts ≡
+            counts_after self.old.endpoint.phase self.new.endpoint.phase notes.new.items self.old.counts }
     {
         let before = self.endpoint.phase();
         self.endpoint.took_into(value, notes);
@@ -111,7 +113,8 @@ impl EndState {
         ensures steps { ReadsAtOnce self.old.endpoint words.now notes.new.items self.new.endpoint }
         ensures frame { ReadsWhole self.old.endpoint words.now self.new.endpoint }
         ensures outcome { self.new.outcome ≡ outcome_after notes.new.items self.old.outcome }
-        ensures counts { self.new.counts ≡ counts_after self.old.endpoint.phase self.new.endpoint.phase notes.new.items self.old.counts }
+        ensures counts { self.new.counts ≡
+            counts_after self.old.endpoint.phase self.new.endpoint.phase notes.new.items self.old.counts }
     {
         let before = self.endpoint.phase();
         self.endpoint.took_reads_into(words, notes);
@@ -152,7 +155,8 @@ impl EndState {
     /// Publishes the frame of the open offer: completes all writes up to its index.
     pub(crate) fn publish(&mut self, tail: &mut [u8]) -> Option<Publication>
         requires { length tail.old ≡ 20 }
-        ensures steps { IfSome result (λ made. Publishes self.old.endpoint tail.new made self.new.endpoint × Follows (Note.Accept ∷ []) self.old self.new) }
+        ensures steps { IfSome result (λ made. Publishes self.old.endpoint tail.new made self.new.endpoint ×
+            Follows (Note.Accept ∷ []) self.old self.new) }
         ensures sized { length tail.new ≡ length tail.old }
         ensures other { result ≡ None → bursts_of self.old.endpoint ≡ None }
         ensures unchanged { result ≡ None → (self.new ≡ self.old) × (tail.new ≡ tail.old) }

@@ -35,7 +35,8 @@ pub extern "C" fn ivshm_end_new(
     mtu: u32,
     vector: u32,
 ) -> u32
-    ensures { (answer : Answer) × (result ≡ number_of answer) × MakesAnswered end.old.port found.now 1 peers me mtu vector answer end.new.port }
+    ensures { (answer : Answer) × (result ≡ number_of answer) ×
+        MakesAnswered end.old.port found.now 1 peers me mtu vector answer end.new.port }
 {
     ivshm_end_new_version(alloc, end, found, peers, me, mtu, vector, 1)
 }
@@ -53,7 +54,8 @@ pub extern "C" fn ivshm_end_new_version(
     vector: u32,
     version: u32,
 ) -> u32
-    ensures { (answer : Answer) × (result ≡ number_of answer) × MakesAnswered end.old.port found.now version peers me mtu vector answer end.new.port }
+    ensures { (answer : Answer) × (result ≡ number_of answer) ×
+        MakesAnswered end.old.port found.now version peers me mtu vector answer end.new.port }
 {
     if let Some(port) = end.take(alloc) {
         end.put(port);

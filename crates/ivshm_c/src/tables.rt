@@ -42,7 +42,8 @@ pub extern "C" fn ivshm_walk(space: &[u8; 256], found: &mut Found) -> u32
 /// version of the link.
 #[unsafe(no_mangle)]
 pub extern "C" fn ivshm_layout(found: &Found, peers: u32, mtu: u32, layout: &mut Layout) -> u32
-    ensures { (answer : Answer) × (result ≡ number_of answer) × LaysOut found.now peers mtu layout.old answer layout.new }
+    ensures { (answer : Answer) × (result ≡ number_of answer) ×
+        LaysOut found.now peers mtu layout.old answer layout.new }
 {
     match sized(found, 1, peers, mtu) {
         Ok((geometry, queue)) => {

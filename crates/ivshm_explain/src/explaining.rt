@@ -51,7 +51,8 @@ fn explained(
 
 /// The explanation of bytes that are more than a form reads.
 pub fn too_many(alloc: Global, form: Command) -> Result<Vec<u8>, AllocError>
-    ensures { IfOk result (λ text. IsExplained [] (record { place = Place.Whole; reason = Reason.TooLong }) text.items) }
+    ensures { IfOk result
+        (λ text. IsExplained [] (record { place = Place.Whole; reason = Reason.TooLong }) text.items) }
 {
     let refusal = Refusal {
         place: Place::Whole,

@@ -26,10 +26,12 @@ impl AutoEndpoint {
     // claim chosen, closes, round: Between two calls a driven end chooses by the rule of the
     //    automatic peer, in the phase of its end. It chooses nothing while a call is open.
     pub fn choose(&mut self) -> Option<Choice>
-        ensures chosen { (config : EndConfig) (end : End) (place : Place) (count : ℕ) → RefinesAt self.old.end config end place →
+        ensures chosen { (config : EndConfig) (end : End) (place : Place) (count : ℕ) →
+            RefinesAt self.old.end config end place →
             HasCounted self.old.auto count → Matches result self.old.auto.frames (choice_at end place self.old.auto count) }
         ensures closes { Closes result (is_busy self.old.end) }
-        ensures round { self.new ≡ record self.old { auto = record (self.old.auto) { round = round_since result self.old.auto.round } } }
+        ensures round { self.new ≡
+            record self.old { auto = record (self.old.auto) { round = round_since result self.old.auto.round } } }
     {
         if self.end.busy() {
             return None;
@@ -61,7 +63,8 @@ impl AutoEndpoint {
     pub fn took(&mut self, value: u32) -> Notes
         requires { is_busy self.old.end ≡ true }
         ensures steps { Takes self.old.end value result.items self.new.end }
-        ensures counts { (one other : List ℕ) → Counts self.old.auto (marks_between one other result.items) self.new.auto }
+        ensures counts { (one other : List ℕ) →
+            Counts self.old.auto (marks_between one other result.items) self.new.auto }
     {
         let notes = self.end.took(value);
         self.auto.count(notes.as_slice());
@@ -72,8 +75,10 @@ impl AutoEndpoint {
     // claim value, refines: A reset cuts the open call of a driven end and begins its round anew.
     //    The frames that aren't accepted yet and the count of deliveries stay.
     pub fn reset(&mut self)
-        ensures value { self.new ≡ record { end = engine_after_reset self.old.end; auto = record (self.old.auto) { round = Anew } } }
-        ensures refines { AtEachEnd self.old.end (λ config end _. RefinesAt self.new.end config (after_reset end) Closed) }
+        ensures value { self.new ≡
+            record { end = engine_after_reset self.old.end; auto = record (self.old.auto) { round = Anew } } }
+        ensures refines { AtEachEnd self.old.end
+            (λ config end _. RefinesAt self.new.end config (after_reset end) Closed) }
     {
         self.end.reset();
         self.auto.cut();

@@ -77,7 +77,8 @@ impl Endpoint {
         requires peer { me ≤ 1 }
         requires queue { queue.now.out ≡ 4 * geometry.now.out }
         ensures value { IfOk result (λ e. e ≡ fresh_engine (config_of geometry.now queue.now me traffic)) }
-        ensures refines { IfOk result (λ e. RefinesAt e (config_of geometry.now queue.now me traffic) fresh places.Closed) }
+        ensures refines { IfOk result
+            (λ e. RefinesAt e (config_of geometry.now queue.now me traffic) fresh places.Closed) }
     {
         let words = geometry.out_words();
         prove!(queue.out() == 4 * words);
@@ -122,7 +123,8 @@ impl Endpoint {
     // claim: An end waits armed exactly if it is in RUN, the link has events, and the last look of
     //    its session found nothing.
     pub fn is_armed(&self) -> bool
-        ensures { (config : EndConfig) (end : End) → RefinesAt self.now config end places.Closed → result ≡ is_armed config end }
+        ensures { (config : EndConfig) (end : End) → RefinesAt self.now config end places.Closed →
+            result ≡ is_armed config end }
     {
         self.in_run() && self.rx.is_armed()
     }
@@ -210,7 +212,8 @@ impl Endpoint {
     //    an offer needs.
     pub fn offer(&mut self, frame: &[u8])
         requires closed { is_busy self.old ≡ false }
-        requires frame { (SHORTEST_FRAME ≤ length frame.now) × (length frame.now ≤ self.old.config.sizes.mtu + FRAME_OVERHEAD) }
+        requires frame { (SHORTEST_FRAME ≤ length frame.now) ×
+            (length frame.now ≤ self.old.config.sizes.mtu + FRAME_OVERHEAD) }
         ensures refines { (config : EndConfig) (end : End) → RefinesAt self.old config end places.Closed →
             RefinesAt self.new config end (places.first_place config end (Offer frame.now)) }
         ensures few { AtEachEnd self.old (λ config end _. HasFewInFlight config end) }
@@ -398,7 +401,8 @@ impl Endpoint {
     /// `next`. No access before the last has a note. Returns 0 if no burst of reads is next.
     pub fn reads_ahead(&self) -> u32
         ensures value { result ≡ reads_ahead self.now }
-        ensures reads { (config : EndConfig) (end : End) (place : places.Place) (word : ℕ) → RefinesAt self.now config end place →
+        ensures reads { (config : EndConfig) (end : End) (place : places.Place) (word : ℕ) →
+            RefinesAt self.now config end place →
             places.access_at config place ≡ Access.Read word → ReadsBurst config place word result }
     {
         match self.place {
@@ -423,8 +427,10 @@ impl Endpoint {
         requires some { 0 < length words.now }
         requires whole { length words.now % 4 ≡ 0 }
         requires within { length words.now ≤ 4 * reads_ahead self.old }
-        ensures steps { (values : List ℕ) → words.now ≡ flat_map word_bytes values → StepsThrough IsTaken self.old values result.items self.new }
-        ensures frame { IfSome (frame_ahead self.old) (λ bytes. length words.now ≡ 4 * reads_ahead self.old → delivered self.new ≡ take bytes words.now) }
+        ensures steps { (values : List ℕ) → words.now ≡ flat_map word_bytes values →
+            StepsThrough IsTaken self.old values result.items self.new }
+        ensures frame { IfSome (frame_ahead self.old) (λ bytes. length words.now ≡ 4 * reads_ahead self.old →
+            delivered self.new ≡ take bytes words.now) }
     {
         let mut notes = Notes::new();
         self.took_reads_into(words, &mut notes);
@@ -437,8 +443,10 @@ impl Endpoint {
         requires whole { length words.now % 4 ≡ 0 }
         requires within { length words.now ≤ 4 * reads_ahead self.old }
         requires empty { notes.old.items ≡ [] }
-        ensures steps { (values : List ℕ) → words.now ≡ flat_map word_bytes values → StepsThrough IsTaken self.old values notes.new.items self.new }
-        ensures frame { IfSome (frame_ahead self.old) (λ bytes. length words.now ≡ 4 * reads_ahead self.old → delivered self.new ≡ take bytes words.now) }
+        ensures steps { (values : List ℕ) → words.now ≡ flat_map word_bytes values →
+            StepsThrough IsTaken self.old values notes.new.items self.new }
+        ensures frame { IfSome (frame_ahead self.old) (λ bytes. length words.now ≡ 4 * reads_ahead self.old →
+            delivered self.new ≡ take bytes words.now) }
     {
         self.rx.took_reads_into(words, notes)
     }
@@ -461,7 +469,8 @@ impl Endpoint {
     pub fn words(&self, into: &mut [u8])
         requires whole { length into.old % 4 ≡ 0 }
         requires within { length into.old ≤ 4 * writes_ahead self.now }
-        ensures writes { (config : EndConfig) (end : End) (place : places.Place) (word value : ℕ) → RefinesAt self.now config end place →
+        ensures writes { (config : EndConfig) (end : End) (place : places.Place) (word value : ℕ) →
+            RefinesAt self.now config end place →
             places.access_at config place ≡ Access.Write word value → WritesBurst config place word into.new }
         ensures sized { length into.new ≡ length into.old }
     {
@@ -540,7 +549,8 @@ impl Endpoint {
     /// Equivalent to one call of `took` for each of these writes, none of which has a note.
     pub fn took_bursts(&mut self)
         requires { 0 < words_of (bursts_of self.old) }
-        ensures { (values : List ℕ) → length values ≡ words_of (bursts_of self.old) → StepsThrough IsTaken self.old values [] self.new }
+        ensures { (values : List ℕ) → length values ≡ words_of (bursts_of self.old) →
+            StepsThrough IsTaken self.old values [] self.new }
     {
         match self.place {
             Place::Offering => self.tx.took_bursts(),
@@ -573,7 +583,8 @@ impl Endpoint {
     /// value. The frame offered last and the frame delivered last stay.
     pub fn reset(&mut self)
         ensures value { self.new ≡ engine_after_reset self.old }
-        ensures refines { AtEachEnd self.old (λ config end _. RefinesAt self.new config (after_reset end) places.Closed) }
+        ensures refines { AtEachEnd self.old
+            (λ config end _. RefinesAt self.new config (after_reset end) places.Closed) }
         ensures delivered { delivered self.new ≡ delivered self.old }
         ensures offered { offered self.new ≡ offered self.old }
     {

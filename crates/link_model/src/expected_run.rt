@@ -48,7 +48,8 @@ impl ExpectedRun {
     /// if memory ran out.
     pub fn new(alloc: Global, scenario: Scenario, version: u32) -> Result<ExpectedRun, NoMemory>
         requires { is_version version ≡ true }
-        ensures { IfOk result (λ expected_run. GoesOn [] expected_run × (world_in expected_run ≡ world_of scenario) × (expected_run.version ≡ version)) }
+        ensures { IfOk result (λ expected_run. GoesOn [] expected_run ×
+            (world_in expected_run ≡ world_of scenario) × (expected_run.version ≡ version)) }
     {
         let mut expected_run = ExpectedRun {
             simulator: Simulator::new(alloc, &scenario, version)?,
@@ -177,7 +178,8 @@ impl ExpectedRun {
     //    takes all lines that wait at once: those with which the lawful history continues.
     pub fn pass(&mut self) -> Result<(), NoMemory>
         requires { (lines : List Line) × GoesOn lines self.old }
-        ensures on { (lines : List Line) → GoesOn lines self.old → OnOk result (GoesOn (lines ++ drop self.old.passed (kept_lines self.old.simulator)) self.new) }
+        ensures on { (lines : List Line) → GoesOn lines self.old →
+            OnOk result (GoesOn (lines ++ drop self.old.passed (kept_lines self.old.simulator)) self.new) }
         ensures scenario { self.new.scenario ≡ self.old.scenario }
         ensures version { self.new.version ≡ self.old.version }
     {
@@ -206,8 +208,10 @@ impl ExpectedRun {
     /// continue with it, and `NoMemory` if memory ran out.
     pub fn take(&mut self, number: u64, line: &Line) -> Result<(), StepFault>
         requires { (lines : List Line) × GoesOn lines self.old }
-        ensures on { (lines : List Line) → GoesOn lines self.old → OnOk result (GoesOn (lines ++ line.now ∷ []) self.new) }
-        ensures cause { (lines : List Line) → GoesOn lines self.old → number ≡ length lines + 1 → IfErr result (IsCause (world_in self.old) self.old.version (lines ++ line.now ∷ [])) }
+        ensures on { (lines : List Line) → GoesOn lines self.old →
+            OnOk result (GoesOn (lines ++ line.now ∷ []) self.new) }
+        ensures cause { (lines : List Line) → GoesOn lines self.old → number ≡ length lines + 1 →
+            IfErr result (IsCause (world_in self.old) self.old.version (lines ++ line.now ∷ [])) }
         ensures scenario { self.new.scenario ≡ self.old.scenario }
         ensures version { self.new.version ≡ self.old.version }
     {
@@ -224,7 +228,10 @@ impl ExpectedRun {
     /// Returns `Ok` exactly if all lines were taken. Otherwise the next line, which has this
     /// number, is missing.
     pub fn close(&self, number: u64) -> Result<(), Unlawful>
-        ensures { (lines : List Line) → GoesOn lines self.now → number ≡ length lines + 1 → MatchResult result (λ _. IsLawfulIn (world_in self.now) self.now.version lines) (Differs (world_in self.now) self.now.version lines) }
+        ensures { (lines : List Line) → GoesOn lines self.now → number ≡ length lines + 1 →
+            MatchResult result
+            (λ _. IsLawfulIn (world_in self.now) self.now.version lines)
+            (Differs (world_in self.now) self.now.version lines) }
     {
         records_hold_one_history();
         match self.due() {

@@ -43,7 +43,8 @@ impl Run {
     //    has no mark of a session, version 2 each that the history has.
     pub fn new(alloc: Global, scenario: &Scenario, version: u32) -> Result<Run, NoMemory>
         requires { is_version version ≡ true }
-        ensures { IfOk result (λ run. run ≡ record { world = world_of scenario.now; version = version; lines = []; fault = None }) }
+        ensures { IfOk result
+            (λ run. run ≡ record { world = world_of scenario.now; version = version; lines = []; fault = None }) }
     {
         let scenario = copy_of_scenario(alloc, scenario)?;
         Ok(Run {
@@ -66,7 +67,8 @@ impl Run {
         ensures taken { OnOk result (self.new ≡ record self.old { lines = self.old.lines ++ line.now ∷ [] }) }
         ensures lawful { OnOk result (Begins self.new.world self.new.version self.new.lines) }
         ensures ended { IfErr result (λ fault. self.new ≡ record self.old { fault = Some fault }) }
-        ensures cause { self.old.fault ≡ None → IfErr result (IsCause self.old.world self.old.version (self.old.lines ++ line.now ∷ [])) }
+        ensures cause { self.old.fault ≡ None →
+            IfErr result (IsCause self.old.world self.old.version (self.old.lines ++ line.now ∷ [])) }
         ensures again { (fault : StepFault) → self.old.fault ≡ Some fault → result ≡ Err fault }
     {
         records_hold_one_history();
@@ -98,7 +100,8 @@ impl Run {
     pub fn close(&self) -> Result<(), Unlawful>
         requires { self.now.fault ≢ Some StepFault.NoMemory }
         ensures whole { OnOk result (IsLawfulIn self.now.world self.now.version self.now.lines) }
-        ensures missing { self.now.fault ≡ None → IfErr result (Differs self.now.world self.now.version self.now.lines) }
+        ensures missing { self.now.fault ≡ None →
+            IfErr result (Differs self.now.world self.now.version self.now.lines) }
         ensures again { (fault : Unlawful) → self.now.fault ≡ Some (StepFault.Unlawful fault) → result ≡ Err fault }
     {
         records_hold_one_history();

@@ -54,7 +54,8 @@ pub fn placed_space(
     requires wired { IsWiring wiring }
     requires placed { IsRegionPlace region }
     ensures rows { result.rows ≡ placed_rows geometry.now protocol wiring region }
-    ensures bytes { (k : ℕ) → slice_index result.bytes k ≡ reset_byte (placed_rows geometry.now protocol wiring region) k }
+    ensures bytes { (k : ℕ) →
+        slice_index result.bytes k ≡ reset_byte (placed_rows geometry.now protocol wiring region) k }
 {
     let table = table_of(rows_of(geometry, protocol, wiring, region));
     Space::new(table)

@@ -93,7 +93,9 @@ impl<const N: usize, const B: usize> Space<N, B> {
     // claim written, rows: A write changes exactly the masked bits of the bytes that it writes.
     pub fn write(&mut self, offset: u16, width: u16, value: u32) -> Result<(), BadAccess>
         ensures allowed { IsOk result ↔ IsTrue (is_access B offset width) }
-        ensures written { OnOk result ((k : ℕ) → slice_index self.new.bytes k ≡ merged_byte self.old.rows offset width value k (slice_index self.old.bytes k)) }
+        ensures written { OnOk result ((k : ℕ) →
+            slice_index self.new.bytes k ≡
+            merged_byte self.old.rows offset width value k (slice_index self.old.bytes k)) }
         ensures rows { self.new.rows ≡ self.old.rows }
         ensures refused { IfErr result (λ e. (e ≡ record { offset = offset; width = width }) × (self.new ≡ self.old)) }
     {

@@ -95,7 +95,8 @@ pub fn picture_of_front(
     last: u64,
 ) -> Result<Option<Picture>, NoMemory>
     requires { 1 ≤ first }
-    ensures { IfOk result (λ found. IfSome found (IsPictureOfFront (world_of trace.now.scenario) trace.now.lines others first last)) }
+    ensures { IfOk result
+        (λ found. IfSome found (IsPictureOfFront (world_of trace.now.scenario) trace.now.lines others first last)) }
 {
     let mut picture = picture_of(alloc, trace, first, last)?;
     if others == 0 {

@@ -69,7 +69,8 @@ pub fn rows_of(alloc: Global, storms: &[u32], lines: &[Line], first: u64) -> Res
     requires { first + length lines.now < 2 ^ 64 }
     ensures rows { IfOk result (λ rows. rows.items.items ≡ take 2000 (rows_of storms.now first lines.now)) }
     // Each line is in one row, or left out.
-    ensures counted { IfOk result (λ rows. sum_by (λ row. row.count) rows.items.items + rows.left_out ≡ length lines.now) }
+    ensures counted { IfOk result
+        (λ rows. sum_by (λ row. row.count) rows.items.items + rows.left_out ≡ length lines.now) }
 {
     let mut items = Vec::new(alloc);
     if lines.is_empty() {

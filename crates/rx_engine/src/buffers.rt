@@ -8,7 +8,8 @@ pub(crate) fn put_words(buffer: &mut [u8], bytes: usize, at: usize, words: &[u8]
     requires within { 4 * at < bytes }
     requires room { bytes ≤ length buffer.old }
     requires fits { 4 * at + length words.now < 2 ^ 32 }
-    ensures { take (min bytes (4 * at + length words.now)) buffer.new ≡ take (4 * at) buffer.old ++ take (bytes - 4 * at) words.now }
+    ensures { take (min bytes (4 * at + length words.now)) buffer.new ≡
+        take (4 * at) buffer.old ++ take (bytes - 4 * at) words.now }
 {
     let start = 4 * at;
     let count = (bytes - start).min(words.len());

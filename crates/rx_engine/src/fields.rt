@@ -16,7 +16,8 @@ impl Rx {
     fn descriptor_read(&self, entry: u32, at: u32) -> NextRead
         requires entry { IsAvailEntry self.now.sizes entry }
         requires at { at < 4 }
-        ensures { result ≡ record { word = self.now.other_start + (word_offset self.now.sizes (DescAddress entry) + at); count = 0 } }
+        ensures { result ≡
+            record { word = self.now.other_start + (word_offset self.now.sizes (DescAddress entry) + at); count = 0 } }
     {
         NextRead {
             word: self.other_start + (self.queue.descriptor(entry) + at),

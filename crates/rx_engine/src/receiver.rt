@@ -77,7 +77,8 @@ impl Rx {
         requires own { 4 * own + queue.now.out ≤ LARGEST_REGION }
         requires other_start { 4 * other_start + queue.now.out ≤ LARGEST_REGION }
         ensures value { IfOk result (λ rx. rx ≡ fresh_receiver queue.now own other_start target vector) }
-        ensures refines { IfOk result (λ rx. (config : EndConfig) (end : End) → IsMadeFor rx config → IsFreshSession end → RefinesAt rx config end laws.Closed) }
+        ensures refines { IfOk result (λ rx. (config : EndConfig) (end : End) → IsMadeFor rx config →
+            IsFreshSession end → RefinesAt rx config end laws.Closed) }
     {
         let longest = LONGEST_FRAME.min(queue.out() - queue.payload());
         let buffer = vec![in alloc; 0u8; longest as usize]?;
@@ -101,7 +102,8 @@ impl Rx {
     // claim value, open: The receiver is open exactly as long as the poll is.
     pub fn busy(&self) -> bool
         ensures value { result ≡ is_busy self.now }
-        ensures open { (config : EndConfig) (end : End) (place : laws.Place) → RefinesAt self.now config end place → result ≡ laws.is_open place }
+        ensures open { (config : EndConfig) (end : End) (place : laws.Place) →
+            RefinesAt self.now config end place → result ≡ laws.is_open place }
     {
         !matches!(self.place, Place::Closed)
     }
@@ -122,7 +124,8 @@ impl Rx {
     //    RUN.
     pub fn begin(&mut self)
         requires { is_busy self.old ≡ false }
-        ensures refines { (config : EndConfig) (end : End) → RefinesAt self.old config end laws.Closed → end.handshake.phase ≡ Run →
+        ensures refines { (config : EndConfig) (end : End) → RefinesAt self.old config end laws.Closed →
+            end.handshake.phase ≡ Run →
             RefinesAt self.new config end (laws.first_place config end Poll) }
         ensures value { self.new ≡ record self.old { place = Place.ReadingAvailIndex (is_last self.old) } }
     {
@@ -136,8 +139,10 @@ impl Rx {
     #[tactic(auto, using(crate::proofs::ModularNumbers::ring_place))]
     pub fn next(&self) -> Access
         requires { is_busy self.now ≡ true }
-        ensures access { (config : EndConfig) (end : End) (place : laws.Place) → RefinesAt self.now config end place → result ≡ laws.access_at config place }
-        ensures reach { (config : EndConfig) (end : End) (place : laws.Place) → HasSections config → RefinesAt self.now config end place → IsPermittedAccess config result }
+        ensures access { (config : EndConfig) (end : End) (place : laws.Place) →
+            RefinesAt self.now config end place → result ≡ laws.access_at config place }
+        ensures reach { (config : EndConfig) (end : End) (place : laws.Place) → HasSections config →
+            RefinesAt self.now config end place → IsPermittedAccess config result }
     {
         let (queue, own, other_start) = (&self.queue, self.own, self.other_start);
         let number = u32::from(self.returned);
@@ -287,7 +292,8 @@ impl Rx {
     pub fn took_frame(&mut self, words: &[u8]) -> Option<FrameReturn>
         ensures steps { IfSome result (λ made. ReadsAndReturns self.old words.now made self.new) }
         ensures sized { IfSome result (λ made. length words.now ≡ 4 * words_for made.length) }
-        ensures other { result ≡ None → (frame_ahead self.old.place ≡ None) ⊎ (length words.now ≢ 4 * reads_ahead self.old.place) }
+        ensures other { result ≡ None →
+            (frame_ahead self.old.place ≡ None) ⊎ (length words.now ≢ 4 * reads_ahead self.old.place) }
         ensures unchanged { result ≡ None → self.new ≡ self.old }
         ensures kept { KeepsNumbers self.old self.new }
     {
@@ -325,7 +331,8 @@ impl Rx {
     // claim with Rx::rings: The kind of the next access is known: an index word, an event, another
     //    word, or the doorbell.
     pub fn word_kind(&self) -> WordKind
-        ensures { (config : EndConfig) (end : End) (place : laws.Place) → RefinesAt self.now config end place → result ≡ word_kind place }
+        ensures { (config : EndConfig) (end : End) (place : laws.Place) → RefinesAt self.now config end place →
+            result ≡ word_kind place }
     {
         match self.place {
             Place::ReadingAvailIndex { .. } => WordKind::IndexRead,
@@ -337,7 +344,8 @@ impl Rx {
 
     /// Whether the next access is the doorbell.
     pub fn rings(&self) -> bool
-        ensures { (config : EndConfig) (end : End) (place : laws.Place) → RefinesAt self.now config end place → result ≡ rings place }
+        ensures { (config : EndConfig) (end : End) (place : laws.Place) → RefinesAt self.now config end place →
+            result ≡ rings place }
     {
         matches!(self.place, Place::Ringing)
     }
@@ -346,7 +354,8 @@ impl Rx {
     /// note before the frame's last word. Returns 0 if no word of a frame is next.
     pub fn reads_ahead(&self) -> u32
         ensures value { result ≡ reads_ahead self.now.place }
-        ensures reads { (config : EndConfig) (end : End) (place : laws.Place) (word : ℕ) → RefinesAt self.now config end place →
+        ensures reads { (config : EndConfig) (end : End) (place : laws.Place) (word : ℕ) →
+            RefinesAt self.now config end place →
             laws.access_at config place ≡ Access.Read word → ReadsBurst config place word result }
     {
         match self.place {
@@ -370,8 +379,10 @@ impl Rx {
         requires some { 0 < length words.now }
         requires whole { length words.now % 4 ≡ 0 }
         requires within { length words.now ≤ 4 * reads_ahead self.old.place }
-        ensures steps { (values : List ℕ) → words.now ≡ flat_map word_bytes values → StepsThrough StaysOpen self.old values result.items self.new }
-        ensures frame { IfSome (frame_ahead self.old.place) (λ bytes. length words.now ≡ 4 * reads_ahead self.old.place → self.new.frame ≡ take bytes words.now) }
+        ensures steps { (values : List ℕ) → words.now ≡ flat_map word_bytes values →
+            StepsThrough StaysOpen self.old values result.items self.new }
+        ensures frame { IfSome (frame_ahead self.old.place)
+            (λ bytes. length words.now ≡ 4 * reads_ahead self.old.place → self.new.frame ≡ take bytes words.now) }
         ensures notes { (result.items ≡ []) ⊎ (result.items ≡ Note.Deliver ∷ []) }
         ensures kept { KeepsNumbers self.old self.new }
     {
@@ -386,8 +397,10 @@ impl Rx {
         requires whole { length words.now % 4 ≡ 0 }
         requires within { length words.now ≤ 4 * reads_ahead self.old.place }
         requires empty { notes.old.items ≡ [] }
-        ensures steps { (values : List ℕ) → words.now ≡ flat_map word_bytes values → StepsThrough StaysOpen self.old values notes.new.items self.new }
-        ensures frame { IfSome (frame_ahead self.old.place) (λ bytes. length words.now ≡ 4 * reads_ahead self.old.place → self.new.frame ≡ take bytes words.now) }
+        ensures steps { (values : List ℕ) → words.now ≡ flat_map word_bytes values →
+            StepsThrough StaysOpen self.old values notes.new.items self.new }
+        ensures frame { IfSome (frame_ahead self.old.place)
+            (λ bytes. length words.now ≡ 4 * reads_ahead self.old.place → self.new.frame ≡ take bytes words.now) }
         ensures notes { (notes.new.items ≡ []) ⊎ (notes.new.items ≡ Note.Deliver ∷ []) }
         ensures kept { KeepsNumbers self.old self.new }
     {
@@ -421,7 +434,8 @@ impl Rx {
     pub fn words(&self, into: &mut [u8])
         requires whole { length into.old % 4 ≡ 0 }
         requires within { length into.old ≤ 4 * writes_ahead self.now.place }
-        ensures writes { (config : EndConfig) (end : End) (place : laws.Place) (word value : ℕ) → RefinesAt self.now config end place →
+        ensures writes { (config : EndConfig) (end : End) (place : laws.Place) (word value : ℕ) →
+            RefinesAt self.now config end place →
             laws.access_at config place ≡ Access.Write word value → WritesBurst config place word into.new }
         ensures sized { length into.new ≡ length into.old }
     {
@@ -461,7 +475,8 @@ impl Rx {
     /// delivered last stays.
     pub fn reset(&mut self)
         ensures value { self.new ≡ renewed self.old }
-        ensures refines { (config : EndConfig) (end : End) → IsMadeFor self.old config → IsFreshSession end → RefinesAt self.new config end laws.Closed }
+        ensures refines { (config : EndConfig) (end : End) → IsMadeFor self.old config → IsFreshSession end →
+            RefinesAt self.new config end laws.Closed }
     {
         self.returned = 0;
         self.found_none = false;
@@ -621,7 +636,8 @@ impl Rx {
         requires whole { length words.now % 4 ≡ 0 }
         requires within { length words.now ≤ 4 * (words_for bytes - at) }
         requires empty { notes.old.items ≡ [] }
-        ensures steps { (values : List ℕ) → words.now ≡ flat_map word_bytes values → StepsThrough StaysOpen self.old values notes.new.items self.new }
+        ensures steps { (values : List ℕ) → words.now ≡ flat_map word_bytes values →
+            StepsThrough StaysOpen self.old values notes.new.items self.new }
         ensures frame { at ≡ 0 → length words.now ≡ 4 * words_for bytes → self.new.frame ≡ take bytes words.now }
         ensures notes { (notes.new.items ≡ []) ⊎ (notes.new.items ≡ Note.Deliver ∷ []) }
         ensures delivers { bytes ≤ 4 * at + length words.now → notes.new.items ≡ Note.Deliver ∷ [] }
@@ -672,7 +688,8 @@ impl Rx {
     #[tactic(auto, using(crate::proofs::ModularNumbers::ring_place))]
     fn element_word(&self, more: u32, entry: u32) -> u32
         requires { self.now.place ≡ Place.WritingUsedId more entry }
-        ensures first { (config : EndConfig) (end : End) (place : laws.Place) → RefinesAt self.now config end place → laws.access_at config place ≡ Access.Write result entry }
+        ensures first { (config : EndConfig) (end : End) (place : laws.Place) →
+            RefinesAt self.now config end place → laws.access_at config place ≡ Access.Write result entry }
     {
         self.own + self.queue.used_id(u32::from(self.returned))
     }
@@ -691,8 +708,10 @@ impl Rx {
     fn next_index(&self, more: u32, index: u32) -> u32
         requires place { self.now.place ≡ Place.WritingUsedIndex more }
         requires index { index ≡ self.now.own + word_offset self.now.sizes UsedIndex }
-        ensures index { (config : EndConfig) (end : End) (place : laws.Place) → RefinesAt self.now config end place → laws.access_at config place ≡ Access.Write index result }
-        ensures kind { (config : EndConfig) (end : End) (place : laws.Place) → RefinesAt self.now config end place → word_kind place ≡ WordKind.IndexWrite }
+        ensures index { (config : EndConfig) (end : End) (place : laws.Place) →
+            RefinesAt self.now config end place → laws.access_at config place ≡ Access.Write index result }
+        ensures kind { (config : EndConfig) (end : End) (place : laws.Place) →
+            RefinesAt self.now config end place → word_kind place ≡ WordKind.IndexWrite }
     {
         of_halves(0, self.returned.wrapping_add(1))
     }

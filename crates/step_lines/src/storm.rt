@@ -40,7 +40,8 @@ impl Storm {
     /// Returns the access of three draws.
     fn access_of(&self, kind: u32, place: u32, value: u32) -> Access
         requires { (world : World) × IsStormOf world self.now }
-        ensures { (world : World) → IsStormOf world self.now → result ≡ drawn_access world self.now.peer kind place value }
+        ensures { (world : World) → IsStormOf world self.now →
+            result ≡ drawn_access world self.now.peer kind place value }
     {
         let start = self.geometry.section_start(self.peer);
         match kind % 4 {
@@ -58,7 +59,8 @@ impl Storm {
     // claim step, after: A storm draws its accesses by its generator.
     pub fn step(&mut self) -> Access
         requires { (world : World) × IsStormOf world self.old }
-        ensures step { (world : World) → IsStormOf world self.old → DrawsIn world self.old.peer (storm_step world self.old.peer self.old.at) result }
+        ensures step { (world : World) → IsStormOf world self.old →
+            DrawsIn world self.old.peer (storm_step world self.old.peer self.old.at) result }
         ensures after { self.new ≡ record self.old { at = storm_after self.old.at } }
     {
         let first = next(self.at);

@@ -19,7 +19,8 @@ use std::alloc::Global;
 /// if memory ran out.
 pub fn pass_alike(expected_run: &mut ExpectedRun, reader: &mut Reader) -> Result<(), NoMemory>
     requires { (bytes : List ℕ) × IsBeside bytes expected_run.old reader.old }
-    ensures { (bytes : List ℕ) → IsBeside bytes expected_run.old reader.old → OnOk result (IsBeside bytes expected_run.new reader.new) }
+    ensures { (bytes : List ℕ) → IsBeside bytes expected_run.old reader.old →
+        OnOk result (IsBeside bytes expected_run.new reader.new) }
 {
     loop {
         let waiting = expected_run.waiting();
@@ -33,8 +34,10 @@ pub fn pass_alike(expected_run: &mut ExpectedRun, reader: &mut Reader) -> Result
 /// Reads the lines that are left and keeps none. Returns the first fault of the text, and
 /// `NoMemory` if memory ran out.
 fn read_on(alloc: Global, reader: &mut Reader) -> Result<(), RecordFault>
-    ensures read { (bytes : List ℕ) (version : ℕ) (world : World) (lines : List Line) → IsReading bytes version world lines reader.old → OnOk result (IsRead bytes version world lines) }
-    ensures refused { (bytes : List ℕ) (version : ℕ) (world : World) (lines : List Line) → IsReading bytes version world lines reader.old → IfErr result (λ fault. Refuses fault (answer bytes)) }
+    ensures read { (bytes : List ℕ) (version : ℕ) (world : World) (lines : List Line) →
+        IsReading bytes version world lines reader.old → OnOk result (IsRead bytes version world lines) }
+    ensures refused { (bytes : List ℕ) (version : ℕ) (world : World) (lines : List Line) →
+        IsReading bytes version world lines reader.old → IfErr result (λ fault. Refuses fault (answer bytes)) }
 {
     while let Some(_line) = reader.next(alloc)? {}
     Ok(())
@@ -49,8 +52,10 @@ pub fn judge(
     reader: &mut Reader,
 ) -> Result<Verdict, RecordFault>
     requires { (bytes : List ℕ) × IsBeside bytes expected_run.old reader.old }
-    ensures verdict { (bytes : List ℕ) → IsBeside bytes expected_run.old reader.old → IfOk result (IsVerdictOfText bytes) }
-    ensures refused { (bytes : List ℕ) → IsBeside bytes expected_run.old reader.old → IfErr result (λ fault. Refuses fault (answer bytes)) }
+    ensures verdict { (bytes : List ℕ) → IsBeside bytes expected_run.old reader.old →
+        IfOk result (IsVerdictOfText bytes) }
+    ensures refused { (bytes : List ℕ) → IsBeside bytes expected_run.old reader.old →
+        IfErr result (λ fault. Refuses fault (answer bytes)) }
 {
     while let Some(line) = reader.next(alloc)? {
         match expected_run.take(reader.count, &line) {

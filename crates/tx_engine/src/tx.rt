@@ -81,7 +81,8 @@ impl Tx {
         requires own { 4 * own + queue.now.out ≤ LARGEST_REGION }
         requires other_start { 4 * other_start + queue.now.out ≤ LARGEST_REGION }
         ensures value { IfOk result (λ tx. tx ≡ fresh_sender queue.now own other_start target vector) }
-        ensures refines { IfOk result (λ tx. (config : EndConfig) (end : End) → IsMadeFor tx config → IsFreshSession config end → RefinesAt tx config end laws.Closed) }
+        ensures refines { IfOk result (λ tx. (config : EndConfig) (end : End) → IsMadeFor tx config →
+            IsFreshSession config end → RefinesAt tx config end laws.Closed) }
     {
         let lengths = Vec::from_elem(alloc, 0, queue.limit() as usize)?;
         let entries = Vec::from_elem(alloc, 0, (queue.size() / 2) as usize)?;
@@ -107,7 +108,8 @@ impl Tx {
     pub fn busy(&self) -> bool
         ensures open { result ≡ is_open self.now.place }
         ensures bounds { IsSender self.now }
-        ensures place { (config : EndConfig) (end : End) (place : laws.Place) → RefinesAt self.now config end place → result ≡ laws.is_open place }
+        ensures place { (config : EndConfig) (end : End) (place : laws.Place) →
+            RefinesAt self.now config end place → result ≡ laws.is_open place }
     {
         !matches!(self.place, Place::Closed)
     }
@@ -136,7 +138,8 @@ impl Tx {
     pub fn begin(&mut self, frame: &[u8])
         requires closed { is_open self.old.place ≡ false }
         requires frame { IsFrame self.old.sizes frame.now }
-        ensures refines { (config : EndConfig) (end : End) → RefinesAt self.old config end laws.Closed → end.handshake.phase ≡ Run →
+        ensures refines { (config : EndConfig) (end : End) → RefinesAt self.old config end laws.Closed →
+            end.handshake.phase ≡ Run →
             RefinesAt self.new config end (laws.first_place config end (Offer frame.now)) }
         ensures value { self.new ≡ record self.old { frame = frame.now; place = Place.ReadingUsedIndex } }
     {
@@ -148,7 +151,8 @@ impl Tx {
     pub fn keep(&mut self, frame: &[u8])
         requires closed { is_open self.old.place ≡ false }
         requires frame { IsFrame self.old.sizes frame.now }
-        ensures refines { (config : EndConfig) (end : End) → RefinesAt self.old config end laws.Closed → RefinesAt self.new config end laws.Closed }
+        ensures refines { (config : EndConfig) (end : End) → RefinesAt self.old config end laws.Closed →
+            RefinesAt self.new config end laws.Closed }
         ensures value { self.new ≡ record self.old { frame = frame.now } }
     {
         put_first(&mut self.buffer, frame);
@@ -159,7 +163,8 @@ impl Tx {
     pub fn begin_again(&mut self)
         requires closed { is_open self.old.place ≡ false }
         requires some { SHORTEST_FRAME ≤ length self.old.frame }
-        ensures refines { (config : EndConfig) (end : End) → RefinesAt self.old config end laws.Closed → end.handshake.phase ≡ Run →
+        ensures refines { (config : EndConfig) (end : End) → RefinesAt self.old config end laws.Closed →
+            end.handshake.phase ≡ Run →
             RefinesAt self.new config end (laws.first_place config end (Offer self.old.frame)) }
         ensures value { self.new ≡ record self.old { place = Place.ReadingUsedIndex } }
     {
@@ -173,9 +178,11 @@ impl Tx {
     //    or rings the target, whatever was read before.
     pub fn next(&self) -> Access
         requires { is_open self.now.place ≡ true }
-        ensures access { (config : EndConfig) (end : End) (place : laws.Place) → RefinesAt self.now config end place → result ≡ laws.access_at config place }
+        ensures access { (config : EndConfig) (end : End) (place : laws.Place) →
+            RefinesAt self.now config end place → result ≡ laws.access_at config place }
         ensures reach { IsSenderAccess self.now result }
-        ensures lawful { (config : EndConfig) → IsMadeFor self.now config → HasSections config → IsPermittedAccess config result }
+        ensures lawful { (config : EndConfig) → IsMadeFor self.now config → HasSections config →
+            IsPermittedAccess config result }
     {
         let queue = &self.queue;
         match self.place {
@@ -261,7 +268,8 @@ impl Tx {
     // claim with Tx::rings: The kind of the next access is known: an index word, an event, another
     //    word, or the doorbell.
     pub fn word_kind(&self) -> WordKind
-        ensures { (config : EndConfig) (end : End) (place : laws.Place) → RefinesAt self.now config end place → result ≡ word_kind place }
+        ensures { (config : EndConfig) (end : End) (place : laws.Place) → RefinesAt self.now config end place →
+            result ≡ word_kind place }
     {
         match self.place {
             Place::ReadingUsedIndex => WordKind::IndexRead,
@@ -273,7 +281,8 @@ impl Tx {
 
     /// Whether the next access is the doorbell.
     pub fn rings(&self) -> bool
-        ensures { (config : EndConfig) (end : End) (place : laws.Place) → RefinesAt self.now config end place → result ≡ rings place }
+        ensures { (config : EndConfig) (end : End) (place : laws.Place) → RefinesAt self.now config end place →
+            result ≡ rings place }
     {
         matches!(self.place, Place::Ringing)
     }
@@ -297,7 +306,8 @@ impl Tx {
     pub fn words(&self, into: &mut [u8])
         requires whole { length into.old % 4 ≡ 0 }
         requires within { length into.old ≤ 4 * writes_ahead self.now.place }
-        ensures writes { (config : EndConfig) (end : End) (place : laws.Place) (word value : ℕ) → RefinesAt self.now config end place →
+        ensures writes { (config : EndConfig) (end : End) (place : laws.Place) (word value : ℕ) →
+            RefinesAt self.now config end place →
             laws.access_at config place ≡ Access.Write word value → WritesBurst config place word into.new }
         ensures sized { length into.new ≡ length into.old }
     {
@@ -390,7 +400,8 @@ impl Tx {
     /// Completes all writes of `bursts`. Equivalent to one call of `took` for each of these writes.
     pub fn took_bursts(&mut self)
         requires { 0 < words_of (bursts_of self.old) }
-        ensures { (values : List ℕ) → length values ≡ words_of (bursts_of self.old) → StepsThrough StaysOpen self.old values [] self.new }
+        ensures { (values : List ℕ) → length values ≡ words_of (bursts_of self.old) →
+            StepsThrough StaysOpen self.old values [] self.new }
     {
         match self.place {
             Place::WritingFrameWord { slot, at, more } => self.wrote_before_index(slot, at, more),
@@ -434,7 +445,8 @@ impl Tx {
     /// entries are 0. The frame offered last stays.
     pub fn reset(&mut self)
         ensures value { self.new ≡ renewed self.old }
-        ensures refines { (config : EndConfig) (end : End) → IsMadeFor self.old config → IsFreshSession config end → RefinesAt self.new config end laws.Closed }
+        ensures refines { (config : EndConfig) (end : End) → IsMadeFor self.old config →
+            IsFreshSession config end → RefinesAt self.new config end laws.Closed }
     {
         self.accepted = 0;
         self.slots.reset();
@@ -564,7 +576,8 @@ impl Tx {
     /// Completes the writes before the index, from word `at` of the frame on.
     fn wrote_before_index(&mut self, slot: Slot, at: u32, more: u32)
         requires { self.old.place ≡ Place.WritingFrameWord slot at more }
-        ensures steps { (values : List ℕ) → length values ≡ more + 1 + 4 + 1 → StepsThrough StaysOpen self.old values [] self.new }
+        ensures steps { (values : List ℕ) → length values ≡ more + 1 + 4 + 1 →
+            StepsThrough StaysOpen self.old values [] self.new }
         ensures place { self.new.place ≡ Place.WritingAvailIndex }
     {
         self.place = Place::WritingAvailEntry(slot);
@@ -575,9 +588,12 @@ impl Tx {
     fn next_index(&self, index: u32) -> u32
         requires place { self.now.place ≡ Place.WritingAvailIndex }
         requires index { index ≡ self.now.own + word_offset self.now.sizes AvailIndex }
-        ensures index { (config : EndConfig) (end : End) (place : laws.Place) → RefinesAt self.now config end place → laws.access_at config place ≡ Access.Write index result }
-        ensures kind { (config : EndConfig) (end : End) (place : laws.Place) → RefinesAt self.now config end place → word_kind place ≡ WordKind.IndexWrite }
-        ensures plain { (config : EndConfig) (end : End) (place : laws.Place) → RefinesAt self.now config end place → rings place ≡ false }
+        ensures index { (config : EndConfig) (end : End) (place : laws.Place) →
+            RefinesAt self.now config end place → laws.access_at config place ≡ Access.Write index result }
+        ensures kind { (config : EndConfig) (end : End) (place : laws.Place) →
+            RefinesAt self.now config end place → word_kind place ≡ WordKind.IndexWrite }
+        ensures plain { (config : EndConfig) (end : End) (place : laws.Place) →
+            RefinesAt self.now config end place → rings place ≡ false }
     {
         of_halves(0, plus(self.accepted, 1))
     }
@@ -675,7 +691,8 @@ fn copy_padded(into: &mut [u8], bytes: &[u8])
 /// Writes the first words of a descriptor, as many bytes as `into` has.
 fn put_descriptor(into: &mut [u8], address: u32, bytes: u32)
     requires { length into.old ≤ 16 }
-    ensures { into.new ≡ take (length into.old) (word_bytes address ++ (word_bytes 0 ++ (word_bytes bytes ++ word_bytes 0))) }
+    ensures { into.new ≡
+        take (length into.old) (word_bytes address ++ (word_bytes 0 ++ (word_bytes bytes ++ word_bytes 0))) }
 {
     let low = address.to_le_bytes();
     let count = bytes.to_le_bytes();
@@ -697,7 +714,8 @@ fn put_word(into: &mut [u8], word: u32)
 /// Writes the words of a descriptor and then the word of an entry.
 fn put_tail(into: &mut [u8], address: u32, bytes: u32, entry: u32)
     requires { length into.old ≡ 20 }
-    ensures { into.new ≡ (word_bytes address ++ (word_bytes 0 ++ (word_bytes bytes ++ word_bytes 0))) ++ word_bytes entry }
+    ensures { into.new ≡
+        (word_bytes address ++ (word_bytes 0 ++ (word_bytes bytes ++ word_bytes 0))) ++ word_bytes entry }
 {
     let (descriptor, last) = into.split_at_mut(16);
     put_descriptor(descriptor, address, bytes);
@@ -708,7 +726,8 @@ fn put_tail(into: &mut [u8], address: u32, bytes: u32, entry: u32)
 /// the word of its entry.
 fn put_all(into: &mut [u8], frame: &[u8], address: u32, bytes: u32, entry: u32)
     requires { 20 ≤ length into.old }
-    ensures { into.new ≡ (take (length into.old - 20) frame.now ++ replicate (length into.old - 20 - length frame.now) 0) ++
+    ensures { into.new ≡
+        (take (length into.old - 20) frame.now ++ replicate (length into.old - 20 - length frame.now) 0) ++
         ((word_bytes address ++ (word_bytes 0 ++ (word_bytes bytes ++ word_bytes 0))) ++ word_bytes entry) }
 {
     let (front, tail) = into.split_at_mut(into.len() - 20);

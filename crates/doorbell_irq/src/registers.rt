@@ -1,7 +1,7 @@
 //! The registers of one peer.
 ghost use Rattle.std.specs.Prelude.{length, slice_get, ◌≡◌, ◌<◌, ◌≤◌, ◌^◌, ◌↔◌, if◌then◌else◌, ℕ, true, false, [], None, Some, slice_index, IsOk, IsTrue, OnOk, IfOk, IfErr};
 ghost use Rattle.pci_space.specs.Numbers.{number_from};
-ghost use Rattle.pci_space.specs.Fields.{Contents, is_access, reset_byte, table_fault};
+ghost use Rattle.pci_space.specs.Fields.{Contents, is_access, reset_byte};
 ghost use Rattle.pci_space.specs.Wiring.{IsWiring};
 ghost use Rattle.pci_space.specs.Place.{IsRegionPlace, usual_place};
 ghost use Rattle.pci_space.specs.Device.{row};
@@ -16,7 +16,7 @@ use crate::msix_table::MsixTable;
 use crate::route::Route;
 use crate::trigger::Trigger;
 use pci_space::{
-    BadAccess, ConfigSpace, Field, FieldTable, RegionPlace, Space, Wiring, placed_space,
+    BadAccess, ConfigSpace, Field, RegionPlace, Space, Wiring, placed_space, table_of,
 };
 use section_map::Geometry;
 use std::marker::Model;
@@ -383,17 +383,5 @@ fn word(place: u16, reset: u32, mask: u32) -> Field
         width: 4,
         reset: u64::from(reset),
         mask: u64::from(mask),
-    }
-}
-
-/// Returns the field table of rows without a fault.
-fn table_of<const N: usize>(rows: [Field; N], bytes: u16) -> FieldTable<N>
-    requires small { N < 2 ^ 32 }
-    requires sound { table_fault rows bytes ≡ None }
-    ensures { result ≡ record { rows = rows.entry; size = bytes } }
-{
-    match FieldTable::of(rows, bytes) {
-        Ok(table) => table,
-        Err(_) => unreachable!(),
     }
 }

@@ -2,8 +2,8 @@
 use Rattle.std.proofs.Common.{◌≡◌, sym, ◌∙◌, subst, Option, Some, None}
 use Rattle.ivshm_device.specs.declared.crossing.World.{World}
 use Rattle.ivshm_device.specs.declared.device_state.DeviceState.{DeviceState}
-use Rattle.ivshm_device.specs.declared.status.Status.{Status}
-use Rattle.ivshm_device.specs.declared.status.Status.TheVariants.{Done, HasDevice}
+use Rattle.c_status.specs.declared.status.Status.{Status}
+use Rattle.c_status.specs.declared.status.Status.TheVariants.{Done, HasDevice}
 use Rattle.ivshm_device.specs.Answers.{IfDone, IsNew, RefusesNew, MakesAnswered, made, has_device, refused}
 
 -- a call is done

@@ -20,9 +20,9 @@ use Rattle.ivshm_device.specs.declared.crossing.Message.{Message}
 use Rattle.ivshm_device.specs.declared.crossing.Route.{Route}
 use Rattle.ivshm_device.specs.declared.crossing.World.{World}
 use Rattle.ivshm_device.specs.declared.device_state.DeviceState.{DeviceState}
-use Rattle.ivshm_device.specs.declared.status.Status.{Status}
-use Rattle.ivshm_device.specs.declared.status.Status.TheVariants.{Done, NoDevice, HasDevice, NoMemory, BadPeer, BadPeers, BadVectors, BadVector, BadAccess, BadWindow, BadBase}
-use Rattle.ivshm_device.specs.Statuses.{geometry_status}
+use Rattle.c_status.specs.declared.status.Status.{Status}
+use Rattle.c_status.specs.declared.status.Status.TheVariants.{Done, NoDevice, HasDevice, NoMemory, BadPeer, BadPeers, BadVectors, BadVector, BadAccess, BadWindow, BadBase}
+use Rattle.c_status.specs.Statuses.{geometry_status}
 use Rattle.ivshm_device.specs.Crossing.{CrossesEffect, route_crossed, message_at}
 use Rattle.ivshm_device.specs.Windows.{window_of, read_at, events_of, effect_at}
 

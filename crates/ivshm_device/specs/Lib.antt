@@ -1,4 +1,3 @@
-pub mod Statuses
 pub mod Crossing
 pub mod Windows
 pub mod Answers

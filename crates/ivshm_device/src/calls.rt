@@ -10,8 +10,8 @@ use crate::crossing::{
 };
 use crate::device_state::DeviceState;
 use crate::peer_devices::PeerDevices;
-use crate::status::{Status, geometry_status};
 use crate::window::{REGISTER_PAGE, low_word, read_window, window_of, write_window};
+use c_status::{Status, geometry_status};
 use doorbell_irq::REGISTER_DOORBELL;
 use pci_space::{RegionPlace, Wiring};
 use section_map::Geometry;

@@ -3,16 +3,16 @@ ghost use Rattle.std.specs.Prelude.{◌≡◌, None, IfSome};
 ghost use Rattle.doorbell_irq.specs.Events.{RegisterWritten, MsixWritten, WasReset, WasDisconnected, WasConnected};
 ghost use Rattle.pci_space.specs.declared.place.TheConstants.{USUAL_BASE};
 ghost use Rattle.raw_box.specs.Handle.{Leads};
-ghost use Rattle.ivshm_device.specs.Statuses.{number_of};
-ghost use Rattle.ivshm_device.specs.declared.status.Status.{Status as Answer};
+ghost use Rattle.c_status.specs.Statuses.{number_of};
+ghost use Rattle.c_status.specs.declared.status.Status.{Status as Answer};
 ghost use Rattle.ivshm_device.specs.Answers.{answer_at, done_answer, peer_answer, access_answer, WritesConfig, ReadsConfig, ReadsRegister, ReadsMsix, Changes, Acts, ReportsRoute, ReportsMessage, message_answer, window_answer, ReadsWindow, WritesWindow, MakesAnswered};
 
 use crate::calls::{
     config_read, config_write, connect, disconnect, made, message, msix_read, msix_write,
     register_read, register_write, reset, route, window_read, window_write,
 };
-use crate::status::Status;
 use crate::{Access, DeviceHandle, Effect, Message, Route, World};
+use c_status::Status;
 use pci_space::USUAL_BASE;
 use std::alloc::Global;
 

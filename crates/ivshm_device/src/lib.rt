@@ -24,7 +24,6 @@ mod exports;
 mod handle;
 mod laws;
 mod peer_devices;
-mod status;
 mod window;
 
 pub use crossing::{Access, Effect, Message, Route, World};

@@ -1,10 +1,10 @@
 //! The configuration space of the device.
-ghost use Rattle.std.specs.Prelude.{◌≡◌, ℕ, ◌<◌, ◌^◌, List, Ok, None, slice_index};
+ghost use Rattle.std.specs.Prelude.{◌≡◌, ℕ, ◌<◌, ◌^◌, List, Ok, slice_index};
 ghost use Rattle.section_map.specs.Geometry.{Shape, IsShape};
 ghost use Rattle.pci_space.specs.declared.found.Found.{Found};
 ghost use Rattle.pci_space.specs.declared.found.CapabilityFault.{CapabilityFault};
 ghost use Rattle.pci_space.specs.declared.wiring.Wiring.{Wiring};
-ghost use Rattle.pci_space.specs.Fields.{table_fault, reset_byte};
+ghost use Rattle.pci_space.specs.Fields.{reset_byte};
 ghost use Rattle.pci_space.specs.Wiring.{IsWiring, if_msix, last_vector};
 ghost use Rattle.pci_space.specs.declared.place.RegionPlace.{RegionPlace};
 ghost use Rattle.pci_space.specs.Place.{IsRegionPlace};
@@ -14,7 +14,7 @@ ghost use Rattle.pci_space.specs.Walk.{IsWalk};
 use crate::field::Field;
 use crate::place::RegionPlace;
 use crate::space::Space;
-use crate::table::FieldTable;
+use crate::table::table_of;
 use crate::wiring::Wiring;
 use section_map::Geometry;
 
@@ -57,7 +57,7 @@ pub fn placed_space(
     ensures bytes { (k : ℕ) →
         slice_index result.bytes k ≡ reset_byte (placed_rows geometry.now protocol wiring region) k }
 {
-    let table = table_of(rows_of(geometry, protocol, wiring, region));
+    let table = table_of(rows_of(geometry, protocol, wiring, region), 256);
     Space::new(table)
 }
 
@@ -94,18 +94,6 @@ fn rows_of(geometry: &Geometry, protocol: u16, wiring: Wiring, region: RegionPla
         0x62 2 wiring.last_vector(), wiring.choose(0xC000, 0);
         0x64 4 wiring.choose(0x0000_0001, 0), 0;
         0x68 4 wiring.choose(0x0000_0801, 0), 0;
-    }
-}
-
-/// Returns the field table of rows without a fault in 256 bytes.
-fn table_of<const N: usize>(rows: [Field; N]) -> FieldTable<N>
-    requires small { N < 2 ^ 32 }
-    requires sound { table_fault rows 256 ≡ None }
-    ensures { result ≡ record { rows = rows.entry; size = 256 } }
-{
-    match FieldTable::of(rows, 256) {
-        Ok(table) => table,
-        Err(_) => unreachable!(),
     }
 }
 

@@ -37,5 +37,5 @@ pub use found::{CapabilityFault, Found, MsixFound};
 pub use place::{RegionPlace, USUAL_BASE};
 pub use sizes::{MOST_VECTORS, SPACE_LEN};
 pub use space::{BadAccess, Space};
-pub use table::FieldTable;
+pub use table::{FieldTable, table_of};
 pub use wiring::Wiring;

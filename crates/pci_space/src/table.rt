@@ -57,6 +57,19 @@ impl<const N: usize> FieldTable<N> {
     }
 }
 
+/// Returns the table of rows without a fault for a space of `bytes` bytes.
+// claim: The table of rows without a fault has exactly these rows.
+pub fn table_of<const N: usize>(rows: [Field; N], bytes: u16) -> FieldTable<N>
+    requires small { N < 2 ^ 32 }
+    requires sound { table_fault rows bytes ≡ None }
+    ensures { result ≡ record { rows = rows.entry; size = bytes } }
+{
+    match FieldTable::of(rows, bytes) {
+        Ok(table) => table,
+        Err(_) => unreachable!(),
+    }
+}
+
 /// Returns the fault of row `n` after the earlier rows, if there is one.
 fn fault_of_row(bytes: u16, earlier: &[Field], n: u32, row: &Field) -> Option<FieldFault>
     requires { n ≡ length earlier.now }

@@ -4,7 +4,7 @@ use Rattle.doorbell_irq.specs.DeviceRules.{effect_of}
 use Rattle.doorbell_irq.specs.Refinement.{Refines}
 use Rattle.ivshm_device.specs.declared.crossing.Effect.{Effect}
 use Rattle.ivshm_device.specs.declared.device_state.DeviceState.{DeviceState}
-use Rattle.ivshm_device.specs.declared.status.Status.TheVariants.{Done}
+use Rattle.c_status.specs.declared.status.Status.TheVariants.{Done}
 use Rattle.ivshm_device.specs.Crossing.{CrossesEffect}
 use Rattle.ivshm_device.specs.Windows.{window_of, low_word, page_events, page_effect, events_of, effect_at}
 use Rattle.ivshm_device.specs.Answers.{peer_answer, window_answer, Acts}

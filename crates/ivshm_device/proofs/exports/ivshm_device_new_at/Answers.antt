@@ -1,5 +1,5 @@
 use Rattle.std.proofs.Common.{sym, ◌∙◌}
-use Rattle.ivshm_device.specs.declared.status.Status.TheVariants.{Done, HasDevice}
+use Rattle.c_status.specs.declared.status.Status.TheVariants.{Done, HasDevice}
 use Rattle.ivshm_device.proofs.AnswerCauses.{holds_one, new_one, none_made}
 use Rattle.ivshm_device.proofs.exports.ivshm_device_new_at.Goals as goal
 

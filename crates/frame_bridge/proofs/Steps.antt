@@ -3,7 +3,7 @@
 use Rattle.std.proofs.Common.{◌≡◌, ℕ, zero, suc, ◌+◌, Bool, true, false, List, [], ◌∷◌, ◌++◌, length, drop, refl, sym, ap, ◌∙◌, append_assoc, inl, inr, ◌-◌, eqb-true}
 use Rattle.std.specs.Prelude.{◌⊎◌, ◌==◌, if◌then◌else◌, Some, None, ◌%◌}
 use Rattle.std.proofs.lemmas.List.{append-nil}
-use Rattle.split_ring.specs.Layout.{has_events, limit_of}
+use Rattle.split_ring.specs.Layout.{has_events}
 use Rattle.split_ring.specs.Spelling.{low_half, high_half, desc_flags}
 use Rattle.split_ring.specs.Ranges.{is_avail_entry, is_desc_address, is_desc_length, is_avail_index, is_desc_flags, is_used_index, is_used_id}
 use Rattle.link_handshake.specs.declared.Move.{Move}

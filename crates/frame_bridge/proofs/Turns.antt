@@ -6,7 +6,6 @@ use Rattle.std.proofs.lemmas.List.Elements.{recursion_from_All}
 use Rattle.split_ring.specs.declared.steps.Access.{Access}
 use Rattle.split_ring.specs.declared.steps.Note.{Note}
 use Rattle.split_ring.specs.declared.steps.Note.TheVariants as note
-use Rattle.split_ring.specs.Layout.{limit_of}
 use Rattle.split_ring.specs.Spelling.{low_half, high_half, desc_flags}
 use Rattle.link_handshake.specs.declared.Move.{Move}
 use Rattle.link_handshake.specs.declared.Move.TheVariants.{Stay, Set, ClearThenSet}

@@ -11,6 +11,7 @@ use Rattle.frame_capture.specs.declared.order.Order.TheVariants.{Little, Big}
 use Rattle.frame_capture.specs.declared.packets.Packet.{Packet}
 use Rattle.frame_capture.specs.declared.reading.Damage.{Damage}
 use Rattle.frame_capture.specs.declared.reading.Damage.TheVariants.{TooLong, Cut, NoMemory}
+use Rattle.frame_capture.specs.declared.reading.TheConstants.{LONGEST_CAPTURED}
 use Rattle.frame_capture.specs.CaptureFile.{bytes_of, number_at, packet_bytes, packets_bytes, IsPacket}
 use Rattle.frame_capture.specs.Reading.{StartsWith, IsDamage, IsPacketsFault, fault_at}
 use Rattle.frame_capture.proofs.Bytes.{AreBytes, written-read, written-read16}
@@ -45,7 +46,7 @@ taken frame bytes size whole is = let n : 16 + size - 16 ≡ size = omega arith 
 
 -- The packet whose parts are at these offsets.
 pub packet_at : (order : Order) (p : Packet) (bytes : List ℕ) (size : ℕ) → AreBytes bytes → p.seconds < 2 ^ 32 → p.micros < 2 ^ 32 → p.original < 2 ^ 32
-    → size ≤ 262144 → 16 + size ≤ length bytes
+    → size ≤ LONGEST_CAPTURED → 16 + size ≤ length bytes
     → p.seconds ≡ number_at order 4 0 bytes → p.micros ≡ number_at order 4 4 bytes → size ≡ number_at order 4 8 bytes
     → p.original ≡ number_at order 4 12 bytes → p.frame ≡ take (16 + size - 16) (drop 16 bytes) → StartsWith order p bytes
 packet_at order p bytes size small s m o short whole seconds micros sized original frame =

@@ -6,6 +6,7 @@ use Rattle.std.proofs.lemmas.List.Elements.{All-append, All-nil, All-cons}
 use Rattle.lawful_history.specs.declared.line.Line.{Line}
 use Rattle.lawful_history.specs.declared.line.Line.TheVariants.{Deliver}
 use Rattle.frame_capture.specs.declared.packets.Packet.{Packet}
+use Rattle.frame_capture.specs.declared.reading.TheConstants.{LONGEST_CAPTURED}
 use Rattle.frame_capture.specs.CaptureFile.{AreShort}
 use Rattle.frame_capture.specs.Deliveries.{packet_of, line_packets, packets_from, IsShortLine}
 
@@ -29,14 +30,14 @@ packets-more peer lines i number line now next lt is numbered before put =
     ∙ sym (packets_from-append peer 1 (take i lines) line)
     ∙ ap (λ (ls : List Line). packets_from peer 1 ls) (sym more)
 
-one_short : (b : Bool) (p : Packet) → length p.frame ≤ 262144 → AreShort (if b then p ∷ [] else [])
-one_short true p short = All-cons (λ q. length q.frame ≤ 262144) p [] short (All-nil (λ q. length q.frame ≤ 262144))
-one_short false p short = All-nil (λ q. length q.frame ≤ 262144)
+one_short : (b : Bool) (p : Packet) → length p.frame ≤ LONGEST_CAPTURED → AreShort (if b then p ∷ [] else [])
+one_short true p short = All-cons (λ q. length q.frame ≤ LONGEST_CAPTURED) p [] short (All-nil (λ q. length q.frame ≤ LONGEST_CAPTURED))
+one_short false p short = All-nil (λ q. length q.frame ≤ LONGEST_CAPTURED)
 
 line_short : (peer number : ℕ) (line : Line) → IsShortLine line → AreShort (line_packets peer number line)
 line_short peer number (Deliver receiver frame) short = one_short (receiver == peer) (packet_of number frame) short
-line_short peer number _ short = All-nil (λ q. length q.frame ≤ 262144)
+line_short peer number _ short = All-nil (λ q. length q.frame ≤ LONGEST_CAPTURED)
 
 pub short-more : (peer number : ℕ) (line : Line) (now next : List Packet) → AreShort now → IsShortLine line → next ≡ now ++ line_packets peer number line → AreShort next
 short-more peer number line now next before short put =
-    subst AreShort (sym put) (All-append (λ q. length q.frame ≤ 262144) now (line_packets peer number line) before (line_short peer number line short))
+    subst AreShort (sym put) (All-append (λ q. length q.frame ≤ LONGEST_CAPTURED) now (line_packets peer number line) before (line_short peer number line short))

@@ -25,22 +25,29 @@ bound true Fact e is = absurd cc
 bound false Fact e is = is
 
 -- The fault of the lines is the fault that is returned.
-pub refuses : {S C W E : Type 0} (s : Sense S C W E) (is_no_memory : E → Bool) (no_memory : E) → IsApart s is_no_memory no_memory → (d : S) (fault : TextFault C) (r : Result S (Wrong C)) → Reads {U = Unit {0}} d (Err fault) r → Refuses is_no_memory (fault_of_text s no_memory fault) (said s r)
+refuses : {S C W E : Type 0} (s : Sense S C W E) (is_no_memory : E → Bool) (no_memory : E) → IsApart s is_no_memory no_memory → (d : S) (fault : TextFault C) (r : Result S (Wrong C)) → Reads {U = Unit {0}} d (Err fault) r → Refuses is_no_memory (fault_of_text s no_memory fault) (said s r)
 refuses s is_no_memory no_memory apart d texts.NoMemory r is = free _ _ apart.itself
 refuses s is_no_memory no_memory apart d (texts.At cause n) r is = bound _ _ (apart.at cause n) (ap (λ x. said s x) is)
 refuses s is_no_memory no_memory apart d (texts.After n) r is = bound _ _ (apart.after n) (ap (λ x. said s x) is)
 refuses s is_no_memory no_memory apart d texts.NoEnd r is = bound _ _ apart.no_end (ap (λ x. said s x) is)
 
--- A text that was read is the spelling of no other value.
-pub only_ok : {S C W E : Type 0} (m : Machine S C) (s : Sense S C W E) (Spells : W → List ℕ → Type 0) (line_count : W → ℕ) → IsForward m s Spells line_count → (bytes : List ℕ) (d : S) (found w : W) → read m s.start bytes ≡ Ok d → s.value d ≡ Ok found → Spells w bytes → ◌≡◌ {A = Result W E} (Ok w) (Ok found)
-only_ok m s Spells line_count has bytes d found w is value spelled = sym (spelled_is_read m s Spells line_count has w bytes spelled) ∙ ap (λ x. said s x) is ∙ value
+-- The answers of a call that reads a text from `start`, and leaves `d`. A text that was read is the
+-- spelling of no other value.
+pub only_ok : {S C W E : Type 0} {m : Machine S C} {s : Sense S C W E} {Spells : W → List ℕ → Type 0} {line_count : W → ℕ} → IsForward m s Spells line_count
+    → {start d : S} {bytes : List ℕ} {found : W} → start ≡ s.start → read m start bytes ≡ Ok d → s.value d ≡ Ok found → (w : W) → Spells w bytes → ◌≡◌ {A = Result W E} (Ok w) (Ok found)
+only_ok {S} {C} {W} {E} {m} {s} forward {start} {d} {bytes} {found} at is value w spelled = sym (spelled_is_read forward w bytes spelled) ∙ ap (λ x. said s x) (rw at at is) ∙ value
 
 -- The fault of a text that was refused is that of the definition, unless an allocation failed.
-pub exact_err : {S C W E X : Type 0} (m : Machine S C) (s : Sense S C W E) (is_no_memory : E → Bool) (no_memory : E) → IsApart s is_no_memory no_memory → (view : X → W) (bytes : List ℕ) (d : S) (fault : TextFault C) (r : Result X E) → IsErrAnd r (λ e. e ≡ fault_of_text s no_memory fault) → Reads {U = Unit {0}} d (Err fault) (read m s.start bytes) → Answers is_no_memory view r (answer m s bytes)
-exact_err m s is_no_memory no_memory apart view bytes d fault (Ok x) gives is = absurd gives
-exact_err m s is_no_memory no_memory apart view bytes d fault (Err e) gives is = rw gives (refuses s is_no_memory no_memory apart d fault (read m s.start bytes) is)
+pub exact_err : {S C W E X : Type 0} (m : Machine S C) {s : Sense S C W E} {is_no_memory : E → Bool} {no_memory : E} → IsApart s is_no_memory no_memory
+    → (view : X → W) (bytes : List ℕ) (d : S) (fault : TextFault C) (r : Result X E) → IsErrAnd r (λ e. e ≡ fault_of_text s no_memory fault)
+    → {start : S} → start ≡ s.start → Reads {U = Unit {0}} d (Err fault) (read m start bytes) → Answers is_no_memory view r (answer m s bytes)
+exact_err m apart view bytes d fault (Ok x) gives at is = absurd gives
+exact_err {S} {C} {W} {E} {X} m {s} {is_no_memory} {no_memory} apart view bytes d fault (Err e) gives at is = rw gives (refuses s is_no_memory no_memory apart d fault (read m s.start bytes) (rw at at is))
 
 -- A text that was refused is no spelling, unless an allocation failed.
-pub only_err : {S C W E X : Type 0} (m : Machine S C) (s : Sense S C W E) (Spells : W → List ℕ → Type 0) (line_count : W → ℕ) → IsForward m s Spells line_count → (is_no_memory : E → Bool) (no_memory : E) → IsApart s is_no_memory no_memory → (view : X → W) (bytes : List ℕ) (d : S) (fault : TextFault C) (r : Result X E) → IsErrAnd r (λ e. e ≡ fault_of_text s no_memory fault) → Reads {U = Unit {0}} d (Err fault) (read m s.start bytes) → (w : W) → Spells w bytes → Answers is_no_memory view r (Ok w)
-only_err {S} {C} {W} {E} m s Spells line_count has is_no_memory no_memory apart view bytes d fault r gives is w spelled =
-    subst (λ (x : Result W E). Answers is_no_memory view r x) (spelled_is_read m s Spells line_count has w bytes spelled) (exact_err m s is_no_memory no_memory apart view bytes d fault r gives is)
+pub only_err : {S C W E X : Type 0} {m : Machine S C} {s : Sense S C W E} {Spells : W → List ℕ → Type 0} {line_count : W → ℕ} → IsForward m s Spells line_count
+    → {is_no_memory : E → Bool} {no_memory : E} → IsApart s is_no_memory no_memory
+    → (view : X → W) (bytes : List ℕ) (d : S) (fault : TextFault C) (r : Result X E) → IsErrAnd r (λ e. e ≡ fault_of_text s no_memory fault)
+    → {start : S} → start ≡ s.start → Reads {U = Unit {0}} d (Err fault) (read m start bytes) → (w : W) → Spells w bytes → Answers is_no_memory view r (Ok w)
+only_err {S} {C} {W} {E} {X} {m} forward {is_no_memory} apart view bytes d fault r gives at is w spelled =
+    subst (λ (x : Result W E). Answers is_no_memory view r x) (spelled_is_read forward w bytes spelled) (exact_err m apart view bytes d fault r gives at is)

@@ -108,8 +108,15 @@ no_form_of_few pieces_of forms few fs lt = none_of pieces_of few forms fs lt
 abbrev are_good : {F : Type 0} → (F → List Piece) → List F → Bool
 are_good pieces_of fs = list_all (λ f. is_form (pieces_of f) && (ltb 0 (length (pieces_of f)) && leb (length (pieces_of f)) 6)) fs
 
-pub table : {F : Type 0} (pieces_of : F → List Piece) (forms : List F) (place : F → ℕ) → ((f : F) → slice_get forms (place f) ≡ Some f) → are_apart pieces_of forms ≡ true → are_good pieces_of forms ≡ true → IsTable pieces_of forms
-table {F} pieces_of forms place listed apart all =
+-- The place of the first form that the fields of this form can match.
+abbrev pub place_of : {F : Type 0} → (F → List Piece) → List F → F → ℕ
+place_of pieces_of [] f = 0
+place_of pieces_of (g ∷ gs) f = cond (overlaps (pieces_of g) (pieces_of f)) 0 (suc (place_of pieces_of gs f))
+
+-- A list of forms is a table if it has each form, no fields match two forms, and each form is good.
+pub table : {F : Type 0} (pieces_of : F → List Piece) (forms : List F) → ((f : F) → slice_get forms (place_of pieces_of forms f) ≡ Some f) → are_apart pieces_of forms ≡ true → are_good pieces_of forms ≡ true → IsTable pieces_of forms
+table {F} pieces_of forms listed apart all =
+    let place = place_of pieces_of forms in
     let each = λ (f : F). both_true (is_form (pieces_of f)) (ltb 0 (length (pieces_of f)) && leb (length (pieces_of f)) 6) (passes_at (λ g. is_form (pieces_of g) && (ltb 0 (length (pieces_of g)) && leb (length (pieces_of g)) 6)) forms (place f) f all (listed f)) in
     record {
       place = place;

@@ -1,10 +1,10 @@
 -- Texts of a table: rows that follow one another are read, and what is read is rows that follow one
 -- another.
-use Rattle.std.proofs.Common.{◌≡◌, ℕ, true, false, List, [], ◌∷◌, ◌++◌, length, map, Ok, sym, ap, subst, ◌∙◌, append_assoc, arith}
-use Rattle.std.proofs.lemmas.List.{append-nil, length-map}
+use Rattle.std.proofs.Common.{◌≡◌, ℕ, ◌+◌, true, false, List, [], ◌∷◌, ◌++◌, length, map, Ok, refl, sym, ap, subst, ◌∙◌, append_assoc, arith}
+use Rattle.std.proofs.lemmas.List.{append-nil, length-append, length-map}
 use Rattle.std.proofs.lemmas.List.Concat.{flat_map-append, flat_map-cons}
 use Rattle.line_format.specs.Forms.{Piece}
-use Rattle.line_format.specs.Rows.{Row, line_of_row, text_of}
+use Rattle.line_format.specs.Rows.{Row, line_of_row, text_of, numbered}
 use Rattle.line_format.specs.Machine.{Machine, Leads, HasNoNewline, text_of_lines, read}
 use Rattle.line_format.specs.Grammar.{Rules, step, machine_of}
 use Rattle.line_format.specs.Texts.{Sense}
@@ -12,7 +12,7 @@ use Rattle.line_format.proofs.ReadingLines.{read_is_lines}
 use Rattle.line_format.proofs.FormsOfRows.{IsTable}
 use Rattle.line_format.proofs.LinesOfRows.{bare, row_plain, text_is_lines, text-cons}
 use Rattle.line_format.proofs.RowsFollow.{CanFollow, with_row, row_of_follows, step-row, step-ok}
-use Rattle.line_format.proofs.LawsOfTexts.{HasLines}
+use Rattle.line_format.proofs.LawsOfTexts.{IsForward}
 
 -- ---- forward
 
@@ -24,6 +24,38 @@ Along g d (r ∷ rs) e = CanFollow g d r × (g.ended (with_row g r d) ≡ false)
 pub along-append : {S F C : Type 0} (g : Rules S F C) (d : S) (rs ss : List (Row F)) (e f : S) → Along g d rs e → Along g e ss f → Along g d (rs ++ ss) f
 along-append {S} g d [] ss e f here later = subst (λ (x : S). Along g x ss f) (sym here) later
 along-append g d (r ∷ rs) ss e f here later = (here.0, here.1, along-append g (with_row g r d) rs ss e f here.2 later)
+
+-- The row of an item follows those of `front`, where `at` has the state after some items.
+pub record Joins {A S F C : Type 0} (g : Rules S F C) (at : List A → S) (row_of : ℕ → A → Row F) (front : List A) (item : A) : Type 0 where
+  pub follows : CanFollow g (at front) (row_of (length front) item)
+  pub gives : with_row g (row_of (length front) item) (at front) ≡ at (front ++ item ∷ [])
+  pub continues : g.ended (at (front ++ item ∷ [])) ≡ false
+
+-- Each item's row follows those of the items before it.
+abbrev pub EachJoins : {A S F C : Type 0} → Rules S F C → (List A → S) → (ℕ → A → Row F) → List A → Type 0
+EachJoins {A} g at row_of items = (front rest : List A) (item : A) → items ≡ front ++ item ∷ rest → Joins g at row_of front item
+
+items_along : {A S F C : Type 0} (g : Rules S F C) (at : List A → S) (row_of : ℕ → A → Row F) (items : List A) → EachJoins g at row_of items
+    → (front rest : List A) → items ≡ front ++ rest → Along g (at front) (numbered row_of (length front) rest) (at items)
+items_along g at row_of items each front [] is = ap at (sym (is ∙ append-nil front))
+items_along {A} {S} g at row_of items each front (item ∷ rest) is =
+    let j = each front rest item is in
+    let whole : items ≡ (front ++ item ∷ []) ++ rest = is ∙ sym (append_assoc front (item ∷ []) rest) in
+    let later = subst (λ (n : ℕ). Along g (at (front ++ item ∷ [])) (numbered row_of n rest) (at items)) (length-append front (item ∷ [])) (items_along g at row_of items each (front ++ item ∷ []) rest whole) in
+    let t = subst (λ (x : S). (g.ended x ≡ false) × Along g x (numbered row_of (length front + 1) rest) (at items)) (sym j.gives) (j.continues, later) in
+    (j.follows, t.0, t.1)
+
+-- The rows of items with their numbers follow one another.
+pub numbered_along : {A S F C : Type 0} (g : Rules S F C) (at : List A → S) (row_of : ℕ → A → Row F) (items : List A) → EachJoins g at row_of items → Along g (at []) (numbered row_of 0 items) (at items)
+numbered_along g at row_of items each = items_along g at row_of items each [] items refl
+
+numbered-map : {A F : Type 0} (row_of : A → Row F) (n : ℕ) (items : List A) → numbered (λ k item. row_of item) n items ≡ map row_of items
+numbered-map row_of n [] = refl
+numbered-map {A} {F} row_of n (item ∷ items) = ap (λ (rs : List (Row F)). row_of item ∷ rs) (numbered-map row_of (n + 1) items)
+
+-- The rows of items follow one another.
+pub mapped_along : {A S F C : Type 0} (g : Rules S F C) (at : List A → S) (row_of : A → Row F) (items : List A) → EachJoins g at (λ k item. row_of item) items → Along g (at []) (map row_of items) (at items)
+mapped_along {A} {S} {F} g at row_of items each = subst (λ (rs : List (Row F)). Along g (at []) rs (at items)) (numbered-map row_of 0 items) (numbered_along g at (λ k item. row_of item) items each)
 
 leads-cons : {S C : Type 0} (m : Machine S C) (d now : S) (line : List ℕ) (lines : List (List ℕ)) (e : S) → HasNoNewline line → m.step d line ≡ Ok now → m.ended now ≡ false → Leads m now lines e → Leads m d (line ∷ lines) e
 leads-cons m d now line [] e plain is on leads = absurd leads
@@ -54,17 +86,19 @@ pub record Reaches {S F C : Type 0} (g : Rules S F C) (d : S) (rows : List (Row 
 pub rows_lead : {S F C : Type 0} (g : Rules S F C) → IsTable g.pieces_of g.forms → (d : S) (rows : List (Row F)) (f : S) → Reaches g d rows f → Leads (machine_of g) d (map (bare g.pieces_of) rows) f
 rows_lead {S} {F} g table d rows f r = subst (λ (rs : List (Row F)). Leads (machine_of g) d (map (bare g.pieces_of) rs) f) (sym r.parts) (leads g table d r.front r.before r.last f r.along r.follows r.gives r.ended)
 
--- The rows of a value w are its lines.
-pub rows_are_lines : {S F C W E : Type 0} (g : Rules S F C) (s : Sense S C W E) (rows_of : W → List (Row F)) → IsTable g.pieces_of g.forms
-    → (w : W) (at_end : S) → Reaches g s.start (rows_of w) at_end → s.value at_end ≡ Ok w
-    → (bytes : List ℕ) → bytes ≡ text_of g.pieces_of (rows_of w) → HasLines (machine_of g) s (λ v. length (rows_of v)) w bytes
-rows_are_lines g s rows_of table w at_end reaches says bytes text = record {
-  lines = map (bare g.pieces_of) (rows_of w);
-  at_end = at_end;
-  text = text ∙ text_is_lines g.pieces_of (rows_of w);
-  leads = rows_lead g table s.start (rows_of w) at_end reaches;
-  says = says;
-  counted = omega (arith, length-map (rows_of w) (bare g.pieces_of));
+-- The rows of each value are its lines, if they reach an end that has this value.
+pub rows_forward : {S F C W E : Type 0} (g : Rules S F C) (s : Sense S C W E) (rows_of : W → List (Row F)) (IsWorld : W → Type 0) (at_end : W → S) → IsTable g.pieces_of g.forms
+    → ((w : W) → IsWorld w → Reaches g s.start (rows_of w) (at_end w)) → ((w : W) → IsWorld w → s.value (at_end w) ≡ Ok w)
+    → IsForward (machine_of g) s (λ w bytes. IsWorld w × (bytes ≡ text_of g.pieces_of (rows_of w))) (λ w. length (rows_of w))
+rows_forward g s rows_of IsWorld at_end table reaches says = record {
+  has = λ w bytes is. record {
+    lines = map (bare g.pieces_of) (rows_of w);
+    at_end = at_end w;
+    text = is.1 ∙ text_is_lines g.pieces_of (rows_of w);
+    leads = rows_lead g table s.start (rows_of w) (at_end w) (reaches w is.0);
+    says = says w is.0;
+    counted = omega (arith, length-map (rows_of w) (bare g.pieces_of));
+  };
 }
 
 -- ---- the converse
@@ -75,7 +109,7 @@ text-append pieces_of rs r rest =
     ∙ append_assoc (text_of pieces_of rs) (text_of pieces_of (r ∷ [])) rest
     ∙ ap (λ (t : List ℕ). text_of pieces_of rs ++ t) (ap (λ (t : List ℕ). t ++ rest) (text-cons pieces_of r []) ∙ append_assoc (bare pieces_of r) (10 ∷ []) rest)
 
-line-cons : (line : List ℕ) (lines : List (List ℕ)) → text_of_lines (line ∷ lines) ≡ line ++ 10 ∷ text_of_lines lines
+pub line-cons : (line : List ℕ) (lines : List (List ℕ)) → text_of_lines (line ∷ lines) ≡ line ++ 10 ∷ text_of_lines lines
 line-cons line lines = flat_map-cons (λ l. l ++ 10 ∷ []) line lines ∙ append_assoc line (10 ∷ []) (text_of_lines lines)
 
 -- A row that can follow preserves the invariant of the lines so far, and adds itself to their rows.

@@ -1,8 +1,10 @@
 -- A text as a table: its forms, the tests of a line in their order, and the effect of a line.
-use Rattle.std.specs.Prelude.{ℕ, if◌then◌else◌, Bool, true, false, List, length, Option, Some, None, Result, Ok, Err, option_and_then}
+use Rattle.std.specs.Prelude.{ℕ, if◌then◌else◌, Bool, true, false, List, length, slice_get, Option, Some, None, Result, Ok, Err, option_and_then}
 use Rattle.std.specs.List.{list_all}
+use Rattle.std.specs.Option.{option_map_or}
 use Rattle.line_format.specs.declared.grammar.Test.{Test}
 use Rattle.line_format.specs.declared.grammar.Test.TheVariants.{Line, Order, Number, Peer, Bytes, Sizes, Count}
+use Rattle.line_format.specs.Numbers.{number_of}
 use Rattle.line_format.specs.Forms.{Piece, fields_of, numbers_of, hex_of, hex_bytes, is_printable}
 use Rattle.line_format.specs.Rows.{find_form}
 use Rattle.line_format.specs.Steps.{◌>>=◌, some_or}
@@ -29,6 +31,11 @@ pub record Rules (S F C : Type 0) : Type 0 where
   -- the effect of a line without a fault
   pub add : F → List ℕ → List ℕ → S → S
   pub ended : S → Bool
+
+-- Whether a rule about the number in field 1 forbids the line. The rule applies only if the field
+-- is a number.
+abbrev pub is_forbidden_by : (ℕ → Bool) → List (List ℕ) → Bool
+is_forbidden_by rule fields = option_map_or rule (option_and_then number_of (slice_get fields 1)) false
 
 -- The test passes, or this is the fault.
 abbrev pub pass_or : {C : Type 0} → C → Bool → Result (Unit {0}) C

@@ -42,6 +42,11 @@ abbrev pub are_apart : {F : Type 0} → (F → List Piece) → List F → Bool
 are_apart pieces_of [] = true
 are_apart pieces_of (f ∷ fs) = list_all (λ g. not (overlaps (pieces_of f) (pieces_of g))) fs && are_apart pieces_of fs
 
+-- The row of flag n, of the form `set` if the flag is set.
+abbrev pub flag_row : {F : Type 0} → (set clear : F) → ℕ → Bool → Row F
+flag_row set clear n true = row set (n ∷ []) []
+flag_row set clear n false = row clear (n ∷ []) []
+
 -- A row for each item, made from its number and itself; the numbers go up from n.
 abbrev pub numbered : {A F : Type 0} → (ℕ → A → Row F) → ℕ → List A → List (Row F)
 numbered row_of n [] = []

@@ -32,4 +32,4 @@ pub use list::List;
 pub use numbers::number;
 pub use reading::{LineFault, TakeLines, TextFault, read_text};
 pub use short_lines::{put_four, put_named, put_one, put_three, put_two, put_with_bytes};
-pub use writing::put_line;
+pub use writing::{put_flags, put_line};

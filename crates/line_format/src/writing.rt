@@ -1,8 +1,10 @@
 //! Writing a line of a form: its fields with a space between them, and a newline.
 ghost use Rattle.std.specs.Prelude.{◌≡◌, ◌++◌, [], ◌∷◌, OnOk, if◌then◌else◌};
 ghost use Rattle.line_format.specs.Forms.{pieces, spell, line_of, spaced};
+ghost use Rattle.line_format.specs.Rows.{flag_row, line_of_row, numbered, text_of};
 
 use crate::forms::FieldKind;
+use crate::grammar::Grammar;
 use crate::hex_digits::put_hex;
 use itoa::Buffer;
 use std::alloc::AllocError;
@@ -67,5 +69,39 @@ pub fn put_line(
 {
     put_fields(out, false, slots, numbers, bytes)?;
     out.push(b'\n')?;
+    Ok(())
+}
+
+/// Appends the line of flag `number`, of the form `set` if the flag is set, or of `clear`.
+#[tactic(auto, unfolding(crate::specs::Rows::line_of_row))]
+fn put_flag<G: Grammar>(
+    out: &mut Vec<u8>,
+    set: G::Form,
+    clear: G::Form,
+    number: u64,
+    flag: bool,
+) -> Result<(), AllocError>
+    ensures { OnOk result (out.new.items ≡
+        out.old.items ++ line_of_row G.rules.pieces_of (flag_row set clear number flag)) }
+{
+    let form = if flag { set } else { clear };
+    put_line(out, G::slots(form), &[number], &[])
+}
+
+/// Appends a line for each flag, with its number from 0: a line of the form `set`, or of `clear`.
+// claim: Each flag is written as a line with its number, of one form if the flag is set, and of
+//    another if not.
+pub fn put_flags<G: Grammar>(
+    out: &mut Vec<u8>,
+    set: G::Form,
+    clear: G::Form,
+    flags: &[bool],
+) -> Result<(), AllocError>
+    ensures { OnOk result (out.new.items ≡
+        out.old.items ++ text_of G.rules.pieces_of (numbered (flag_row set clear) 0 flags.now)) }
+{
+    for (number, flag) in flags.iter().enumerate() {
+        put_flag::<G>(out, set, clear, number as u64, *flag)?;
+    }
     Ok(())
 }

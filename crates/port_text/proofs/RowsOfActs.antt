@@ -1,6 +1,6 @@
 -- Rows of acts: each act form's row is an act's, and an act is allowed exactly if its row can
 -- follow.
-use Rattle.std.proofs.Common.{◌≡◌, ℕ, ◌+◌, ◌≤◌, true, false, List, [], get_or, Some, refl, sym, ap}
+use Rattle.std.proofs.Common.{◌≡◌, ℕ, ◌+◌, ◌≤◌, true, false, List, get_or, Some, refl, sym, ap}
 use Rattle.std.proofs.lemmas.Bool.{le-ltb}
 use Rattle.line_format.specs.Forms.{Fit, FitBytes}
 use Rattle.line_format.specs.Rows.{row, fields_of_row}

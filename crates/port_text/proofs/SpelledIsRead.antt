@@ -1,15 +1,14 @@
 -- The rows of a schedule follow one another up to its end.
-use Rattle.std.proofs.Common.{mul-le-mul_right, ◌≡◌, ℕ, ◌+◌, ◌*◌, ◌/◌, ◌^◌, ◌<◌, ◌≤◌, Bool, true, false, cond, eqb, List, [], ◌∷◌, ◌++◌, length, map, Ok, refl, sym, ap, subst, ◌∙◌, append_assoc, arith, eq-eqb}
-use Rattle.std.specs.List.{AllByRecursion}
+use Rattle.std.proofs.Common.{mul-le-mul_right, ◌≡◌, ℕ, ◌*◌, ◌/◌, ◌^◌, ◌<◌, ◌≤◌, Bool, true, false, cond, eqb, List, [], ◌∷◌, ◌++◌, length, map, Ok, refl, sym, ap, subst, arith, eq-eqb}
+use Rattle.std.specs.Prelude.{All}
 use Rattle.std.proofs.lemmas.Bool.{ne_eqb}
-use Rattle.std.proofs.lemmas.List.{append-nil, length-append}
-use Rattle.std.proofs.lemmas.List.Elements.{recursion_from_All}
-use Rattle.std.proofs.lemmas.List.Sums.{sum_by_push, sum_by-append}
+use Rattle.std.proofs.lemmas.List.{length-append}
 use Rattle.line_format.specs.Rows.{Row, row}
+use Rattle.line_format.proofs.ListLaws.{all_at, sum_up_to}
 use Rattle.line_format.proofs.PartLaws.{no_rule, same_number}
 use Rattle.line_format.proofs.LawsOfTexts.{IsForward}
 use Rattle.line_format.proofs.RowTexts as all
-use Rattle.line_format.proofs.RowTexts.{Reaches, rows_are_lines}
+use Rattle.line_format.proofs.RowTexts.{Reaches, numbered_along, mapped_along, rows_forward}
 use Rattle.scenario_text.specs.Sizes.{is_geometry}
 use Rattle.scenario_text.proofs.SizeTests.{HasRegion, is_geometry-true}
 use Rattle.scenario_text.proofs.SpelledIsRead.{region_of}
@@ -19,12 +18,11 @@ use Rattle.port_text.specs.declared.forms.Form.TheVariants.{Version, Peers, Out,
 use Rattle.port_text.specs.declared.positions.Position.TheVariants.{AtPeer, AtBegin, AtActs, Ended}
 use Rattle.port_text.specs.Sizes.{has_port}
 use Rattle.port_text.specs.declared.limits.TheConstants.{MOST_TURNS}
-use Rattle.port_text.specs.Acts.{cost, turns_of}
-use Rattle.port_text.specs.Table.{pieces_of}
+use Rattle.port_text.specs.Acts.{cost}
 use Rattle.port_text.specs.ActRows.{row_of_act}
 use Rattle.port_text.specs.Scenario.{World, IsWorld, IsAllowed}
 use Rattle.port_text.specs.Spelling.{row_of_peer, rows_of_peers, rows_of, IsSpelling}
-use Rattle.port_text.specs.Judge.{DraftView, world_of_draft, ordinal_of, at_start, has_ended, rules, machine, sense}
+use Rattle.port_text.specs.Judge.{DraftView, world_of_draft, ordinal_of, at_start, rules, machine, sense}
 use Rattle.port_text.specs.Laws.{line_count}
 use Rattle.port_text.proofs.FormsAreTable.{is_table}
 use Rattle.port_text.proofs.SizeTests.{has_port-true}
@@ -83,17 +81,12 @@ peer_gives : (peers out most : ℕ) (front : List Bool) (p : ℕ) (b : Bool) →
 peer_gives peers out most front p true = refl
 peer_gives peers out most front p false = refl
 
-peers_along : (peers out most : ℕ) (front rest : List Bool) (p : ℕ) → p ≡ length front → length front + length rest ≡ peers → peers ≤ 8
-    → Along (at_peers peers out most front) (rows_of_peers p rest) (at_peers peers out most (front ++ rest))
-peers_along peers out most front [] p same all few = ap (at_peers peers out most) (sym (append-nil front))
-peers_along peers out most front (b ∷ rest) p same all few =
-    let one : length (front ++ b ∷ []) ≡ length front + 1 = length-append front (b ∷ []) in
-    let P : DraftView → Type 0 = λ x. (has_ended x ≡ false) × Along x (rows_of_peers (p + 1) rest) (at_peers peers out most (front ++ b ∷ rest)) in
-    let whole : (front ++ b ∷ []) ++ rest ≡ front ++ b ∷ rest = append_assoc front (b ∷ []) rest in
-    let later = subst (λ (bs : List Bool). Along (at_peers peers out most (front ++ b ∷ [])) (rows_of_peers (p + 1) rest) (at_peers peers out most bs)) whole
-    (peers_along peers out most (front ++ b ∷ []) rest (p + 1) (omega arith) (omega arith) few) in
-    let t = subst P (sym (peer_gives peers out most front p b)) (not_ended _, later) in
-    (peer_follows peers out most front p b same (omega arith) few, t.0, t.1)
+peers_along : (peers out most : ℕ) (honest : List Bool) → length honest ≡ peers → peers ≤ 8 → Along (at_peers peers out most []) (rows_of_peers 0 honest) (at_peers peers out most honest)
+peers_along peers out most honest all few = numbered_along rules (at_peers peers out most) row_of_peer honest (λ front rest b is. record {
+  follows = peer_follows peers out most front (length front) b refl (omega (arith, ap length is, length-append front (b ∷ rest))) few;
+  gives = peer_gives peers out most front (length front) b;
+  continues = not_ended _;
+})
 
 -- ---- the acts
 
@@ -111,22 +104,12 @@ world_is w front is = rw (quarter w.geometry.out, is.table, is.common) refl
 act_gives : (d : DraftView) (a : Act) → with_row (row_of_act a) d ≡ record d { acts = d.acts ++ a ∷ [] }
 act_gives d a = rw (act_of-row a) refl
 
-acts_along : (w : World) (front rest : List Act) → IsWorld w → AllByRecursion (IsAllowed w) rest → w.acts ≡ front ++ rest
-    → Along (at_acts w front) (map row_of_act rest) (at_acts w (front ++ rest))
-acts_along w front [] is allowed all = ap (at_acts w) (sym (append-nil front))
-acts_along w front (a ∷ rest) is allowed all =
-    let here = allowed.0 in
+acts_along : (w : World) → IsWorld w → Along (at_acts w []) (map row_of_act w.acts) (at_acts w w.acts)
+acts_along w is = mapped_along rules (at_acts w) row_of_act w.acts (λ front rest a all.
+    let here = all_at (IsAllowed w) front rest a (subst (λ (acts : List Act). All (IsAllowed w) acts) all is.allowed) in
     let now : IsAllowed (record w { acts = front }) a = record { values = here.values; bytes = here.bytes; range = here.range; peer = here.peer; message = here.message } in
     let then_ : IsAllowed (world_of_draft (at_acts w front)) a = subst (λ (x : World). IsAllowed x a) (sym (world_is w front is)) now in
-    let whole : (front ++ a ∷ []) ++ rest ≡ front ++ a ∷ rest = append_assoc front (a ∷ []) rest in
-    let up_to : turns_of (front ++ a ∷ []) ≡ turns_of front + cost a = sum_by_push cost front a in
-    let turns : turns_of (front ++ a ∷ []) + turns_of rest ≡ turns_of w.acts = sym (sum_by-append cost (front ++ a ∷ []) rest) ∙ ap turns_of (whole ∙ sym all) in
-    let most = is.turns in
-    let few : turns_of front + cost a ≤ MOST_TURNS = omega arith in
-    let later = subst (λ (acts : List Act). Along (at_acts w (front ++ a ∷ [])) (map row_of_act rest) (at_acts w acts)) whole (acts_along w (front ++ a ∷ []) rest is allowed.1 (all ∙ sym whole)) in
-    let P : DraftView → Type 0 = λ x. (has_ended x ≡ false) × Along x (map row_of_act rest) (at_acts w (front ++ a ∷ rest)) in
-    let t = subst P (sym (act_gives (at_acts w front) a)) (refl, later) in
-    (follows_act (at_acts w front) a refl then_ few, t.0, t.1)
+    record { follows = follows_act (at_acts w front) a refl then_ (sum_up_to cost w.acts front rest a MOST_TURNS all is.turns); gives = act_gives (at_acts w front) a; continues = refl })
 
 -- ---- the whole text
 
@@ -160,7 +143,7 @@ head_along w is =
     let sized : DraftView = at_peers g.peers (4 * g.out) w.most [] in
     let sizes = sizes_along g.peers (4 * g.out) w.most (two, few) o m (is_geometry-true _ _ _ _ region) ported in
     let flags = is.flags in
-    let peers = peers_along g.peers (4 * g.out) w.most [] w.honest 0 refl (omega arith) few in
+    let peers = peers_along g.peers (4 * g.out) w.most w.honest flags few in
     let full : eqb (length w.honest) g.peers ≡ true = eq-eqb _ _ flags in
     let full_state : DraftView = at_peers g.peers (4 * g.out) w.most w.honest in
     let begin : CanFollow full_state (row Begin [] []) = record { values = tt; bytes = refl; order = rw full refl; range = refl; peer = refl; size = refl; sizes = refl; room = refl } in
@@ -174,7 +157,7 @@ head_along w is =
 -- The rows of a schedule lead to its end.
 spelled_reaches : (w : World) → IsWorld w → Reaches rules at_start (rows_of w) (at_end w)
 spelled_reaches w world =
-    let acts = acts_along w [] w.acts world (recursion_from_All (IsAllowed w) w.acts world.allowed) refl in
+    let acts = acts_along w world in
     let end : CanFollow (at_acts w w.acts) (row End [] []) = record { values = tt; bytes = refl; order = refl; range = refl; peer = refl; size = refl; sizes = refl; room = refl } in
     record {
       front = acted w;
@@ -188,4 +171,4 @@ spelled_reaches w world =
     }
 
 pub is_forward : IsForward machine sense IsSpelling line_count
-is_forward w bytes is = rows_are_lines rules sense rows_of is_table w (at_end w) (spelled_reaches w is.0) (ap (λ (x : World). Ok x) (world_is w w.acts is.0)) bytes is.1
+is_forward = rows_forward rules sense rows_of IsWorld at_end is_table spelled_reaches (λ w is. ap (λ (x : World). Ok x) (world_is w w.acts is))

@@ -1,11 +1,9 @@
 -- Reading line by line: the effect of a line, and the fault of a faulty one.
-use Rattle.std.specs.Prelude.{ℕ, ◌+◌, ◌==◌, ◌||◌, not, nat_lt, if◌then◌else◌, Bool, true, false, List, [], ◌∷◌, ◌++◌, length, slice_index, slice_get, Option, Some, None, Result, Ok, option_and_then}
-use Rattle.std.specs.Option.{option_map_or}
-use Rattle.line_format.specs.Numbers.{number_of}
+use Rattle.std.specs.Prelude.{ℕ, ◌+◌, ◌==◌, ◌||◌, not, nat_lt, if◌then◌else◌, Bool, true, false, List, [], ◌∷◌, ◌++◌, length, slice_index, Option, Some, None, Result, Ok}
 use Rattle.line_format.specs.declared.grammar.Test.{Test}
 use Rattle.line_format.specs.declared.grammar.Test.TheVariants.{Line, Order, Number, Peer, Bytes, Sizes, Count}
 use Rattle.line_format.specs.Machine.{Machine}
-use Rattle.line_format.specs.Grammar.{Rules, machine_of}
+use Rattle.line_format.specs.Grammar.{Rules, is_forbidden_by, machine_of}
 use Rattle.line_format.specs.Texts as texts
 use Rattle.line_format.specs.Texts.{Sense}
 use Rattle.scenario_text.specs.Sizes.{is_geometry}
@@ -71,9 +69,7 @@ is_out_of_turn d _ p = false
 -- The line is out of order at this position; the rule about a peer applies only if the peer's field
 -- is a number.
 abbrev pub is_out_of_order : DraftView → Form → List (List ℕ) → Bool
-is_out_of_order d form fields =
-    not (ordinal_of (position_of form) == ordinal_of d.position)
-    || option_map_or (is_out_of_turn d form) (option_and_then number_of (slice_get fields 1)) false
+is_out_of_order d form fields = not (ordinal_of (position_of form) == ordinal_of d.position) || is_forbidden_by (is_out_of_turn d form) fields
 
 -- BadGeometry
 

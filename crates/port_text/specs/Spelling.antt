@@ -1,7 +1,7 @@
 -- Schedules of ports as texts: the rows of a schedule, one line each. So a schedule has one
 -- spelling.
-use Rattle.std.specs.Prelude.{◌≡◌, ℕ, ◌+◌, ◌*◌, Bool, true, false, List, [], ◌∷◌, ◌++◌, map}
-use Rattle.line_format.specs.Rows.{Row, row, text_of, numbered}
+use Rattle.std.specs.Prelude.{◌≡◌, ℕ, ◌*◌, Bool, List, [], ◌∷◌, ◌++◌, map}
+use Rattle.line_format.specs.Rows.{Row, row, text_of, flag_row, numbered}
 use Rattle.port_text.specs.declared.forms.Form.{Form}
 use Rattle.port_text.specs.declared.forms.Form.TheVariants.{Version, Peers, Out, Longest, Honest, Hostile, Begin, End}
 use Rattle.port_text.specs.declared.scenarios.Scenario.{Scenario}
@@ -14,8 +14,7 @@ abbrev pub world_of : Scenario → World
 world_of s = record { geometry = s.geometry; most = s.most; honest = s.honest; acts = s.acts }
 
 abbrev pub row_of_peer : ℕ → Bool → Row Form
-row_of_peer p true = row Honest (p ∷ []) []
-row_of_peer p false = row Hostile (p ∷ []) []
+row_of_peer p is_honest = flag_row Honest Hostile p is_honest
 
 -- The peers in their order, from p on.
 abbrev pub rows_of_peers : ℕ → List Bool → List (Row Form)

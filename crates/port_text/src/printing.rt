@@ -3,12 +3,13 @@ ghost use Rattle.std.specs.Prelude.{◌≡◌, ◌++◌, OnOk, map};
 ghost use Rattle.line_format.specs.Rows.{row, line_of_row, text_of};
 ghost use Rattle.port_text.specs.Table.{pieces_of};
 ghost use Rattle.port_text.specs.ActRows.{row_of_act};
-ghost use Rattle.port_text.specs.Spelling.{world_of, row_of_peer, rows_of_peers, sizes_rows, spelling};
+ghost use Rattle.port_text.specs.Spelling.{world_of, sizes_rows, spelling};
 
 use crate::acts::Act;
+use crate::drafts::Draft;
 use crate::forms::Form;
 use crate::scenarios::Scenario;
-use line_format::put_line;
+use line_format::{put_flags, put_line};
 use std::alloc::AllocError;
 
 /// Appends the line of a form.
@@ -17,25 +18,6 @@ fn put(out: &mut Vec<u8>, form: Form, numbers: &[u64], bytes: &[u8]) -> Result<(
     ensures { OnOk result (out.new.items ≡ out.old.items ++ line_of_row pieces_of (row form numbers.now bytes.now)) }
 {
     put_line(out, form.slots(), numbers, bytes)
-}
-
-fn put_peer(out: &mut Vec<u8>, p: u64, is_honest: bool) -> Result<(), AllocError>
-    ensures { OnOk result (out.new.items ≡ out.old.items ++ line_of_row pieces_of (row_of_peer p is_honest)) }
-{
-    if is_honest {
-        put(out, Form::Honest, &[p], &[])
-    } else {
-        put(out, Form::Hostile, &[p], &[])
-    }
-}
-
-fn put_peers(out: &mut Vec<u8>, honest: &[bool]) -> Result<(), AllocError>
-    ensures { OnOk result (out.new.items ≡ out.old.items ++ text_of pieces_of (rows_of_peers 0 honest.now)) }
-{
-    for (p, is_honest) in honest.iter().enumerate() {
-        put_peer(out, p as u64, *is_honest)?;
-    }
-    Ok(())
 }
 
 fn put_act(out: &mut Vec<u8>, act: &Act) -> Result<(), AllocError>
@@ -93,7 +75,7 @@ pub fn put_scenario(out: &mut Vec<u8>, scenario: &Scenario) -> Result<(), AllocE
     ensures { OnOk result (out.new.items ≡ out.old.items ++ spelling (world_of scenario.now)) }
 {
     put_sizes(out, scenario)?;
-    put_peers(out, scenario.honest.items())?;
+    put_flags::<Draft>(out, Form::Honest, Form::Hostile, scenario.honest.items())?;
     put(out, Form::Begin, &[], &[])?;
     put_acts(out, scenario.acts.items())?;
     put(out, Form::End, &[], &[])?;

@@ -2,7 +2,7 @@
 use Rattle.std.proofs.Common.{◌≡◌, ℕ, suc, ◌+◌, ◌^◌, ◌<◌, true, false, eqb, List, [], ◌∷◌, ◌++◌, length, map, Some, None, Result, Ok, refl, sym, ap, subst, ◌∙◌, append_assoc, arith, eq-eqb}
 use Rattle.std.specs.List.{list_all}
 use Rattle.std.proofs.lemmas.List.{append-nil, map-append, length-append, length-map}
-use Rattle.std.proofs.lemmas.List.Concat.{flat_map-append, flat_map-cons}
+use Rattle.std.proofs.lemmas.List.Concat.{flat_map-append}
 use Rattle.line_format.specs.Forms.{numbers_of, hex_of, hex_bytes, is_printable}
 use Rattle.line_format.specs.Rows.{Row, row, text_of, fields_of_row}
 use Rattle.line_format.specs.Machine.{Leads, HasNoNewline, text_of_lines}
@@ -12,6 +12,7 @@ use Rattle.line_format.proofs.ReadingLines.{Goes, goes-append, goes-leads}
 use Rattle.line_format.proofs.FormsOfRows.{finds}
 use Rattle.line_format.proofs.LinesOfRows.{IsRow, bare, row_plain, row_printable, row_cut, hex_of-spell, text_is_lines}
 use Rattle.line_format.proofs.LawsOfTexts.{IsForward, spelled_is_read}
+use Rattle.line_format.proofs.RowTexts.{line-cons}
 use Rattle.lawful_history.specs.declared.line.Line.{Line}
 use Rattle.scenario_text.specs.Scenario.{World}
 use Rattle.scenario_text.specs.Table as scenario_table
@@ -128,9 +129,6 @@ spelled_leads r is =
     let whole : Goes machine AtFirst (body r) (InHistory v w r.lines) = (InScenario v at_start, first_plain v one, first_step v one, refl, all) in
     goes-leads machine AtFirst (body r) (InHistory v w r.lines) (count_line r.lines) (Whole v w r.lines) whole (row_plain pieces_of all_forms is_table (row Count (length r.lines ∷ []) []) (count_row r.lines is.count)) (count_step v w r.lines is.count) refl
 
-line-cons : (line : List ℕ) (lines : List (List ℕ)) → text_of_lines (line ∷ lines) ≡ line ++ 10 ∷ text_of_lines lines
-line-cons line lines = flat_map-cons (λ l. l ++ 10 ∷ []) line lines ∙ append_assoc line (10 ∷ []) (text_of_lines lines)
-
 lines-append : (ls ms : List (List ℕ)) → text_of_lines (ls ++ ms) ≡ text_of_lines ls ++ text_of_lines ms
 lines-append ls ms = flat_map-append (λ l. l ++ 10 ∷ []) ls ms
 
@@ -151,14 +149,16 @@ counted r =
     omega arith
 
 pub is_forward : IsForward machine sense IsSpelling line_count
-is_forward r bytes is = record {
-  lines = body r ++ count_line r.lines ∷ [];
-  at_end = Whole r.version r.world r.lines;
-  text = is.1 ∙ text_is r;
-  leads = spelled_leads r is.0;
-  says = refl;
-  counted = counted r;
+is_forward = record {
+  has = λ r bytes is. record {
+    lines = body r ++ count_line r.lines ∷ [];
+    at_end = Whole r.version r.world r.lines;
+    text = is.1 ∙ text_is r;
+    leads = spelled_leads r is.0;
+    says = refl;
+    counted = counted r;
+  };
 }
 
 pub is_answered : (r : Record) (bytes : List ℕ) → IsSpelling r bytes → answer bytes ≡ Ok r
-is_answered r bytes is = spelled_is_read machine sense IsSpelling line_count is_forward r bytes is
+is_answered r bytes is = spelled_is_read is_forward r bytes is

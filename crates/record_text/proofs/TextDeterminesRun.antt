@@ -15,7 +15,6 @@ use Rattle.lawful_history.specs.declared.line.Line.{Line}
 use Rattle.scenario_text.specs.declared.faults.ScenarioFault.{ScenarioFault}
 use Rattle.scenario_text.specs.Scenario.{World, IsWorld}
 use Rattle.scenario_text.specs.Judge as scenario_judge
-use Rattle.scenario_text.specs.Laws.{line_count}
 use Rattle.scenario_text.specs.Spelling as scenario
 use Rattle.scenario_text.proofs.SpelledIsRead as scenario_laws
 use Rattle.record_text.specs.declared.forms.LineForm.TheVariants.{Count}
@@ -43,7 +42,7 @@ no_beginning : (w v : World) (s t : List ℕ) → IsWorld w → IsWorld v → sc
 no_beginning w v s t is is' e lt = let a = scenario.spelling w in let b = scenario.spelling v in
     let cut : a ≡ take (length a) b = sym (take-append_seam a s) ∙ (ap (take (length a)) e ∙ take-append-le (length a) b t (omega arith)) in
     let read : scenario_judge.answer a ≡ Ok w = scenario_laws.is_answered w a (is, refl) in
-    let none = cut_is_no_end scenario_judge.machine scenario_judge.sense scenario.IsSpelling line_count scenario_laws.is_forward v b (length a) (is', refl) lt in
+    let none = cut_is_no_end scenario_laws.is_forward v b (length a) (is', refl) lt in
     let clash = sym read ∙ (ap scenario_judge.answer cut ∙ none) in absurd cc
 
 -- The text of a scenario and the text after it.

@@ -9,13 +9,15 @@ use Rattle.std.proofs.lemmas.List.Sums.{sum_by-cons, sum_by-append}
 use Rattle.std.proofs.lemmas.Bool.{le-leb}
 use Rattle.line_format.proofs.LinesAreCut.{are_true}
 use Rattle.line_format.proofs.TestChains.{same_some}
+use Rattle.section_map.specs.declared.limits.TheConstants.{PAGE}
 use Rattle.section_map.specs.Faults.{shape_of}
 use Rattle.section_map.specs.Geometry.{Shape, IsShape}
+use Rattle.split_ring.specs.declared.sizes.TheConstants.{FRAME_OVERHEAD, LEAST_MTU, SHORTEST_FRAME}
 use Rattle.split_ring.specs.Layout.{Sizes, queue_size}
 use Rattle.pci_space.specs.declared.wiring.Wiring.TheVariants.{Msix}
 use Rattle.scenario_text.specs.declared.acts.Act.{Act}
 use Rattle.scenario_text.specs.declared.acts.Act.TheVariants.{Auto, Offer, Turn}
-use Rattle.scenario_text.specs.declared.limits.TheConstants.{LOAD_STEPS, MOST_LOAD}
+use Rattle.scenario_text.specs.declared.limits.TheConstants.{LOAD_OUT, LOAD_ROUNDS, LOAD_STEPS, MOST_LOAD}
 use Rattle.scenario_text.specs.Acts.{cost, turns_of, has_auto, has_call}
 use Rattle.scenario_text.specs.Scenario.{World, IsAllowed, AreAllowed, IsWorld}
 use Rattle.scenario_text.specs.Loads.{load_frame, load_offers, rounds, load_acts, load_world}
@@ -26,8 +28,8 @@ use Rattle.scenario_text.proofs.SizeTests.{has_queue}
 abbrev world_with : List Act → World
 world_with acts = record {
   version = 1;
-  geometry = shape_of 2 4096 0 16384;
-  queue = record { version = 1; out = 16384; mtu = 256 };
+  geometry = shape_of 2 PAGE 0 LOAD_OUT;
+  queue = record { version = 1; out = LOAD_OUT; mtu = LEAST_MTU };
   wiring = Msix 2;
   honest = true ∷ true ∷ [];
   acts = acts;
@@ -39,8 +41,8 @@ world_with acts = record {
 abbrev IsFree : List Act → Act → Type 0
 IsFree acts act = (before : List Act) → IsAllowed (world_with acts) before act
 
-frame_length : (k : ℕ) → length (load_frame k) ≡ 14 + k % 3
-frame_length k = length-map-range_with_len (λ j. (31 * k + 7 * j) % 256) 0 (14 + k % 3)
+frame_length : (k : ℕ) → length (load_frame k) ≡ SHORTEST_FRAME + k % 3
+frame_length k = length-map-range_with_len (λ j. (31 * k + 7 * j) % 256) 0 (SHORTEST_FRAME + k % 3)
 
 frame_bytes : (k a n i : ℕ) → get_or (map (λ j. (31 * k + 7 * j) % 256) (range_with_len a n)) i 0 < 256
 frame_bytes k a zero i = omega arith
@@ -52,11 +54,11 @@ offer_free acts k before =
     let size = frame_length k in
     record {
       values = (omega arith, omega arith, tt);
-      bytes = λ i. frame_bytes k 0 (14 + k % 3) i;
+      bytes = λ i. frame_bytes k 0 (SHORTEST_FRAME + k % 3) i;
       order = refl;
       range = refl;
       peer = refl;
-      frame = are_true _ _ (le-leb 14 (length (load_frame k)) (omega arith)) (le-leb (length (load_frame k)) (256 + 18) (omega arith));
+      frame = are_true _ _ (le-leb SHORTEST_FRAME (length (load_frame k)) (omega arith)) (le-leb (length (load_frame k)) (LEAST_MTU + FRAME_OVERHEAD) (omega arith));
     }
 
 first_turn_free : (acts : List Act) → IsFree acts (Turn 0 LOAD_STEPS)
@@ -107,7 +109,7 @@ offers_cost a (suc n) =
     let one = sum_by-cons cost (Offer 0 (load_frame a)) (map (λ k. Offer 0 (load_frame k)) (range_with_len (a + 1) n)) in
     omega arith
 
-rounds_cost : (a n : ℕ) → turns_of (flat_map (λ _. Turn 0 LOAD_STEPS ∷ Turn 1 LOAD_STEPS ∷ []) (range_with_len a n)) ≡ 128 * n
+rounds_cost : (a n : ℕ) → turns_of (flat_map (λ _. Turn 0 LOAD_STEPS ∷ Turn 1 LOAD_STEPS ∷ []) (range_with_len a n)) ≡ 2 * LOAD_STEPS * n
 rounds_cost a zero = refl
 rounds_cost a (suc n) =
     let later = flat_map (λ _. Turn 0 LOAD_STEPS ∷ Turn 1 LOAD_STEPS ∷ []) (range_with_len (a + 1) n) in
@@ -116,24 +118,24 @@ rounds_cost a (suc n) =
     let two = sum_by-cons cost (Turn 1 LOAD_STEPS) later in
     omega arith
 
-pub load_turns : (count : ℕ) → turns_of (load_acts count) ≡ 2 + count + 128 * (200 + (count + 2) / 3)
+pub load_turns : (count : ℕ) → turns_of (load_acts count) ≡ 2 + count + 2 * LOAD_STEPS * (LOAD_ROUNDS + (count + 2) / 3)
 unfolding load_offers rounds
 load_turns count =
     let offers = offers_cost 0 count in
-    let turns = rounds_cost 0 (200 + (count + 2) / 3) in
-    let both = sum_by-append cost (load_offers count) (rounds LOAD_STEPS (200 + (count + 2) / 3)) in
-    let all = load_offers count ++ rounds LOAD_STEPS (200 + (count + 2) / 3) in
+    let turns = rounds_cost 0 (LOAD_ROUNDS + (count + 2) / 3) in
+    let both = sum_by-append cost (load_offers count) (rounds LOAD_STEPS (LOAD_ROUNDS + (count + 2) / 3)) in
+    let all = load_offers count ++ rounds LOAD_STEPS (LOAD_ROUNDS + (count + 2) / 3) in
     let first = sum_by-cons cost (Auto 0 0) (Auto 1 count ∷ all) in
     let second = sum_by-cons cost (Auto 1 count) all in
     omega arith
 
 -- ---- the scenario
 
-pub least_queue : is_queue (record { version = 1; out = 16384; mtu = 256 }) ≡ true
+pub least_queue : is_queue (record { version = 1; out = LOAD_OUT; mtu = LEAST_MTU }) ≡ true
 unfolding is_queue queue_size
 least_queue = refl
 
-has_shape : IsShape (shape_of 2 4096 0 16384)
+has_shape : IsShape (shape_of 2 PAGE 0 LOAD_OUT)
 has_shape = record {
   two_peers = omega arith;
   most_peers = omega arith;
@@ -162,7 +164,7 @@ load_is_world count few = let turns = load_turns count in record {
 }
 
 -- The scenario from its parts.
-pub made_of : (geometry : Shape) (queue : Sizes) (honest : List Bool) (acts : List Act) (count : ℕ) → geometry ≡ shape_of 2 4096 0 16384 → queue ≡ record { version = 1; out = 16384; mtu = 256 } → honest ≡ true ∷ true ∷ [] → acts ≡ load_acts count →
+pub made_of : (geometry : Shape) (queue : Sizes) (honest : List Bool) (acts : List Act) (count : ℕ) → geometry ≡ shape_of 2 PAGE 0 LOAD_OUT → queue ≡ record { version = 1; out = LOAD_OUT; mtu = LEAST_MTU } → honest ≡ true ∷ true ∷ [] → acts ≡ load_acts count →
     ◌≡◌ {A = World} (record { version = 1; geometry = geometry; queue = queue; wiring = Msix 2; honest = honest; acts = acts }) (load_world count)
 unfolding load_world
 made_of geometry queue honest acts count a b c d = cc

@@ -1,16 +1,16 @@
 -- The spelling of a scenario is read as the scenario.
-use Rattle.std.proofs.Common.{◌≡◌, ℕ, ◌+◌, ◌*◌, ◌/◌, ◌%◌, ◌^◌, ◌<◌, ◌≤◌, Bool, true, false, cond, eqb, List, [], ◌∷◌, ◌++◌, length, take, map, Some, Ok, refl, sym, ap, subst, ◌∙◌, append_assoc, arith, eq-eqb}
+use Rattle.std.proofs.Common.{◌≡◌, ℕ, ◌*◌, ◌/◌, ◌%◌, ◌^◌, ◌<◌, ◌≤◌, Bool, true, false, cond, eqb, List, [], ◌∷◌, ◌++◌, length, take, map, Some, Ok, refl, sym, ap, subst, arith, eq-eqb}
 use Rattle.std.specs.Prelude.{slice_get, max}
 use Rattle.std.proofs.lemmas.Bool.{ne_eqb}
-use Rattle.std.proofs.lemmas.List.{append-nil, length-append}
-use Rattle.std.proofs.lemmas.List.Sums.{sum_by_push, sum_by-append}
+use Rattle.std.proofs.lemmas.List.{length-append}
 use Rattle.line_format.specs.Rows.{Row, row}
 use Rattle.line_format.specs.Machine.{Leads, text_of_lines}
+use Rattle.line_format.proofs.ListLaws.{sum_up_to}
 use Rattle.line_format.proofs.PartLaws.{no_rule, same_number}
 use Rattle.line_format.proofs.LinesOfRows.{bare, text_is_lines}
 use Rattle.line_format.proofs.LawsOfTexts.{IsForward, spelled_is_read}
 use Rattle.line_format.proofs.RowTexts as all
-use Rattle.line_format.proofs.RowTexts.{Reaches, rows_lead, rows_are_lines}
+use Rattle.line_format.proofs.RowTexts.{Reaches, numbered_along, mapped_along, rows_lead, rows_forward}
 use Rattle.section_map.specs.Geometry.{Shape, IsShape}
 use Rattle.pci_space.specs.declared.wiring.Wiring.{Wiring}
 use Rattle.pci_space.specs.declared.wiring.Wiring.TheVariants as wirings
@@ -21,13 +21,13 @@ use Rattle.scenario_text.specs.declared.forms.Form.{Form}
 use Rattle.scenario_text.specs.declared.forms.Form.TheVariants.{Version, Peers, Table, Common, Out, Mtu, Begin, End}
 use Rattle.scenario_text.specs.declared.positions.Position.TheVariants.{AtWiring, AtPeer, AtBegin, AtActs, Ended, AtPeers}
 use Rattle.scenario_text.specs.declared.limits.TheConstants.{MOST_ACTS}
-use Rattle.scenario_text.specs.Acts.{cost, turns_of}
+use Rattle.scenario_text.specs.Acts.{cost}
 use Rattle.scenario_text.specs.Table.{pieces_of}
 use Rattle.scenario_text.specs.ActRows.{row_of_act}
 use Rattle.scenario_text.specs.Sizes.{is_geometry, is_queue}
 use Rattle.scenario_text.specs.Scenario.{World, IsWorld, IsAllowed}
 use Rattle.scenario_text.specs.Spelling.{row_of_wiring, row_of_peer, rows_of_peers, rows_of, spelling, IsSpelling}
-use Rattle.scenario_text.specs.Judge.{DraftView, world_of_draft, ordinal_of, at_start, has_ended, rules, machine, sense, answer}
+use Rattle.scenario_text.specs.Judge.{DraftView, world_of_draft, ordinal_of, at_start, rules, machine, sense, answer}
 use Rattle.scenario_text.specs.Laws.{line_count}
 use Rattle.scenario_text.proofs.FormsAreTable.{is_table}
 use Rattle.scenario_text.proofs.SizeTests.{HasRegion, is_geometry-true, is_queue-true}
@@ -117,17 +117,13 @@ peer_gives : (version peers table common out mtu : ℕ) (wiring : Wiring) (front
 peer_gives version peers table common out mtu wiring front p true = refl
 peer_gives version peers table common out mtu wiring front p false = refl
 
-peers_along : (version peers table common out mtu : ℕ) (wiring : Wiring) (front rest : List Bool) (p : ℕ) → p ≡ length front → length front + length rest ≡ peers → peers ≤ 8
-    → Along (at_peers version peers table common out mtu wiring front) (rows_of_peers p rest) (at_peers version peers table common out mtu wiring (front ++ rest))
-peers_along version peers table common out mtu wiring front [] p same all few = ap (at_peers version peers table common out mtu wiring) (sym (append-nil front))
-peers_along version peers table common out mtu wiring front (b ∷ rest) p same all few =
-    let one : length (front ++ b ∷ []) ≡ length front + 1 = length-append front (b ∷ []) in
-    let P : DraftView → Type 0 = λ x. (has_ended x ≡ false) × Along x (rows_of_peers (p + 1) rest) (at_peers version peers table common out mtu wiring (front ++ b ∷ rest)) in
-    let whole : (front ++ b ∷ []) ++ rest ≡ front ++ b ∷ rest = append_assoc front (b ∷ []) rest in
-    let later = subst (λ (bs : List Bool). Along (at_peers version peers table common out mtu wiring (front ++ b ∷ [])) (rows_of_peers (p + 1) rest) (at_peers version peers table common out mtu wiring bs)) whole
-    (peers_along version peers table common out mtu wiring (front ++ b ∷ []) rest (p + 1) (omega arith) (omega arith) few) in
-    let t = subst P (sym (peer_gives version peers table common out mtu wiring front p b)) (not_ended _, later) in
-    (peer_follows version peers table common out mtu wiring front p b same (omega arith) few, t.0, t.1)
+peers_along : (version peers table common out mtu : ℕ) (wiring : Wiring) (honest : List Bool) → length honest ≡ peers → peers ≤ 8
+    → Along (at_peers version peers table common out mtu wiring []) (rows_of_peers 0 honest) (at_peers version peers table common out mtu wiring honest)
+peers_along version peers table common out mtu wiring honest all few = numbered_along rules (at_peers version peers table common out mtu wiring) row_of_peer honest (λ front rest b is. record {
+  follows = peer_follows version peers table common out mtu wiring front (length front) b refl (omega (arith, ap length is, length-append front (b ∷ rest))) few;
+  gives = peer_gives version peers table common out mtu wiring front (length front) b;
+  continues = not_ended _;
+})
 
 -- ---- the acts
 
@@ -154,23 +150,14 @@ front_of : (front rest : List Act) → take (length front) (front ++ rest) ≡ f
 front_of [] rest = refl
 front_of (b ∷ front) rest = ap (λ (t : List Act). b ∷ t) (front_of front rest)
 
-acts_along : (w : World) (front rest : List Act) → IsWorld w → w.acts ≡ front ++ rest → Along (at_acts w front) (map row_of_act rest) (at_acts w (front ++ rest))
-acts_along w front [] is all = ap (at_acts w) (sym (append-nil front))
-acts_along w front (a ∷ rest) is all =
+acts_along : (w : World) → IsWorld w → Along (at_acts w []) (map row_of_act w.acts) (at_acts w w.acts)
+acts_along w is = mapped_along rules (at_acts w) row_of_act w.acts (λ front rest a all.
     let at : slice_get w.acts (length front) ≡ Some a = rw all (act_at front a rest) in
     let here : take (length front) w.acts ≡ front = rw all (front_of front (a ∷ rest)) in
     let allowed : IsAllowed w front a = subst (λ (before : List Act). IsAllowed w before a) here (is.allowed (length front) a at) in
     let allowed' : IsAllowed (record w { acts = front }) front a = record { values = allowed.values; bytes = allowed.bytes; order = allowed.order; range = allowed.range; peer = allowed.peer; frame = allowed.frame } in
     let allowed'' : IsAllowed (world_of_draft (at_acts w front)) front a = subst (λ (x : World). IsAllowed x front a) (sym (world_is w front is)) allowed' in
-    let whole : (front ++ a ∷ []) ++ rest ≡ front ++ a ∷ rest = append_assoc front (a ∷ []) rest in
-    let up_to : turns_of (front ++ a ∷ []) ≡ turns_of front + cost a = sum_by_push cost front a in
-    let turns : turns_of (front ++ a ∷ []) + turns_of rest ≡ turns_of w.acts = sym (sum_by-append cost (front ++ a ∷ []) rest) ∙ ap turns_of (whole ∙ sym all) in
-    let most = is.turns in
-    let few : turns_of front + cost a ≤ MOST_ACTS = omega arith in
-    let later = subst (λ (acts : List Act). Along (at_acts w (front ++ a ∷ [])) (map row_of_act rest) (at_acts w acts)) whole (acts_along w (front ++ a ∷ []) rest is (all ∙ sym whole)) in
-    let P : DraftView → Type 0 = λ x. (has_ended x ≡ false) × Along x (map row_of_act rest) (at_acts w (front ++ a ∷ rest)) in
-    let t = subst P (sym (act_gives (at_acts w front) a)) (refl, later) in
-    (follows_act (at_acts w front) a refl allowed'' few, t.0, t.1)
+    record { follows = follows_act (at_acts w front) a refl allowed'' (sum_up_to cost w.acts front rest a MOST_ACTS all is.turns); gives = act_gives (at_acts w front) a; continues = refl })
 
 -- ---- the whole text
 
@@ -239,7 +226,7 @@ head_along w is =
     let sizes = sizes_along w.version g.peers (4 * g.table) (4 * g.common) (4 * g.out) w.queue.mtu (two, few) t c o m (is_geometry-true _ _ _ _ region) known queue in
     let wires = wiring_along w.version g.peers (4 * g.table) (4 * g.common) (4 * g.out) w.queue.mtu w.wiring two is.wiring in
     let flags = is.flags in
-    let peers = peers_along w.version g.peers (4 * g.table) (4 * g.common) (4 * g.out) w.queue.mtu w.wiring [] w.honest 0 refl (omega arith) few in
+    let peers = peers_along w.version g.peers (4 * g.table) (4 * g.common) (4 * g.out) w.queue.mtu w.wiring w.honest flags few in
     let full : eqb (length w.honest) g.peers ≡ true = eq-eqb _ _ flags in
     let full_state : DraftView = at_peers w.version g.peers (4 * g.table) (4 * g.common) (4 * g.out) w.queue.mtu w.wiring w.honest in
     let begin : CanFollow full_state (row Begin [] []) = record { values = tt; bytes = refl; order = rw full refl; range = refl; peer = refl; size = refl; sizes = refl; room = refl } in
@@ -250,7 +237,7 @@ head_along w is =
 -- The rows of a scenario lead to its end.
 spelled_reaches : (w : World) → IsWorld w → Reaches rules at_start (rows_of w) (at_end w)
 spelled_reaches w world =
-    let acts = acts_along w [] w.acts world refl in
+    let acts = acts_along w world in
     let end : CanFollow (at_acts w w.acts) (row End [] []) = record { values = tt; bytes = refl; order = refl; range = refl; peer = refl; size = refl; sizes = refl; room = refl } in
     record {
       front = acted w;
@@ -264,7 +251,7 @@ spelled_reaches w world =
     }
 
 pub is_forward : IsForward machine sense IsSpelling line_count
-is_forward w bytes is = rows_are_lines rules sense rows_of is_table w (at_end w) (spelled_reaches w is.0) (ap (λ (x : World). Ok x) (world_is w w.acts is.0)) bytes is.1
+is_forward = rows_forward rules sense rows_of IsWorld at_end is_table spelled_reaches (λ w is. ap (λ (x : World). Ok x) (world_is w w.acts is))
 
 -- The lines of a scenario's rows lead to its end.
 pub spelled_leads : (w : World) → IsWorld w → Leads machine at_start (map (bare pieces_of) (rows_of w)) (at_end w)
@@ -274,4 +261,4 @@ pub text_is : (w : World) → spelling w ≡ text_of_lines (map (bare pieces_of)
 text_is w = text_is_lines pieces_of (rows_of w)
 
 pub is_answered : (w : World) (bytes : List ℕ) → IsSpelling w bytes → answer bytes ≡ Ok w
-is_answered w bytes is = spelled_is_read machine sense IsSpelling line_count is_forward w bytes is
+is_answered w bytes is = spelled_is_read is_forward w bytes is

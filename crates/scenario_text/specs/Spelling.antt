@@ -1,6 +1,6 @@
 -- Scenarios as texts: the rows of a scenario, one line each. So a scenario has one spelling.
-use Rattle.std.specs.Prelude.{◌≡◌, ℕ, ◌*◌, Bool, true, false, List, [], ◌∷◌, ◌++◌, map}
-use Rattle.line_format.specs.Rows.{Row, row, text_of, numbered}
+use Rattle.std.specs.Prelude.{◌≡◌, ℕ, ◌*◌, Bool, List, [], ◌∷◌, ◌++◌, map}
+use Rattle.line_format.specs.Rows.{Row, row, text_of, flag_row, numbered}
 use Rattle.pci_space.specs.declared.wiring.Wiring.{Wiring}
 use Rattle.pci_space.specs.declared.wiring.Wiring.TheVariants as wirings
 use Rattle.scenario_text.specs.declared.forms.Form.{Form}
@@ -19,8 +19,7 @@ row_of_wiring (wirings.Msix vectors) = row Msix (vectors ∷ []) []
 row_of_wiring wirings.Intx = row Intx [] []
 
 abbrev pub row_of_peer : ℕ → Bool → Row Form
-row_of_peer p true = row Honest (p ∷ []) []
-row_of_peer p false = row Hostile (p ∷ []) []
+row_of_peer p is_honest = flag_row Honest Hostile p is_honest
 
 -- The peers in their order, from p on.
 abbrev pub rows_of_peers : ℕ → List Bool → List (Row Form)

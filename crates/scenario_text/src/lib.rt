@@ -42,7 +42,7 @@ pub use faults::{Cause, ScenarioFault};
 pub use laws::{
     bytes_after_end_are_bad_line, cut_is_no_end, fault_is_first, printed_is_read_again,
 };
-pub use limits::{LOAD_STEPS, LONGEST_TEXT, MOST_ACTS, MOST_LOAD};
+pub use limits::{LOAD_OUT, LOAD_ROUNDS, LOAD_STEPS, LONGEST_TEXT, MOST_ACTS, MOST_LOAD};
 pub use loads::{load, push_rounds};
 pub use printing::{print, put_scenario};
 pub use reading::parse;

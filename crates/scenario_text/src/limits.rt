@@ -11,3 +11,9 @@ pub const MOST_LOAD: u32 = 80_000;
 
 /// The number of steps in a turn line of a load (profile).
 pub const LOAD_STEPS: u32 = 64;
+
+/// The number of rounds of a load in addition to one for each three frames (profile).
+pub const LOAD_ROUNDS: u32 = 200;
+
+/// The size of an output section of a load, in bytes: four pages (profile).
+pub const LOAD_OUT: u64 = 16_384;

@@ -6,19 +6,19 @@ ghost use Rattle.scenario_text.specs.Spelling.{world_of};
 ghost use Rattle.scenario_text.specs.Loads.{load_frame, load_offers, rounds, load_acts, load_world};
 
 use crate::acts::{Act, Acts, Flags};
-use crate::limits::LOAD_STEPS;
+use crate::limits::{LOAD_OUT, LOAD_ROUNDS, LOAD_STEPS};
 use crate::scenarios::Scenario;
 use ivs_base::{Frame, NoMemory};
 use pci_space::Wiring;
-use section_map::Geometry;
-use split_ring::Queue;
+use section_map::{Geometry, PAGE};
+use split_ring::{LEAST_MTU, Queue, SHORTEST_FRAME};
 use std::alloc::{AllocError, Global};
 
 /// Returns the bytes of frame `number`, from 0.
 fn frame_bytes(alloc: Global, number: u32) -> Result<Vec<u8>, AllocError>
     ensures { IfOk result (λ bytes. bytes.items ≡ load_frame number) }
 {
-    let size = 14 + number % 3;
+    let size = SHORTEST_FRAME + number % 3;
     let first = 31 * u64::from(number);
     (0..size)
         .map(|place| ((first + 7 * u64::from(place)) % 256) as u8)
@@ -68,15 +68,15 @@ fn acts(alloc: Global, count: u32) -> Result<Acts, NoMemory>
         expect: u64::from(count),
     })?;
     push_offers(alloc, &mut acts, count)?;
-    push_rounds(&mut acts, LOAD_STEPS, 200 + (count + 2) / 3)?;
+    push_rounds(&mut acts, LOAD_STEPS, LOAD_ROUNDS + (count + 2) / 3)?;
     Ok(acts)
 }
 
 /// Returns the region: a page for the State Table, and four pages for each of two peers.
 fn region() -> Geometry
-    ensures { result ≡ shape_of 2 4096 0 16384 }
+    ensures { result ≡ shape_of 2 PAGE 0 LOAD_OUT }
 {
-    match Geometry::new(2, 4096, 0, 16_384) {
+    match Geometry::new(2, PAGE, 0, LOAD_OUT) {
         Ok(geometry) => geometry,
         Err(_) => unreachable!(),
     }
@@ -84,17 +84,18 @@ fn region() -> Geometry
 
 /// Returns the queue of such a section, for the least MTU.
 fn section() -> Queue
-    ensures { result ≡ record { version = 1; out = 16384; mtu = 256 } }
+    ensures { result ≡ record { version = 1; out = LOAD_OUT; mtu = LEAST_MTU } }
 {
-    match Queue::of(16_384, 256) {
+    match Queue::of(LOAD_OUT, LEAST_MTU) {
         Ok(queue) => queue,
         Err(_) => unreachable!(),
     }
 }
 
 /// Returns the scenario of a load of `count` frames, 1 to `MOST_LOAD` (profile). Peer 0 offers
-/// them, and peer 1 chooses its calls until it has delivered them. After the offers come 200 rounds
-/// of turns, and one more for each three frames. Returns `NoMemory` if an allocation fails.
+/// them, and peer 1 chooses its calls until it has delivered them. After the offers come
+/// `LOAD_ROUNDS` rounds of turns, and one more for each three frames. Returns `NoMemory` if an
+/// allocation fails.
 // claim: The scenario of a load of N frames has two automatic peers, N offers of peer 0, and 200
 //    rounds of turns plus one more for each three frames.
 pub fn load(alloc: Global, count: u32) -> Result<Scenario, NoMemory>

@@ -3,6 +3,7 @@
 use crate::answers::{Answer, Question};
 use ivs_base::NoMemory;
 use record_text::{Reader, RecordFault, Trace};
+use scenario_text::MOST_LOAD;
 use std::alloc::Global;
 use std::fmt::Debug;
 use std::io;
@@ -51,7 +52,7 @@ fn running(alloc: Global, input: &[u8]) -> io::Result<Answer> {
 
 /// Makes the scenario of a load of `count` frames and prints it.
 fn load(alloc: Global, count: u32) -> io::Result<Answer> {
-    let scenario = scenario_text::load(alloc, count.clamp(1, 80_000)).map_err(
+    let scenario = scenario_text::load(alloc, count.clamp(1, MOST_LOAD)).map_err(
         |_| ErrorKind::OutOfMemory,
     )?;
     answered(scenario_text::print(alloc, &scenario))

@@ -1,9 +1,6 @@
 use Rattle.line_format.proofs.LawsOfTexts.{cut_is_no_end}
-use Rattle.frame_bridge.specs.Spelling.{IsSpelling}
-use Rattle.frame_bridge.specs.Judge.{machine, sense}
-use Rattle.frame_bridge.specs.TextLaws.{line_count}
 use Rattle.frame_bridge.proofs.SpelledIsRead.{is_forward}
 use Rattle.frame_bridge.proofs.text_laws.cut_is_no_end.Goals as goal
 
 pub returns : goal.returns
-returns c = cut_is_no_end machine sense IsSpelling line_count is_forward
+returns c = cut_is_no_end is_forward

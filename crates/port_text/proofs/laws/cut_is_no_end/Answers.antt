@@ -1,9 +1,6 @@
 use Rattle.line_format.proofs.LawsOfTexts.{cut_is_no_end}
-use Rattle.port_text.specs.Spelling.{IsSpelling}
-use Rattle.port_text.specs.Judge.{machine, sense}
-use Rattle.port_text.specs.Laws.{line_count}
 use Rattle.port_text.proofs.SpelledIsRead.{is_forward}
 use Rattle.port_text.proofs.laws.cut_is_no_end.Goals as goal
 
 pub returns : goal.returns
-returns c = cut_is_no_end machine sense IsSpelling line_count is_forward
+returns c = cut_is_no_end is_forward

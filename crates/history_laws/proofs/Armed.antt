@@ -3,7 +3,7 @@
 use Rattle.std.proofs.Common.{◌≡◌, ◌≢◌, ℕ, zero, suc, ◌+◌, ◌-◌, ◌%◌, ◌<◌, Bool, true, false, List, [], ◌∷◌, ◌++◌, length, refl, sym, ap, ◌∙◌, subst}
 use Rattle.std.specs.Prelude.{◌==◌, ◌||◌, not, if◌then◌else◌}
 use Rattle.split_ring.specs.declared.ranges.FieldName.TheVariants as field_name
-use Rattle.split_ring.specs.Layout.{has_events, limit_of}
+use Rattle.split_ring.specs.Layout.{has_events}
 use Rattle.split_ring.specs.Spelling.{low_half, high_half, desc_flags}
 use Rattle.split_ring.specs.Ranges.{is_avail_entry, is_desc_address, is_desc_length, is_desc_flags, is_used_id, is_avail_index, is_used_index}
 use Rattle.link_handshake.specs.declared.Phase.{Phase}
@@ -18,7 +18,7 @@ use Rattle.call_grammar.specs.Ticks.{tick_marks}
 use Rattle.call_grammar.specs.Calls.{EndConfig, Call, Tick, Stop, Offer, Poll, in_run, pending_of}
 use Rattle.call_grammar.specs.Offers.{PendingOffer, frame_fits, descriptor_of, refusal, full_marks, returned_by, reclaim_marks, wants_doorbell}
 use Rattle.call_grammar.specs.Polls.{is_last, entry_in, published_by, look_marks}
-use Rattle.call_grammar.specs.Places.{Place, Closed, ReadingOtherState, Clearing, WritingState, Refusing, NotInRun, ReadingUsedIndex, ReadingUsedId, WritingFrameWord, WritingDescAddressLow, WritingDescAddressHigh, WritingDescLength, WritingDescFlags, WritingAvailEntry, WritingAvailIndex, ReadingAvailEvent, RingingOffer, ReadingAvailIndex, WritingAvailEvent, ReadingAvailEntry, ReadingDescAddressLow, ReadingDescAddressHigh, ReadingDescLength, ReadingDescFlags, ReadingFrameWord, WritingUsedId, WritingUsedLength, WritingUsedIndex, RingingPoll, clear_place, tick_place, fill_place, ids_place, items_place, words_place, first_place, access_at, next_place, step_at, is_open}
+use Rattle.call_grammar.specs.Places.{Place, Closed, ReadingOtherState, Clearing, WritingState, Refusing, NotInRun, ReadingUsedIndex, ReadingUsedId, WritingFrameWord, WritingAvailIndex, ReadingAvailEvent, RingingOffer, ReadingAvailIndex, WritingAvailEvent, ReadingAvailEntry, ReadingDescAddressLow, ReadingDescAddressHigh, ReadingDescLength, ReadingDescFlags, ReadingFrameWord, WritingUsedId, WritingUsedLength, WritingUsedIndex, RingingPoll, clear_place, tick_place, fill_place, ids_place, items_place, words_place, first_place, access_at, next_place, step_at, is_open}
 use Rattle.link_invariant.specs.Fields.{AvailEvent}
 use Rattle.link_invariant.specs.LinkConfig.{LinkConfig, IsLinkConfig, config_of, fields}
 use Rattle.link_invariant.specs.Steps.{MemoryAfter}
@@ -201,36 +201,26 @@ module _ (link_config : LinkConfig) (p : ℕ) (memory : ℕ → ℕ) (event : �
 
   -- A step that leaves avail_event unchanged.
   step_armed : (place : Place) → ((taken : ℕ) → place ≢ WritingAvailEvent taken) → ComesArmed place
-  step_armed Closed apart h a = a
   step_armed (ReadingOtherState handshake) apart h a = tick_armed (config_of link_config p) event end value (move_of handshake value) a
   step_armed (Clearing at more state) apart h a = clear_armed event (with_access end (access_at (config_of link_config p) (Clearing at more state))) (at + 1) more state a
   step_armed (WritingState state) apart h a = sets state h a
   step_armed Refusing apart h a = (λ ready. cc, λ run none. cc)
-  step_armed NotInRun apart h a = a
   step_armed (ReadingUsedIndex pending freed) apart h a = used_index pending freed h a
   step_armed (ReadingUsedId pending freed more) apart h a = used_id pending freed more h a
   step_armed (WritingFrameWord pending at more) apart h a = fill_armed event (with_access end (access_at (config_of link_config p) (WritingFrameWord pending at more))) pending (at + 1) more a
-  step_armed (WritingDescAddressLow pending) apart h a = a
-  step_armed (WritingDescAddressHigh pending) apart h a = a
-  step_armed (WritingDescLength pending) apart h a = a
-  step_armed (WritingDescFlags pending) apart h a = a
-  step_armed (WritingAvailEntry pending) apart h a = a
   step_armed (WritingAvailIndex pending) apart h a = either (ArmedIs event (end_after end (step_at (config_of link_config p) (WritingAvailIndex pending) value))) (has_events link_config.sizes) (ReadingAvailEvent pending.number) RingingOffer a a
   step_armed (ReadingAvailEvent number) apart h a = by_test event end (wants_doorbell (low_half value) number) RingingOffer Closed [] (Over ∷ []) (λ _. a) (λ _. a)
-  step_armed RingingOffer apart h a = a
   step_armed (ReadingAvailIndex taken true) apart h a = last_look taken h a
   step_armed (ReadingAvailIndex taken false) apart h a = first_look taken h a
   step_armed (WritingAvailEvent taken) apart h a = absurd (apart taken refl)
   step_armed (ReadingAvailEntry number more) apart h a = entry number more h a
-  step_armed (ReadingDescAddressLow number more entry) apart h a = a
   step_armed (ReadingDescAddressHigh number more entry low) apart h a = high number more entry low h a
   step_armed (ReadingDescLength number more entry address) apart h a = bytes_at number more entry address h a
   step_armed (ReadingDescFlags number more entry address bytes) apart h a = flags number more entry address bytes h a
   step_armed (ReadingFrameWord number more entry address bytes read words) apart h a = word number more entry address bytes read words h a
-  step_armed (WritingUsedId number more entry) apart h a = a
-  step_armed (WritingUsedLength number more) apart h a = a
   step_armed (WritingUsedIndex number more) apart h a = items_armed event (end_after end (step_at (config_of link_config p) (WritingUsedIndex number more) value)) (number + 1) more a
   step_armed RingingPoll apart h a = found_asked event end a
+  step_armed _ apart h a = a
 
 -- Each step, for all values written.
 pub armed_on : (link_config : LinkConfig) → IsLinkConfig link_config → (p : ℕ) → p < 2 → (memory after : ℕ → ℕ) (end : End) (place : Place) (value : ℕ) → is_open place ≡ true → MemoryAfter p memory (access_at (config_of link_config p) place) after → PlaceInvariant link_config memory p end place →

@@ -37,32 +37,16 @@ same_move peer (Reads word marks rest) past others same = ap (λ (value : ℕ). 
 
 same_act : (world : World) (p : ℕ) (a : Access) (past others : List Line) → SameWords past others → acted_step world p a past ≡ acted_step world p a others
 same_act world p (access.Read word) past others same = ap (λ (value : ℕ). Some (step_of (access.Read word) value [])) (same word)
-same_act world p (access.Write word written) past others same = refl
-same_act world p (access.State state) past others same = refl
-same_act world p (access.Ring target vector) past others same = refl
-same_act world p access.Nothing past others same = refl
+same_act world p _ past others same = refl
 
 same_step : (world : World) (peer : Peer) (past others : List Line) (event : Event) → SameWords past others → step_in world peer past event ≡ step_in world peer others event
-same_step world peer past others (CallQueued p call) same = refl
-same_step world peer past others (AutoStarted p expected) same = refl
-same_step world peer past others (StormStarted p seed) same = refl
 same_step world peer past others (TurnTaken p) same = same_turn world p (opened (config_of world p) peer).driver (opened (config_of world p) peer).left past others same
 same_step world peer past others (RegionAccessed p a) same = same_act world p a past others same
-same_step world peer past others (DeviceReset p) same = refl
-same_step world peer past others (DeviceAccessed p a) same = refl
-same_step world peer past others (InterruptDropped p) same = refl
-same_step world peer past others (InterruptRepeated p vector) same = refl
+same_step world peer past others _ same = refl
 
 same_peer : (world : World) (peer : Peer) (past others : List Line) (event : Event) → SameWords past others → peer_in world peer past event ≡ peer_in world peer others event
-same_peer world peer past others (CallQueued p call) same = refl
-same_peer world peer past others (AutoStarted p expected) same = refl
-same_peer world peer past others (StormStarted p seed) same = refl
 same_peer world peer past others (TurnTaken p) same = same_move (opened (config_of world p) peer) (opened (config_of world p) peer).left past others same
-same_peer world peer past others (RegionAccessed p a) same = refl
-same_peer world peer past others (DeviceReset p) same = refl
-same_peer world peer past others (DeviceAccessed p a) same = refl
-same_peer world peer past others (InterruptDropped p) same = refl
-same_peer world peer past others (InterruptRepeated p vector) same = refl
+same_peer world peer past others _ same = refl
 
 -- Two moments that differ in the devices alone
 

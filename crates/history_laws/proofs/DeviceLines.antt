@@ -1,13 +1,10 @@
 -- The lines of a history without those of the devices.
 use Rattle.std.proofs.Common.{◌≡◌, ℕ, Bool, true, false, List, [], ◌∷◌, ◌++◌, refl, sym, ◌∙◌, ap}
-use Rattle.std.specs.Prelude.{if◌then◌else◌, Option, Some, None, nat_lt, reverse, not, map}
+use Rattle.std.specs.Prelude.{if◌then◌else◌, Option, Some, None, reverse, not, map}
 use Rattle.std.specs.List.{AllByRecursion}
 use Rattle.std.proofs.lemmas.List.{append-nil, reverse-append}
 use Rattle.std.proofs.lemmas.List.Elements.{filter-append}
 use Rattle.split_ring.specs.declared.steps.Access.{Access}
-use Rattle.doorbell_irq.specs.declared.effect.Delivery.{Delivery}
-use Rattle.doorbell_irq.specs.Events as device
-use Rattle.doorbell_irq.specs.DeviceRules.{effect_of}
 use Rattle.scenario_text.specs.Scenario.{World}
 use Rattle.call_grammar.specs.Steps.{Step}
 use Rattle.lawful_history.specs.declared.line.Line.{Line}
@@ -17,52 +14,20 @@ use Rattle.lawful_history.specs.Memory as touch
 use Rattle.lawful_history.specs.Schedule.{Event, CallQueued, AutoStarted, StormStarted, TurnTaken, RegionAccessed, DeviceAccessed, InterruptDropped, InterruptRepeated, DeviceAccess, ReadsConfig, WritesConfig, ReadsRegister, WritesRegister, ReadsMsix, WritesMsix}
 use Rattle.lawful_history.specs.Schedule as event
 use Rattle.lawful_history.specs.EventRecords.{access_lines, mark_line, turn_lines, denied_lines, region_access_lines, lines_by}
-use Rattle.lawful_history.specs.Device.{devices_of, device_events, delivery_line, delivery_lines, interrupts_of_event, lost_count, device_event_of, interrupts_of_access, step_interrupts, device_access_line, device_lines}
+use Rattle.lawful_history.specs.Device.{device_access_line, device_lines}
+use Rattle.lawful_history.proofs.LinesOfDevices.{keeps_all, of_event}
 use Rattle.history_laws.specs.Devices.{is_of_device, without_devices}
 
 -- Each of these lines is of a device alone.
 abbrev pub AreOfDevices : List Line → Type 0
 AreOfDevices lines = AllByRecursion (λ line. is_of_device line ≡ true) lines
 
-arrival_of_device : (b : Bool) (p vector : ℕ) → is_of_device (if b then line.Lost p vector else line.Interrupt p vector) ≡ true
-arrival_of_device true p vector = refl
-arrival_of_device false p vector = refl
-
-arrived_of_devices : (older : List Line) (losses : ℕ → ℕ) (deliveries : List Delivery) → AreOfDevices (delivery_lines older losses deliveries)
-arrived_of_devices older losses [] = tt
-arrived_of_devices older losses (delivery ∷ deliveries) =
-    (arrival_of_device (nat_lt (lost_count older delivery.peer) (losses delivery.peer)) delivery.peer delivery.vector, arrived_of_devices (delivery_line older losses delivery ∷ older) losses deliveries)
-
-arrivals_of_devices : (world : World) (older : List Line) (losses : ℕ → ℕ) (line : Line) (side_event : Option device.Event) → AreOfDevices (interrupts_of_event world older losses line side_event)
-arrivals_of_devices world older losses line None = tt
-arrivals_of_devices world older losses line (Some e) = arrived_of_devices (line ∷ older) losses (effect_of (devices_of world) (device_events older) e).deliveries.items
-
-brought_of_devices : (world : World) (older : List Line) (losses : ℕ → ℕ) (lines : List Line) → AreOfDevices (interrupts_of_access world older losses lines)
-brought_of_devices world older losses [] = tt
-brought_of_devices world older losses (line ∷ lines) = arrivals_of_devices world older losses line (device_event_of line)
-
-step_of_devices : (world : World) (older : List Line) (losses : ℕ → ℕ) (p : ℕ) (went : Option Step) → AreOfDevices (step_interrupts world older losses p went)
-step_of_devices world older losses p None = tt
-step_of_devices world older losses p (Some step) = brought_of_devices world older losses (access_lines p step.access step.value)
-
 reached_of_device : (world : World) (older : List Line) (p : ℕ) (a : DeviceAccess) → is_of_device (device_access_line world older p a) ≡ true
 reached_of_device world older p (ReadsConfig offset width) = refl
-reached_of_device world older p (WritesConfig offset width value) = refl
-reached_of_device world older p (ReadsRegister offset) = refl
-reached_of_device world older p (WritesRegister offset value) = refl
-reached_of_device world older p (ReadsMsix offset) = refl
-reached_of_device world older p (WritesMsix offset value) = refl
+reached_of_device world older p _ = refl
 
 pub lines_of_devices : (world : World) (older : List Line) (losses : ℕ → ℕ) (e : Event) (went : Option Step) → AreOfDevices (device_lines world older losses e went)
-lines_of_devices world older losses (CallQueued p call) went = tt
-lines_of_devices world older losses (AutoStarted p expected) went = tt
-lines_of_devices world older losses (StormStarted p seed) went = tt
-lines_of_devices world older losses (TurnTaken p) went = step_of_devices world older losses p went
-lines_of_devices world older losses (RegionAccessed p a) went = step_of_devices world older losses p went
-lines_of_devices world older losses (event.DeviceReset p) went = arrivals_of_devices world older losses (line.Reset p) (device_event_of (line.Reset p))
-lines_of_devices world older losses (DeviceAccessed p a) went = (reached_of_device world older p a, tt)
-lines_of_devices world older losses (InterruptDropped p) went = tt
-lines_of_devices world older losses (InterruptRepeated p vector) went = (refl, tt)
+lines_of_devices = of_event AreOfDevices (keeps_all (λ line. is_of_device line ≡ true) (λ p vector. refl) (λ p vector. refl) reached_of_device)
 
 -- Lines without those of the devices
 
@@ -110,46 +75,20 @@ acted_apart p a (Some step) device all = beside (access_lines p step.access step
 
 -- The lines of an event, without those of the devices, don't depend on the devices.
 pub event_apart : (e : Event) (went : Option Step) (device : List Line) → AreOfDevices device → without_devices (lines_by e went device) ≡ without_devices (lines_by e went [])
-event_apart (CallQueued p call) went device all = none_left device all
-event_apart (AutoStarted p expected) went device all = none_left device all
-event_apart (StormStarted p seed) went device all = none_left device all
 event_apart (TurnTaken p) went device all = turn_apart p went device all
 event_apart (RegionAccessed p a) went device all = acted_apart p a went device all
 event_apart (event.DeviceReset p) went device all = ap (λ ls. line.Reset p ∷ ls) (none_left device all)
-event_apart (DeviceAccessed p a) went device all = none_left device all
-event_apart (InterruptDropped p) went device all = none_left device all
-event_apart (InterruptRepeated p vector) went device all = none_left device all
+event_apart _ went device all = none_left device all
 
 -- The lines of the devices write no word
 
 device_apart : (first : Line) → is_of_device first ≡ true → memory_effect_of first ≡ touch.Apart
-device_apart (line.Interrupt p vector) is = refl
-device_apart (line.Lost p vector) is = refl
-device_apart (line.ConfigRead p offset width value) is = refl
-device_apart (line.ConfigWrite p offset width value) is = refl
-device_apart (line.RegisterRead p offset value) is = refl
-device_apart (line.RegisterWrite p offset value) is = refl
-device_apart (line.MsixRead p offset value) is = refl
-device_apart (line.MsixWrite p offset value) is = refl
-device_apart (line.Idle p) is = refl
-device_apart (line.Saw p value) is = refl
-device_apart (line.Reclaim p count) is = refl
-device_apart (line.Look p count) is = refl
-device_apart (line.Full p) is = refl
-device_apart (line.Done p) is = refl
-device_apart (line.Over p) is = refl
-device_apart (line.Down p) is = refl
-device_apart (line.Accept p frame) is = refl
-device_apart (line.Deliver p frame) is = refl
-device_apart (line.Return p) is = refl
-device_apart (line.Refuse p refused) is = refl
-device_apart (line.Session p opened other) is = refl
 device_apart (line.Read p word value) is = absurd (cc)
 device_apart (line.Write p word value) is = absurd (cc)
 device_apart (line.Denied p word) is = absurd (cc)
 device_apart (line.State p value) is = absurd (cc)
-device_apart (line.Doorbell p target vector) is = refl
 device_apart (line.Reset p) is = absurd (cc)
+device_apart _ is = refl
 
 written_by : (first : Line) (older : List Line) (at : ℕ) (b : Bool) → is_of_device first ≡ b → last_write older at ≡ last_write (without_devices older) at →
     last_write (first ∷ older) at ≡ last_write (without_devices (first ∷ older)) at

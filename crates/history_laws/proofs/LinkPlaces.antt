@@ -1,12 +1,9 @@
 -- The places of two link peers after the lines of a history, and the lines that change nothing of
 -- them.
-use Rattle.std.proofs.Common.{◌≡◌, ◌≢◌, ℕ, ◌-◌, ◌<◌, Bool, true, false, List, [], ◌∷◌, ◌++◌, length, refl, sym, ◌∙◌, ap, subst, append_assoc}
-use Rattle.std.specs.Prelude.{if◌then◌else◌, Option, Some, None, nat_lt, reverse}
+use Rattle.std.proofs.Common.{◌≡◌, ◌≢◌, ℕ, ◌-◌, ◌<◌, true, false, List, [], ◌∷◌, ◌++◌, length, refl, sym, ◌∙◌, ap, subst, append_assoc}
+use Rattle.std.specs.Prelude.{Option, Some, reverse}
 use Rattle.std.specs.List.{AllByRecursion}
 use Rattle.std.proofs.lemmas.List.{reverse-append}
-use Rattle.doorbell_irq.specs.declared.effect.Delivery.{Delivery}
-use Rattle.doorbell_irq.specs.Events as device
-use Rattle.doorbell_irq.specs.DeviceRules.{effect_of}
 use Rattle.scenario_text.specs.Scenario.{World, is_link}
 use Rattle.call_grammar.specs.Steps.{Mark, Reclaim, Accept, Look, Deliver, Done, Refuse, Over, Step}
 use Rattle.call_grammar.specs.Ends.{End}
@@ -20,10 +17,10 @@ use Rattle.lawful_history.specs.declared.line.Line.{Line}
 use Rattle.lawful_history.specs.declared.line.Line.TheVariants as line
 use Rattle.lawful_history.specs.Memory.{MemoryEffect, memory_effect_of, value_after, last_write}
 use Rattle.lawful_history.specs.Memory as touch
-use Rattle.lawful_history.specs.Schedule.{Event, CallQueued, AutoStarted, StormStarted, TurnTaken, RegionAccessed, DeviceAccessed, InterruptDropped, InterruptRepeated, DeviceAccess, ReadsConfig, WritesConfig, ReadsRegister, WritesRegister, ReadsMsix, WritesMsix}
-use Rattle.lawful_history.specs.Schedule as event
+use Rattle.lawful_history.specs.Schedule.{Event, DeviceAccess, ReadsConfig}
 use Rattle.lawful_history.specs.EventRecords.{access_lines}
-use Rattle.lawful_history.specs.Device.{devices_of, device_events, delivery_line, delivery_lines, interrupts_of_event, lost_count, device_event_of, interrupts_of_access, step_interrupts, device_access_line, device_lines}
+use Rattle.lawful_history.specs.Device.{interrupts_of_access, step_interrupts, device_access_line, device_lines}
+use Rattle.lawful_history.proofs.LinesOfDevices.{KeptByDevices, keeps_all, of_step, of_event}
 use Rattle.history_laws.specs.SideEvents.{LineSideEvent, HasEvent, HasNoEvent, line_side_event_of, side_after_line, side_of}
 use Rattle.history_laws.specs.Rows.{EachLine, HasRow}
 use Rattle.history_laws.specs.Reads.{Got, Reading, Passes, reading_of, reads_with, reads_of, IsReadFrame, IsReadBeyond, Takes, Breaks, got}
@@ -218,59 +215,27 @@ quiet_lines world (line ∷ lines) past all =
 
 -- The lines of the devices
 
-arrival_quiet : (b : Bool) (p vector : ℕ) → IsQuiet (if b then line.Lost p vector else line.Interrupt p vector)
-arrival_quiet true p vector = record { apart = refl; silent = refl; passes = refl }
-arrival_quiet false p vector = record { apart = refl; silent = refl; passes = refl }
-
-arrived_quiet : (older : List Line) (losses : ℕ → ℕ) (deliveries : List Delivery) → AllByRecursion IsQuiet (delivery_lines older losses deliveries)
-arrived_quiet older losses [] = tt
-arrived_quiet older losses (delivery ∷ deliveries) = (arrival_quiet (nat_lt (lost_count older delivery.peer) (losses delivery.peer)) delivery.peer delivery.vector, arrived_quiet (delivery_line older losses delivery ∷ older) losses deliveries)
-
-arrivals_quiet : (world : World) (older : List Line) (losses : ℕ → ℕ) (line : Line) (side_event : Option device.Event) → AllByRecursion IsQuiet (interrupts_of_event world older losses line side_event)
-arrivals_quiet world older losses line None = tt
-arrivals_quiet world older losses line (Some e) = arrived_quiet (line ∷ older) losses (effect_of (devices_of world) (device_events older) e).deliveries.items
-
-brought_quiet : (world : World) (older : List Line) (losses : ℕ → ℕ) (lines : List Line) → AllByRecursion IsQuiet (interrupts_of_access world older losses lines)
-brought_quiet world older losses [] = tt
-brought_quiet world older losses (line ∷ lines) = arrivals_quiet world older losses line (device_event_of line)
-
-pub step_quiet : (world : World) (older : List Line) (losses : ℕ → ℕ) (p : ℕ) (went : Option Step) → AllByRecursion IsQuiet (step_interrupts world older losses p went)
-step_quiet world older losses p None = tt
-step_quiet world older losses p (Some step) = brought_quiet world older losses (access_lines p step.access step.value)
-
 reached_quiet : (world : World) (older : List Line) (p : ℕ) (a : DeviceAccess) → IsQuiet (device_access_line world older p a)
 reached_quiet world older p (ReadsConfig offset width) = record { apart = refl; silent = refl; passes = refl }
-reached_quiet world older p (WritesConfig offset width value) = record { apart = refl; silent = refl; passes = refl }
-reached_quiet world older p (ReadsRegister offset) = record { apart = refl; silent = refl; passes = refl }
-reached_quiet world older p (WritesRegister offset value) = record { apart = refl; silent = refl; passes = refl }
-reached_quiet world older p (ReadsMsix offset) = record { apart = refl; silent = refl; passes = refl }
-reached_quiet world older p (WritesMsix offset value) = record { apart = refl; silent = refl; passes = refl }
+reached_quiet world older p _ = record { apart = refl; silent = refl; passes = refl }
+
+quiet_keeps : KeptByDevices (AllByRecursion IsQuiet)
+quiet_keeps = keeps_all IsQuiet (λ p vector. record { apart = refl; silent = refl; passes = refl }) (λ p vector. record { apart = refl; silent = refl; passes = refl }) reached_quiet
+
+pub step_quiet : (world : World) (older : List Line) (losses : ℕ → ℕ) (p : ℕ) (went : Option Step) → AllByRecursion IsQuiet (step_interrupts world older losses p went)
+step_quiet = of_step (AllByRecursion IsQuiet) quiet_keeps
 
 pub device_quiet : (world : World) (older : List Line) (losses : ℕ → ℕ) (e : Event) (went : Option Step) → AllByRecursion IsQuiet (device_lines world older losses e went)
-device_quiet world older losses (CallQueued p call) went = tt
-device_quiet world older losses (AutoStarted p expected) went = tt
-device_quiet world older losses (StormStarted p seed) went = tt
-device_quiet world older losses (TurnTaken p) went = step_quiet world older losses p went
-device_quiet world older losses (RegionAccessed p a) went = step_quiet world older losses p went
-device_quiet world older losses (event.DeviceReset p) went = arrivals_quiet world older losses (line.Reset p) (device_event_of (line.Reset p))
-device_quiet world older losses (DeviceAccessed p a) went = (reached_quiet world older p a, tt)
-device_quiet world older losses (InterruptDropped p) went = tt
-device_quiet world older losses (InterruptRepeated p vector) went = (record { apart = refl; silent = refl; passes = refl }, tt)
+device_quiet = of_event (AllByRecursion IsQuiet) quiet_keeps
 
 -- A read adds no line of the devices.
 abbrev pub BringsNone : Access → List Line → Type 0
 BringsNone (access.Read word) device = device ≡ []
-BringsNone (access.Write word written) device = Unit {0}
-BringsNone (access.State state) device = Unit {0}
-BringsNone (access.Ring target vector) device = Unit {0}
-BringsNone access.Nothing device = Unit {0}
+BringsNone _ device = Unit {0}
 
 brings_none : (world : World) (older : List Line) (losses : ℕ → ℕ) (p : ℕ) (a : Access) (value : ℕ) → BringsNone a (interrupts_of_access world older losses (access_lines p a value))
 brings_none world older losses p (access.Read word) value = refl
-brings_none world older losses p (access.Write word written) value = tt
-brings_none world older losses p (access.State state) value = tt
-brings_none world older losses p (access.Ring target vector) value = tt
-brings_none world older losses p access.Nothing value = tt
+brings_none world older losses p _ value = tt
 
 pub step_brings : (world : World) (older : List Line) (losses : ℕ → ℕ) (p : ℕ) (step : Step) → BringsNone step.access (step_interrupts world older losses p (Some step))
 step_brings world older losses p step = brings_none world older losses p step.access step.value

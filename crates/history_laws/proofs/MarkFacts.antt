@@ -24,7 +24,7 @@ use Rattle.call_grammar.specs.Ticks.{tick_marks}
 use Rattle.call_grammar.specs.Calls.{EndConfig}
 use Rattle.call_grammar.specs.Offers.{PendingOffer, frame_fits, descriptor_of, avail_entry_of, refusal, returned_by, reclaim_marks, full_marks, wants_doorbell}
 use Rattle.call_grammar.specs.Polls.{Item, published_by, look_marks}
-use Rattle.call_grammar.specs.Places.{Place, Closed, ReadingOtherState, Clearing, WritingState, Refusing, NotInRun, ReadingUsedIndex, ReadingUsedId, WritingFrameWord, WritingDescAddressLow, WritingDescAddressHigh, WritingDescLength, WritingDescFlags, WritingAvailEntry, WritingAvailIndex, ReadingAvailEvent, RingingOffer, ReadingAvailIndex, WritingAvailEvent, ReadingAvailEntry, ReadingDescAddressLow, ReadingDescAddressHigh, ReadingDescLength, ReadingDescFlags, ReadingFrameWord, WritingUsedId, WritingUsedLength, WritingUsedIndex, RingingPoll, access_at, marks_at}
+use Rattle.call_grammar.specs.Places.{Place, ReadingOtherState, WritingState, Refusing, NotInRun, ReadingUsedIndex, ReadingUsedId, WritingAvailIndex, ReadingAvailEvent, RingingOffer, ReadingAvailIndex, ReadingAvailEntry, ReadingDescAddressHigh, ReadingDescLength, ReadingDescFlags, ReadingFrameWord, WritingUsedIndex, RingingPoll, access_at, marks_at}
 use Rattle.link_machine.specs.LinkMachine.{Side, Gave, Marked}
 use Rattle.link_invariant.specs.LinkConfig.{section_of}
 use Rattle.link_invariant.specs.Steps.{ReadsMemory, MemoryAfter}
@@ -329,9 +329,7 @@ module _ (world : World) (p : ℕ) (past older : List Line) (value : ℕ) (end :
 
   -- The marks of the step at each place.
   pub marks_rest : (place : Place) → AtMarks world p past older place value end → MarksRest world older p (marks_at (pair.config_of (link_config_of world) p) place value)
-  marks_rest Closed a = tt
   marks_rest (ReadingOtherState handshake) a = tick_rest world older p value (move_of handshake value)
-  marks_rest (Clearing at more state) a = tt
   marks_rest (WritingState state) a = (λ unrung. absurd (a.unrung unrung), tt)
   marks_rest Refusing a = (λ unrung. absurd (a.unrung unrung), tt)
   marks_rest NotInRun a = (tt, tt)
@@ -341,25 +339,16 @@ module _ (world : World) (p : ℕ) (past older : List Line) (value : ℕ) (end :
       by_test world older p (is_used_id (descriptor_of config freed) value) (if more == 0 then full_marks config pending (freed + 1) else []) (refusal field_name.UsedId value)
       (λ _. by_test world older p (more == 0) (full_marks config pending (freed + 1)) [] (λ _. full_rest world older p config pending (freed + 1)) (λ _. tt))
       (λ test. used_id_rest pending freed more a test)
-  marks_rest (WritingFrameWord pending at more) a = tt
-  marks_rest (WritingDescAddressLow pending) a = tt
-  marks_rest (WritingDescAddressHigh pending) a = tt
-  marks_rest (WritingDescLength pending) a = tt
-  marks_rest (WritingDescFlags pending) a = tt
-  marks_rest (WritingAvailEntry pending) a = tt
   marks_rest (WritingAvailIndex pending) a = accept_rest pending a
   marks_rest (ReadingAvailEvent number) a = by_test world older p (wants_doorbell (low_half value) number) [] (Over ∷ []) (λ _. tt) (λ test. (λ _. event_rest number a test, tt))
   marks_rest RingingOffer a = (λ unrung. absurd (a.unrung unrung), tt)
   marks_rest (ReadingAvailIndex taken last) a = avail_index_rest taken last a
-  marks_rest (WritingAvailEvent taken) a = tt
   marks_rest (ReadingAvailEntry number more) a = by_number (λ k. ReadingAvailEntry k more) number (number_is (ReadingAvailEntry number more) number a.alone.holds.1 a a.stays) (λ b. entry_rest more b) a
-  marks_rest (ReadingDescAddressLow number more entry) a = tt
   marks_rest (ReadingDescAddressHigh number more entry low) a = by_number (λ k. ReadingDescAddressHigh k more entry low) number (number_is (ReadingDescAddressHigh number more entry low) number a.alone.holds.1 a a.stays) (λ b. high_rest more entry low b) a
   marks_rest (ReadingDescLength number more entry address) a = by_number (λ k. ReadingDescLength k more entry address) number (number_is (ReadingDescLength number more entry address) number a.alone.holds.1 a a.stays) (λ b. length_rest more entry address b) a
   marks_rest (ReadingDescFlags number more entry address bytes) a = by_number (λ k. ReadingDescFlags k more entry address bytes) number (number_is (ReadingDescFlags number more entry address bytes) number a.alone.holds.1 a a.stays) (λ b. flags_rest more entry address bytes b) a
   marks_rest (ReadingFrameWord number more entry address bytes words left) a =
       by_test world older p (left == 0) (Deliver (frame_in bytes (words ++ value ∷ [])) ∷ []) [] (λ test. word_rest number more entry address bytes words left a test) (λ _. tt)
-  marks_rest (WritingUsedId number more entry) a = tt
-  marks_rest (WritingUsedLength number more) a = tt
   marks_rest (WritingUsedIndex number more) a = (tt, tt)
   marks_rest RingingPoll a = (λ has look. absurd (a.head look), tt)
+  marks_rest _ a = tt

@@ -2,7 +2,7 @@
 use Rattle.std.proofs.Common.{◌≡◌, ℕ, List, ◌∷◌, refl}
 use Rattle.split_ring.specs.declared.steps.Access.{Access}
 use Rattle.split_ring.specs.declared.steps.Access.TheVariants as access
-use Rattle.call_grammar.specs.Steps.{Mark, Saw, Reclaim, Full, Accept, Look, Deliver, Return, Done, Down, Refuse, Over}
+use Rattle.call_grammar.specs.Steps.{Mark, Saw}
 use Rattle.link_machine.specs.LinkMachine.{Marked}
 use Rattle.lawful_history.specs.declared.line.Line.{Line}
 use Rattle.lawful_history.specs.declared.line.Line.TheVariants as line
@@ -13,16 +13,7 @@ use Rattle.history_laws.specs.Reads.{Breaks, reading_of}
 -- The line of a mark has the mark as its side event, and empties the list of reads.
 pub mark_is : (p : ℕ) (mark : Mark) → (line_side_event_of (mark_line p mark) ≡ HasEvent p (Marked mark)) × (reading_of (mark_line p mark) ≡ Breaks p)
 mark_is p (Saw value) = (refl, refl)
-mark_is p (Reclaim count) = (refl, refl)
-mark_is p Full = (refl, refl)
-mark_is p (Accept frame) = (refl, refl)
-mark_is p (Look count) = (refl, refl)
-mark_is p (Deliver frame) = (refl, refl)
-mark_is p Return = (refl, refl)
-mark_is p Done = (refl, refl)
-mark_is p Down = (refl, refl)
-mark_is p (Refuse refused) = (refl, refl)
-mark_is p Over = (refl, refl)
+mark_is p _ = (refl, refl)
 
 -- The line of the access.
 abbrev pub after_access : ℕ → Access → ℕ → List Line → List Line

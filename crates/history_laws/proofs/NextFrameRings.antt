@@ -9,7 +9,7 @@ use Rattle.std.proofs.lemmas.List.Elements.{recursion_from_All}
 use Rattle.split_ring.specs.Layout.{has_events}
 use Rattle.split_ring.specs.Spelling.{low_half}
 use Rattle.scenario_text.specs.Scenario.{World, IsWorld, is_link}
-use Rattle.call_grammar.specs.Steps.{Mark, Saw, Reclaim, Full, Accept, Look, Deliver, Return, Done, Down, Refuse, Over}
+use Rattle.call_grammar.specs.Steps.{Mark, Accept, Look, Done, Over}
 use Rattle.call_grammar.specs.Offers.{wants_doorbell}
 use Rattle.link_machine.specs.LinkMachine.{Side, SideEvent, Gave, Wrote, Marked, WasReset, MayLook}
 use Rattle.call_grammar.proofs.OfferLists.{yes, no}
@@ -85,16 +85,7 @@ word_kept word (l ∷ lines) past spares =
 
 mark_keeps : (peer p : ℕ) (mark : Mark) (side : Side) → peer ≡ p → AcceptsNothing p (HasEvent peer (Marked mark)) → (side_after (Marked mark) side).accepted ≡ side.accepted
 mark_keeps peer p (Accept frame) side e none = absurd (none e)
-mark_keeps peer p (Saw value) side e none = refl
-mark_keeps peer p (Reclaim count) side e none = refl
-mark_keeps peer p Full side e none = refl
-mark_keeps peer p (Look count) side e none = refl
-mark_keeps peer p (Deliver frame) side e none = refl
-mark_keeps peer p Return side e none = refl
-mark_keeps peer p Done side e none = refl
-mark_keeps peer p Down side e none = refl
-mark_keeps peer p (Refuse refused) side e none = refl
-mark_keeps peer p Over side e none = refl
+mark_keeps peer p _ side e none = refl
 
 after_keeps : (peer p : ℕ) (side_event : SideEvent) (side : Side) → peer ≡ p → AcceptsNothing p (HasEvent peer side_event) → (side_after side_event side).accepted ≡ side.accepted
 after_keeps peer p (Gave value) side e none = refl

@@ -18,7 +18,7 @@ use Rattle.call_grammar.specs.Words.{address_of}
 use Rattle.call_grammar.specs.Calls.{EndConfig}
 use Rattle.call_grammar.specs.Offers.{PendingOffer, descriptor_of, avail_entry_of, refusal, returned_by, reclaim_marks, full_marks}
 use Rattle.call_grammar.specs.Polls.{Item, item_entry, item_address, published_by, look_marks}
-use Rattle.call_grammar.specs.Places.{Place, Closed, ReadingOtherState, Clearing, WritingState, Refusing, NotInRun, ReadingUsedIndex, ReadingUsedId, WritingFrameWord, WritingDescAddressLow, WritingDescAddressHigh, WritingDescLength, WritingDescFlags, WritingAvailEntry, WritingAvailIndex, ReadingAvailEvent, RingingOffer, ReadingAvailIndex, WritingAvailEvent, ReadingAvailEntry, ReadingDescAddressLow, ReadingDescAddressHigh, ReadingDescLength, ReadingDescFlags, ReadingFrameWord, WritingUsedId, WritingUsedLength, WritingUsedIndex, RingingPoll, access_at, marks_at}
+use Rattle.call_grammar.specs.Places.{Place, ReadingOtherState, ReadingUsedIndex, ReadingUsedId, ReadingAvailEvent, ReadingAvailIndex, ReadingAvailEntry, ReadingDescAddressLow, ReadingDescAddressHigh, ReadingDescLength, ReadingDescFlags, ReadingFrameWord, access_at, marks_at}
 use Rattle.link_machine.specs.LinkMachine.{Side}
 use Rattle.call_grammar.proofs.OfferLists.{no}
 use Rattle.link_invariant.specs.LinkConfig.{LinkConfig, IsLinkConfig, config_of}
@@ -118,112 +118,73 @@ module _ (config : EndConfig) where
   only_avail_index : (field : FieldName) → FieldWord config field (config.other_start + word_offset config.sizes AvailIndex) → field ≡ field_name.AvailIndex
   unfolding FieldWord
   only_avail_index field_name.AvailIndex f = refl
-  only_avail_index field_name.AvailEntry f = let s = f.1 in let e = f.2 in absurd (omega arith)
-  only_avail_index field_name.DescAddress f = let s = f.1 in let e = f.2 in absurd (omega arith)
-  only_avail_index field_name.DescLength f = let s = f.1 in let e = f.2 in absurd (omega arith)
-  only_avail_index field_name.DescFlags f = let s = f.1 in let e = f.2 in absurd (omega arith)
   only_avail_index field_name.UsedIndex f = let e = f in absurd (omega arith)
-  only_avail_index field_name.UsedId f = let s = f.1 in let e = f.2 in absurd (omega arith)
+  only_avail_index _ f = let s = f.1 in let e = f.2 in absurd (omega arith)
 
   only_entry : (i : ℕ) → i < size_of config.sizes → (field : FieldName) → FieldWord config field (config.other_start + word_offset config.sizes (AvailEntry i)) → field ≡ field_name.AvailEntry
   unfolding FieldWord
   only_entry i low field_name.AvailIndex f = let e = f in absurd (omega arith)
   only_entry i low field_name.AvailEntry f = refl
-  only_entry i low field_name.DescAddress f = let s = f.1 in let e = f.2 in absurd (omega arith)
-  only_entry i low field_name.DescLength f = let s = f.1 in let e = f.2 in absurd (omega arith)
-  only_entry i low field_name.DescFlags f = let s = f.1 in let e = f.2 in absurd (omega arith)
   only_entry i low field_name.UsedIndex f = let e = f in absurd (omega arith)
-  only_entry i low field_name.UsedId f = let s = f.1 in let e = f.2 in absurd (omega arith)
+  only_entry i low _ f = let s = f.1 in let e = f.2 in absurd (omega arith)
 
   only_low : (i : ℕ) → i < size_of config.sizes → (field : FieldName) → FieldWord config field (config.other_start + word_offset config.sizes (DescAddress i)) → ⊥
   unfolding FieldWord
   only_low i low field_name.AvailIndex f = let e = f in absurd (omega arith)
-  only_low i low field_name.AvailEntry f = let s = f.1 in let e = f.2 in absurd (omega arith)
-  only_low i low field_name.DescAddress f = let s = f.1 in let e = f.2 in absurd (omega arith)
-  only_low i low field_name.DescLength f = let s = f.1 in let e = f.2 in absurd (omega arith)
-  only_low i low field_name.DescFlags f = let s = f.1 in let e = f.2 in absurd (omega arith)
   only_low i low field_name.UsedIndex f = let e = f in absurd (omega arith)
-  only_low i low field_name.UsedId f = let s = f.1 in let e = f.2 in absurd (omega arith)
+  only_low i low _ f = let s = f.1 in let e = f.2 in absurd (omega arith)
 
   only_high : (i : ℕ) → i < size_of config.sizes → (field : FieldName) → FieldWord config field (config.other_start + word_offset config.sizes (DescAddress i) + 1) → field ≡ field_name.DescAddress
   unfolding FieldWord
   only_high i low field_name.AvailIndex f = let e = f in absurd (omega arith)
-  only_high i low field_name.AvailEntry f = let s = f.1 in let e = f.2 in absurd (omega arith)
   only_high i low field_name.DescAddress f = refl
-  only_high i low field_name.DescLength f = let s = f.1 in let e = f.2 in absurd (omega arith)
-  only_high i low field_name.DescFlags f = let s = f.1 in let e = f.2 in absurd (omega arith)
   only_high i low field_name.UsedIndex f = let e = f in absurd (omega arith)
-  only_high i low field_name.UsedId f = let s = f.1 in let e = f.2 in absurd (omega arith)
+  only_high i low _ f = let s = f.1 in let e = f.2 in absurd (omega arith)
 
   only_length : (i : ℕ) → i < size_of config.sizes → (field : FieldName) → FieldWord config field (config.other_start + word_offset config.sizes (DescLength i)) → field ≡ field_name.DescLength
   unfolding FieldWord
   only_length i low field_name.AvailIndex f = let e = f in absurd (omega arith)
-  only_length i low field_name.AvailEntry f = let s = f.1 in let e = f.2 in absurd (omega arith)
-  only_length i low field_name.DescAddress f = let s = f.1 in let e = f.2 in absurd (omega arith)
   only_length i low field_name.DescLength f = refl
-  only_length i low field_name.DescFlags f = let s = f.1 in let e = f.2 in absurd (omega arith)
   only_length i low field_name.UsedIndex f = let e = f in absurd (omega arith)
-  only_length i low field_name.UsedId f = let s = f.1 in let e = f.2 in absurd (omega arith)
+  only_length i low _ f = let s = f.1 in let e = f.2 in absurd (omega arith)
 
   only_flags : (i : ℕ) → i < size_of config.sizes → (field : FieldName) → FieldWord config field (config.other_start + word_offset config.sizes (DescFlags i)) → field ≡ field_name.DescFlags
   unfolding FieldWord
   only_flags i low field_name.AvailIndex f = let e = f in absurd (omega arith)
-  only_flags i low field_name.AvailEntry f = let s = f.1 in let e = f.2 in absurd (omega arith)
-  only_flags i low field_name.DescAddress f = let s = f.1 in let e = f.2 in absurd (omega arith)
-  only_flags i low field_name.DescLength f = let s = f.1 in let e = f.2 in absurd (omega arith)
   only_flags i low field_name.DescFlags f = refl
   only_flags i low field_name.UsedIndex f = let e = f in absurd (omega arith)
-  only_flags i low field_name.UsedId f = let s = f.1 in let e = f.2 in absurd (omega arith)
+  only_flags i low _ f = let s = f.1 in let e = f.2 in absurd (omega arith)
 
   only_used_index : (field : FieldName) → FieldWord config field (config.other_start + word_offset config.sizes UsedIndex) → field ≡ field_name.UsedIndex
   unfolding FieldWord
   only_used_index field_name.AvailIndex f = let e = f in absurd (omega arith)
-  only_used_index field_name.AvailEntry f = let s = f.1 in let e = f.2 in absurd (omega arith)
-  only_used_index field_name.DescAddress f = let s = f.1 in let e = f.2 in absurd (omega arith)
-  only_used_index field_name.DescLength f = let s = f.1 in let e = f.2 in absurd (omega arith)
-  only_used_index field_name.DescFlags f = let s = f.1 in let e = f.2 in absurd (omega arith)
   only_used_index field_name.UsedIndex f = refl
-  only_used_index field_name.UsedId f = let s = f.1 in let e = f.2 in absurd (omega arith)
+  only_used_index _ f = let s = f.1 in let e = f.2 in absurd (omega arith)
 
   only_id : (i : ℕ) → i < size_of config.sizes → (field : FieldName) → FieldWord config field (config.other_start + word_offset config.sizes (UsedId i)) → field ≡ field_name.UsedId
   unfolding FieldWord
   only_id i low field_name.AvailIndex f = let e = f in absurd (omega arith)
-  only_id i low field_name.AvailEntry f = let s = f.1 in let e = f.2 in absurd (omega arith)
-  only_id i low field_name.DescAddress f = let s = f.1 in let e = f.2 in absurd (omega arith)
-  only_id i low field_name.DescLength f = let s = f.1 in let e = f.2 in absurd (omega arith)
-  only_id i low field_name.DescFlags f = let s = f.1 in let e = f.2 in absurd (omega arith)
   only_id i low field_name.UsedIndex f = let e = f in absurd (omega arith)
   only_id i low field_name.UsedId f = refl
+  only_id i low _ f = let s = f.1 in let e = f.2 in absurd (omega arith)
 
   no_event : (field : FieldName) → FieldWord config field (config.other_start + word_offset config.sizes AvailEvent) → ⊥
   unfolding FieldWord
   no_event field_name.AvailIndex f = let e = f in absurd (omega arith)
-  no_event field_name.AvailEntry f = let s = f.1 in let e = f.2 in absurd (omega arith)
-  no_event field_name.DescAddress f = let s = f.1 in let e = f.2 in absurd (omega arith)
-  no_event field_name.DescLength f = let s = f.1 in let e = f.2 in absurd (omega arith)
-  no_event field_name.DescFlags f = let s = f.1 in let e = f.2 in absurd (omega arith)
   no_event field_name.UsedIndex f = let e = f in absurd (omega arith)
-  no_event field_name.UsedId f = let s = f.1 in let e = f.2 in absurd (omega arith)
+  no_event _ f = let s = f.1 in let e = f.2 in absurd (omega arith)
 
   no_word : (a j : ℕ) → data_area_start config.sizes ≤ a → (field : FieldName) → FieldWord config field (config.other_start + (a / 4 + j)) → ⊥
   unfolding FieldWord
   no_word a j high field_name.AvailIndex f = let e = f in absurd (omega arith)
-  no_word a j high field_name.AvailEntry f = let s = f.1 in let e = f.2 in absurd (omega arith)
-  no_word a j high field_name.DescAddress f = let s = f.1 in let e = f.2 in absurd (omega arith)
-  no_word a j high field_name.DescLength f = let s = f.1 in let e = f.2 in absurd (omega arith)
-  no_word a j high field_name.DescFlags f = let s = f.1 in let e = f.2 in absurd (omega arith)
   no_word a j high field_name.UsedIndex f = let e = f in absurd (omega arith)
-  no_word a j high field_name.UsedId f = let s = f.1 in let e = f.2 in absurd (omega arith)
+  no_word a j high _ f = let s = f.1 in let e = f.2 in absurd (omega arith)
 
   no_state : (w : ℕ) → w < config.other_start → (field : FieldName) → FieldWord config field (w) → ⊥
   unfolding FieldWord
   no_state w low field_name.AvailIndex f = let e = f in absurd (omega arith)
-  no_state w low field_name.AvailEntry f = let s = f.1 in let e = f.2 in absurd (omega arith)
-  no_state w low field_name.DescAddress f = let s = f.1 in let e = f.2 in absurd (omega arith)
-  no_state w low field_name.DescLength f = let s = f.1 in let e = f.2 in absurd (omega arith)
-  no_state w low field_name.DescFlags f = let s = f.1 in let e = f.2 in absurd (omega arith)
   no_state w low field_name.UsedIndex f = let e = f in absurd (omega arith)
-  no_state w low field_name.UsedId f = let s = f.1 in let e = f.2 in absurd (omega arith)
+  no_state w low _ f = let s = f.1 in let e = f.2 in absurd (omega arith)
 
 -- The marks of the step
 
@@ -376,35 +337,18 @@ module _ (link_config : LinkConfig) (p : ℕ) (memory : ℕ → ℕ) (end : End)
 
   by_place : (x : Place) → Refuses x
   unfolding Refuses
-  by_place Closed f e l there = absurd (cc)
   by_place (ReadingOtherState handshake) f e l there = let first = is.first in let b = read_word _ word e in absurd (no_state (config_of link_config p) word (omega arith) field there)
-  by_place (Clearing at more state) f e l there = absurd (cc)
-  by_place (WritingState state) f e l there = absurd (cc)
-  by_place Refusing f e l there = absurd (cc)
-  by_place NotInRun f e l there = absurd (cc)
   by_place (ReadingUsedIndex pending freed) f e l there = used_index_beyond pending freed f e l there
   by_place (ReadingUsedId pending freed more) f e l there = used_id_beyond pending freed more f e l there
-  by_place (WritingFrameWord pending at more) f e l there = absurd (cc)
-  by_place (WritingDescAddressLow pending) f e l there = absurd (cc)
-  by_place (WritingDescAddressHigh pending) f e l there = absurd (cc)
-  by_place (WritingDescLength pending) f e l there = absurd (cc)
-  by_place (WritingDescFlags pending) f e l there = absurd (cc)
-  by_place (WritingAvailEntry pending) f e l there = absurd (cc)
-  by_place (WritingAvailIndex pending) f e l there = absurd (cc)
   by_place (ReadingAvailEvent number) f e l there = absurd (no_event (config_of link_config p) field (subst (FieldWord (config_of link_config p) field) (read_word _ word e) there))
-  by_place RingingOffer f e l there = absurd (cc)
   by_place (ReadingAvailIndex taken final) f e l there = avail_index_beyond taken final f e l there
-  by_place (WritingAvailEvent taken) f e l there = absurd (cc)
   by_place (ReadingAvailEntry number more) f e l there = entry_beyond number more f e l there
   by_place (ReadingDescAddressLow number more entry) f e l there = low_beyond number more entry f e l there
   by_place (ReadingDescAddressHigh number more entry low) f e l there = high_beyond number more entry low f e l there
   by_place (ReadingDescLength number more entry address) f e l there = length_beyond number more entry address f e l there
   by_place (ReadingDescFlags number more entry address bytes) f e l there = flags_beyond number more entry address bytes f e l there
   by_place (ReadingFrameWord number more entry address bytes words left) f e l there = word_beyond number more entry address bytes words left f e l there
-  by_place (WritingUsedId number more entry) f e l there = absurd (cc)
-  by_place (WritingUsedLength number more) f e l there = absurd (cc)
-  by_place (WritingUsedIndex number more) f e l there = absurd (cc)
-  by_place RingingPoll f e l there = absurd (cc)
+  by_place _ f e l there = absurd (cc)
 
   pub refuses : (place : Place) → EndInvariant link_config memory p end place → SideIs end place side → ReadsAre (config_of link_config p) place reads → access_at (config_of link_config p) place ≡ access.Read word →
       IsReadBeyond (config_of link_config p) side (reads ++ got word value ∷ []) field refused → marks_at (config_of link_config p) place value ≡ refusal field refused

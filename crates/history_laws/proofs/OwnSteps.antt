@@ -148,11 +148,8 @@ begins_stands world past ends after_ends places after_places p call is below hon
 
 -- An end with the mark writes no State except 0.
 abbrev IsZero : Access → Type 0
-IsZero (access.Read word) = Unit {0}
-IsZero (access.Write word written) = Unit {0}
 IsZero (access.State state) = state ≡ 0
-IsZero (access.Ring target vector) = Unit {0}
-IsZero access.Nothing = Unit {0}
+IsZero _ = Unit {0}
 
 zero_at : (link_config : LinkConfig) (p : ℕ) (end : End) (place : Place) → RefusalIsFinal end place → end.handshake.mark ≡ true → IsZero (access_at (config_of link_config p) place)
 zero_at link_config p end (WritingState zero) rests marked = refl

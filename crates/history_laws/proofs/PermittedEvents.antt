@@ -10,14 +10,14 @@ use Rattle.section_map.specs.Geometry.{section_start}
 use Rattle.split_ring.specs.declared.steps.Access.{Access}
 use Rattle.split_ring.specs.declared.steps.Access.TheVariants as access
 use Rattle.scenario_text.specs.declared.acts.Act.{Act}
-use Rattle.scenario_text.specs.declared.acts.Act.TheVariants.{Tick, Offer, Poll, Stop, Auto, Storm, Turn, Reset, Poke, Peek, Set, Ring, CfgRead, CfgWrite, MmioRead, MmioWrite, MsixRead, MsixWrite, Lose, Again}
+use Rattle.scenario_text.specs.declared.acts.Act.TheVariants.{Tick, Offer, Poll, Stop, Auto, Storm, Turn, Poke, Peek, Set, MmioWrite}
 use Rattle.scenario_text.specs.Scenario.{World, IsWorld, is_link, is_its_peer, is_frame_size}
 use Rattle.scenario_text.specs.Table.{pieces_of}
 use Rattle.scenario_text.specs.ActRows.{row_of_act}
 use Rattle.scenario_text.proofs.ActNumbers.{bytes_recursion, frame_least, frame_most}
 use Rattle.link_invariant.specs.LinkConfig.{LinkConfig, IsLinkConfig, IsGivenTo}
 use Rattle.lawful_history.specs.Sides.{traffic_vector}
-use Rattle.lawful_history.specs.Schedule.{Event, CallQueued, AutoStarted, StormStarted, TurnTaken, RegionAccessed, DeviceReset, DeviceAccessed, InterruptDropped, InterruptRepeated, register_event, events_of, schedule}
+use Rattle.lawful_history.specs.Schedule.{Event, CallQueued, AutoStarted, StormStarted, TurnTaken, RegionAccessed, register_event, events_of, schedule}
 
 -- The configuration of the scenario's link.
 abbrev pub link_config_of : World → LinkConfig
@@ -36,12 +36,8 @@ abbrev pub IsProper : World → Event → Type 0
 IsProper world (CallQueued p call) = (is_link world p ≡ true) × IsGivenTo (link_config_of world) call
 IsProper world (AutoStarted p expected) = is_link world p ≡ true
 IsProper world (StormStarted p seed) = is_link world p ≡ false
-IsProper world (TurnTaken p) = Unit {0}
 IsProper world (RegionAccessed p a) = MayAct (is_link world p) a
-IsProper world (DeviceReset p) = Unit {0}
-IsProper world (DeviceAccessed p a) = Unit {0}
-IsProper world (InterruptDropped p) = Unit {0}
-IsProper world (InterruptRepeated p vector) = Unit {0}
+IsProper world _ = Unit {0}
 
 not_link : (p peers : ℕ) (flag : Bool) → (nat_lt p peers && not flag) ≡ true → (nat_lt p 2 && flag) ≡ false
 not_link p peers flag is = grind (arith, nat_tests)
@@ -70,19 +66,11 @@ act_proper world (Stop p) others is frame bytes all = ((is, tt), all)
 act_proper world (Auto p expect) others is frame bytes all = (is, all)
 act_proper world (Storm p seed) others is frame bytes all = (not_link p _ _ is, all)
 act_proper world (Turn p steps) others is frame bytes all = turns_proper (IsProper world) p steps others tt all
-act_proper world (Reset p) others is frame bytes all = (tt, all)
 act_proper world (Poke p word value) others is frame bytes all = (not_link p _ _ is, all)
 act_proper world (Peek p word) others is frame bytes all = (not_link p _ _ is, all)
 act_proper world (Set p value) others is frame bytes all = (not_link p _ _ is, all)
-act_proper world (Ring p target vector) others is frame bytes all = (tt, all)
-act_proper world (CfgRead p offset width) others is frame bytes all = (tt, all)
-act_proper world (CfgWrite p offset width value) others is frame bytes all = (tt, all)
-act_proper world (MmioRead p offset) others is frame bytes all = (tt, all)
 act_proper world (MmioWrite p offset value) others is frame bytes all = (register_proper world p offset value _ _ refl refl (λ here. state_proper p _ (offset == 16) _ here is), all)
-act_proper world (MsixRead p offset) others is frame bytes all = (tt, all)
-act_proper world (MsixWrite p offset value) others is frame bytes all = (tt, all)
-act_proper world (Lose p) others is frame bytes all = (tt, all)
-act_proper world (Again p vector) others is frame bytes all = (tt, all)
+act_proper world _ others is frame bytes all = (tt, all)
 
 acts_proper : (world : World) (acts : List Act) →
     ((k : ℕ) (act : Act) → slice_get acts k ≡ Some act → is_its_peer world (row_of_act act).form (row_of_act act).numbers ≡ true) →

@@ -21,8 +21,8 @@ use Rattle.lawful_history.specs.declared.line.Line.{Line}
 use Rattle.lawful_history.specs.declared.line.Line.TheVariants as line
 use Rattle.lawful_history.specs.Schedule.{Event, CallQueued, AutoStarted, StormStarted, TurnTaken, RegionAccessed, DeviceReset, DeviceAccessed, InterruptDropped, InterruptRepeated, event_peer, schedule}
 use Rattle.lawful_history.specs.Sides.{config_of}
-use Rattle.lawful_history.specs.Peers.{Peer, Driver, Waits, Chooses, Storms, at_start, with_call_by}
-use Rattle.call_grammar.specs.Calls.{Call, Tick, Stop, Offer, Poll}
+use Rattle.lawful_history.specs.Peers.{Peer, Driver, Chooses, at_start, with_call_by}
+use Rattle.call_grammar.specs.Calls.{Call, Offer}
 use Rattle.lawful_history.specs.Device.{device_lines, step_interrupts}
 use Rattle.lawful_history.specs.History.{HistoryState, peer_at, step_of_event, peer_after, after_event, run, initial_state, history}
 use Rattle.lawful_history.specs.Lawful.{IsLawful}
@@ -110,17 +110,7 @@ module _ (world : World) (so_far : HistoryState) (event : Event) (is : IsWorld w
 
 asked_still : (peer : Peer) (driver : Driver) (call : Call) → ((with_call_by peer driver call).end ≡ peer.end) × ((with_call_by peer driver call).left ≡ peer.left)
 asked_still peer (Chooses auto) (Offer frame) = (refl, refl)
-asked_still peer (Chooses auto) Tick = (refl, refl)
-asked_still peer (Chooses auto) Stop = (refl, refl)
-asked_still peer (Chooses auto) Poll = (refl, refl)
-asked_still peer Waits Tick = (refl, refl)
-asked_still peer Waits Stop = (refl, refl)
-asked_still peer Waits (Offer frame) = (refl, refl)
-asked_still peer Waits Poll = (refl, refl)
-asked_still peer (Storms x) Tick = (refl, refl)
-asked_still peer (Storms x) Stop = (refl, refl)
-asked_still peer (Storms x) (Offer frame) = (refl, refl)
-asked_still peer (Storms x) Poll = (refl, refl)
+asked_still peer driver call = (refl, refl)
 
 not_honest : {A : Type 0} → (b : Bool) → b ≡ false → b ≡ true → A
 not_honest b is_none is_one = let f : false ≡ true = sym is_none ∙ is_one in absurd (cc)

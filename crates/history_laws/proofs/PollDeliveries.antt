@@ -5,7 +5,7 @@ use native.Mathlib.Decide.{ℕ_discrete}
 use Rattle.std.specs.Prelude.{◌==◌, reverse}
 use Rattle.std.specs.List.{AllByRecursion}
 use Rattle.std.proofs.lemmas.List.Elements.{recursion_from_All}
-use Rattle.call_grammar.specs.Steps.{Mark, Saw, Reclaim, Full, Accept, Look, Deliver, Return, Done, Down, Refuse, Over}
+use Rattle.call_grammar.specs.Steps.{Mark, Look, Deliver}
 use Rattle.link_machine.specs.LinkMachine.{Side, SideEvent, Gave, Wrote, Marked, WasReset}
 use Rattle.call_grammar.proofs.OfferLists.{yes, no}
 use Rattle.lawful_history.specs.declared.line.Line.{Line}
@@ -23,17 +23,9 @@ record Delivers (old new : Side) (count : ℕ) : Type 0 where
   delivered : length new.delivered ≡ length old.delivered + count
 
 marked_delivers : (peer p : ℕ) (mark : Mark) (side : Side) → peer ≡ p → IsWithin p (HasEvent peer (Marked mark)) → Delivers side (side_after (Marked mark) side) (delivers (HasEvent peer (Marked mark)) p)
-marked_delivers peer p (Saw value) side e within = record { looked = refl; delivered = omega arith }
-marked_delivers peer p (Reclaim count) side e within = record { looked = refl; delivered = omega arith }
-marked_delivers peer p Full side e within = record { looked = refl; delivered = omega arith }
-marked_delivers peer p (Accept frame) side e within = record { looked = refl; delivered = omega arith }
 marked_delivers peer p (Look count) side e within = absurd (within e)
 marked_delivers peer p (Deliver frame) side e within = let one = yes (peer == p) 1 0 (eq-eqb peer p e) in record { looked = refl; delivered = length-append side.delivered (frame ∷ []) ∙ ap (λ (n : ℕ). length side.delivered + n) (sym one) }
-marked_delivers peer p Return side e within = record { looked = refl; delivered = omega arith }
-marked_delivers peer p Done side e within = record { looked = refl; delivered = omega arith }
-marked_delivers peer p Down side e within = record { looked = refl; delivered = omega arith }
-marked_delivers peer p (Refuse refused) side e within = record { looked = refl; delivered = omega arith }
-marked_delivers peer p Over side e within = record { looked = refl; delivered = omega arith }
+marked_delivers peer p _ side e within = record { looked = refl; delivered = omega arith }
 
 side_event_delivers : (peer p : ℕ) (side_event : SideEvent) (side : Side) → peer ≡ p → IsWithin p (HasEvent peer side_event) → Delivers side (side_after side_event side) (delivers (HasEvent peer side_event) p)
 side_event_delivers peer p (Gave value) side e within = record { looked = refl; delivered = omega arith }
@@ -43,17 +35,8 @@ side_event_delivers peer p WasReset side e within = record { looked = refl; deli
 
 -- Another peer's line delivers no frame of p.
 none_marked : (peer p : ℕ) (mark : Mark) → peer ≢ p → delivers (HasEvent peer (Marked mark)) p ≡ 0
-none_marked peer p (Saw value) ne = refl
-none_marked peer p (Reclaim count) ne = refl
-none_marked peer p Full ne = refl
-none_marked peer p (Accept frame) ne = refl
-none_marked peer p (Look count) ne = refl
 none_marked peer p (Deliver frame) ne = no (peer == p) 1 0 (ne_eqb peer p ne)
-none_marked peer p Return ne = refl
-none_marked peer p Done ne = refl
-none_marked peer p Down ne = refl
-none_marked peer p (Refuse refused) ne = refl
-none_marked peer p Over ne = refl
+none_marked peer p _ ne = refl
 
 none_side_event : (peer p : ℕ) (side_event : SideEvent) → peer ≢ p → delivers (HasEvent peer side_event) p ≡ 0
 none_side_event peer p (Gave value) ne = refl

@@ -4,11 +4,11 @@ use Rattle.std.specs.List.{AllByRecursion}
 use Rattle.scenario_text.specs.Scenario.{World, is_link}
 use Rattle.call_grammar.specs.Steps.{Mark}
 use Rattle.call_grammar.specs.Trees.{CallTree, Ended, Does, Reads}
-use Rattle.call_grammar.specs.Calls.{EndConfig, Call, Tick, Stop, Offer, Poll}
+use Rattle.call_grammar.specs.Calls.{EndConfig, Call, Offer}
 use Rattle.call_grammar.specs.Automatic.{Choice, ChoosesTick, ChoosesOffer, ChoosesPoll, IsFinished, choice_of}
 use Rattle.link_invariant.specs.LinkConfig.{IsOffered, IsGivenTo}
 use Rattle.lawful_history.specs.declared.line.Line.{Line}
-use Rattle.lawful_history.specs.Schedule.{Event, CallQueued, AutoStarted, StormStarted, TurnTaken, RegionAccessed, DeviceReset, DeviceAccessed, InterruptDropped, InterruptRepeated, event_peer}
+use Rattle.lawful_history.specs.Schedule.{Event, CallQueued, AutoStarted, StormStarted, TurnTaken, DeviceReset, event_peer}
 use Rattle.lawful_history.specs.Memory.{last_write}
 use Rattle.lawful_history.specs.Sides.{config_of}
 use Rattle.lawful_history.specs.Peers.{Auto, Driver, Waits, Chooses, Storms, Peer, at_start, with_call_by, cut, with_choice, chosen, opened_by, opened, driver_after}
@@ -85,17 +85,7 @@ queued_suits world honest peer call is_one this s = record { waiting = waiting_g
 
 asked_suits : (world : World) (honest : Bool) (peer : Peer) (driver : Driver) (call : Call) → honest ≡ true → DriverSuits world honest driver → IsGivenTo (link_config_of world) call → Suits world honest peer → Suits world honest (with_call_by peer driver call)
 asked_suits world honest peer (Chooses auto) (Offer frame) is_one given this s = record { waiting = s.waiting; driver = (is_one, frames_offered world auto.frames frame given.1 this); idle = never honest is_one }
-asked_suits world honest peer (Chooses auto) Tick is_one given this s = queued_suits world honest peer Tick is_one this s
-asked_suits world honest peer (Chooses auto) Stop is_one given this s = queued_suits world honest peer Stop is_one this s
-asked_suits world honest peer (Chooses auto) Poll is_one given this s = queued_suits world honest peer Poll is_one this s
-asked_suits world honest peer Waits Tick is_one given this s = queued_suits world honest peer Tick is_one this s
-asked_suits world honest peer Waits Stop is_one given this s = queued_suits world honest peer Stop is_one this s
-asked_suits world honest peer Waits (Offer frame) is_one given this s = queued_suits world honest peer (Offer frame) is_one this s
-asked_suits world honest peer Waits Poll is_one given this s = queued_suits world honest peer Poll is_one this s
-asked_suits world honest peer (Storms x) Tick is_one given this s = queued_suits world honest peer Tick is_one this s
-asked_suits world honest peer (Storms x) Stop is_one given this s = queued_suits world honest peer Stop is_one this s
-asked_suits world honest peer (Storms x) (Offer frame) is_one given this s = queued_suits world honest peer (Offer frame) is_one this s
-asked_suits world honest peer (Storms x) Poll is_one given this s = queued_suits world honest peer Poll is_one this s
+asked_suits world honest peer driver call is_one given this s = queued_suits world honest peer call is_one this s
 
 cut_suits : (world : World) (honest : Bool) (driver : Driver) → DriverSuits world honest driver → DriverSuits world honest (cut driver)
 cut_suits world honest Waits given = tt
@@ -109,11 +99,8 @@ event_suits world peer past (AutoStarted p expected) proper s = record { waiting
 event_suits world peer past (StormStarted p seed) proper s = record { waiting = s.waiting; driver = proper; idle = s.idle }
 event_suits world peer past (TurnTaken p) proper s =
     let o = opened_suits world (config_of world p) peer (is_link world p) s in moved_suits world (is_link world p) (opened (config_of world p) peer) (opened (config_of world p) peer).left past refl o
-event_suits world peer past (RegionAccessed p a) proper s = s
 event_suits world peer past (DeviceReset p) proper s = record { waiting = tt; driver = cut_suits world (is_link world p) peer.driver s.driver; idle = λ is_none. (refl, refl) }
-event_suits world peer past (DeviceAccessed p a) proper s = s
-event_suits world peer past (InterruptDropped p) proper s = s
-event_suits world peer past (InterruptRepeated p vector) proper s = s
+event_suits world peer past _ proper s = s
 
 pub starts_suit : (world : World) (honest : Bool) → Suits world honest at_start
 starts_suit world honest = record { waiting = tt; driver = tt; idle = λ is_none. (refl, refl) }

@@ -6,7 +6,7 @@ use Rattle.split_ring.specs.declared.sizes.TheConstants.{SHORTEST_FRAME}
 use Rattle.split_ring.specs.declared.ranges.FieldName.TheVariants as field_name
 use Rattle.split_ring.specs.declared.steps.Access.{Access}
 use Rattle.split_ring.specs.declared.steps.Access.TheVariants as access
-use Rattle.split_ring.specs.Layout.{has_events, limit_of, word_offset, DescAddress, DescLength, DescFlags, UsedIndex}
+use Rattle.split_ring.specs.Layout.{has_events, word_offset, DescAddress, DescLength, DescFlags, UsedIndex}
 use Rattle.split_ring.specs.Spelling.{low_half, high_half, entry_half, desc_flags}
 use Rattle.split_ring.specs.Ranges.{IsAvailEntry, IsDescAddress, IsDescLength, IsDescFlags, is_avail_entry, is_desc_address, is_desc_length, is_desc_flags, is_used_id, is_avail_index, is_used_index}
 use Rattle.split_ring.proofs.TestsDecideRanges.{entry_of_test, address_of_test, length_of_test}
@@ -56,10 +56,7 @@ ReadsAre config place reads = reads ≡ []
 -- The reads after a step: its marks empty the list.
 abbrev pub reads_taken : Access → ℕ → List Got → List Got
 reads_taken (access.Read word) value reads = reads ++ got word value ∷ []
-reads_taken (access.Write word written) value reads = reads
-reads_taken (access.State state) value reads = reads
-reads_taken (access.Ring target vector) value reads = reads
-reads_taken access.Nothing value reads = reads
+reads_taken _ value reads = reads
 
 abbrev pub reads_marked : List Mark → List Got → List Got
 reads_marked [] reads = reads

@@ -38,17 +38,8 @@ honest_peers_never_refuse world before after p refused is one other lawful =
 -- A side that refused stays refused until its reset
 
 marked_refused : (mark : Mark) (side : Side) → side.refused ≡ true → (side_after (Marked mark) side).refused ≡ true
-marked_refused (Saw value) side is = is
-marked_refused (Reclaim count) side is = is
-marked_refused Full side is = is
-marked_refused (Accept frame) side is = is
-marked_refused (Look count) side is = is
-marked_refused (Deliver frame) side is = is
-marked_refused Return side is = is
-marked_refused Done side is = is
-marked_refused Down side is = is
 marked_refused (Refuse refused) side is = refl
-marked_refused Over side is = is
+marked_refused _ side is = is
 
 side_event_refused : (peer p : ℕ) (side_event : SideEvent) (side : Side) → (peer ≡ p → side_event ≢ WasReset) → side.refused ≡ true → (side_after_line (HasEvent peer side_event) p side).refused ≡ true
 side_event_refused peer p side_event side no_reset is = dite (ℕ_discrete peer p)

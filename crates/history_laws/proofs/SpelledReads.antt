@@ -17,7 +17,7 @@ use Rattle.call_grammar.proofs.FieldsAreReadOnce.{distinct}
 use Rattle.lawful_history.specs.Sides.{config_of}
 use Rattle.lawful_history.proofs.Exists.{has_sections}
 use Rattle.history_laws.specs.SideEvents.{side_of}
-use Rattle.history_laws.specs.Reads.{Got, got, reads_of, entry_read, low_read, high_read, length_read, flags_read, word_reads}
+use Rattle.history_laws.specs.Reads.{Got, got, entry_read, low_read, high_read, length_read, flags_read, word_reads}
 use Rattle.history_laws.specs.Delivered.{words_read, IsSpelledByReads, DeliveredFramesAreSpelled}
 use Rattle.history_laws.proofs.AtMarks.{delivered_frames_are_read}
 

@@ -7,7 +7,7 @@ use Rattle.split_ring.specs.declared.steps.Access.{Access}
 use Rattle.split_ring.specs.declared.steps.Access.TheVariants as access
 use Rattle.split_ring.specs.Layout.{Sizes}
 use Rattle.scenario_text.specs.Scenario.{World, is_link}
-use Rattle.call_grammar.specs.Steps.{value_given, Mark, Saw, Reclaim, Full, Accept, Look, Deliver, Return, Done, Down, Refuse, Over, step_of}
+use Rattle.call_grammar.specs.Steps.{value_given, Mark, Reclaim, Look, Deliver, Down, Refuse, Over, step_of}
 use Rattle.link_machine.specs.LinkMachine.{Side, SideEvent, Gave, Wrote, Marked, WasReset, MarkRow, Row}
 use Rattle.link_invariant.specs.Steps.{MemoryAfter}
 use Rattle.link_invariant.specs.Sides.{side_events_of, FollowsRows}
@@ -27,17 +27,13 @@ use Rattle.history_laws.proofs.OtherLines.{here_is, there_is}
 -- The row of a side event determines the side after it
 
 mark_new : (sizes : Sizes) (honest : Bool) (side other : Side) (mark : Mark) (new : Side) → MarkRow sizes honest side other mark new → new ≡ side_marked mark side
-mark_new sizes honest side other (Saw value) new row = row.2
 mark_new sizes honest side other (Reclaim count) new row = row.3
-mark_new sizes honest side other Full new row = row.2
-mark_new sizes honest side other (Accept frame) new row = row.2
 mark_new sizes honest side other (Look count) new row = row.3
 mark_new sizes honest side other (Deliver frame) new row = row.3
-mark_new sizes honest side other Return new row = row.2
-mark_new sizes honest side other Done new row = row.2
 mark_new sizes honest side other Down new row = row.1
 mark_new sizes honest side other (Refuse refused) new row = row.3
 mark_new sizes honest side other Over new row = row
+mark_new sizes honest side other _ new row = row.2
 
 pub row_new : (sizes : Sizes) (mine other_honest : Bool) (side other : Side) (side_event : SideEvent) (new : Side) → Row sizes mine other_honest side other side_event new → new ≡ side_after side_event side
 row_new sizes mine other_honest side other (Gave value) new row = row
@@ -195,10 +191,7 @@ stored_at word value memory w ne = there_is word w value (memory w) (λ e. ne (s
 -- A read adds no lines of the devices, and its marks answer it.
 abbrev pub ReadsAlone : World → ℕ → Access → ℕ → List Line → List Mark → List Line → Type 0
 ReadsAlone world p (access.Read word) value device marks past = (device ≡ []) × AnswersMarks world (line.Read p word value ∷ past) p marks
-ReadsAlone world p (access.Write word written) value device marks past = Unit {0}
-ReadsAlone world p (access.State state) value device marks past = Unit {0}
-ReadsAlone world p (access.Ring target vector) value device marks past = Unit {0}
-ReadsAlone world p access.Nothing value device marks past = Unit {0}
+ReadsAlone world p _ value device marks past = Unit {0}
 
 pub step_went : (world : World) (p : ℕ) (a : Access) (value : ℕ) (device : List Line) (marks : List Mark) (past : List Line) (new : Side) → p < 2 → is_link world p ≡ true → AllByRecursion IsQuiet device →
     FollowsRows world.queue (is_link world (1 - p)) (side_of past (1 - p)) (side_of past p) (side_events_of a (value_given a value) ++ map Marked marks) new → RestsAt world past p a → MarksRest world (reverse device ++ after_access p a value past) p marks → ReadsAlone world p a value device marks past → Settled world past → EachLine (Fine world) past →

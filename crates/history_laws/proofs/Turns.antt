@@ -139,10 +139,7 @@ opens_stands world past ends places p left is below honest (inr (closed, (call, 
 -- A read meets the value of its step.
 meets_like : (memory : ℕ → ℕ) (a : Access) (value met : ℕ) → value ≡ value_given a met → ReadsMemory memory a value → ReadsMemory memory a met
 meets_like memory (access.Read word) value met is m = sym is ∙ m
-meets_like memory (access.Write word written) value met is m = tt
-meets_like memory (access.State state) value met is m = tt
-meets_like memory (access.Ring target vector) value met is m = tt
-meets_like memory access.Nothing value met is m = tt
+meets_like memory _ value met is m = tt
 
 going : (world : World) (past device : List Line) (ends after_ends : ℕ → End) (places : ℕ → Place) (p : ℕ) (step : Step) (left : CallTree) → IsWorld world → p < 2 → is_link world p ≡ true → AllByRecursion IsQuiet device → BringsNone step.access device →
     Goes (remaining (pair.config_of (link_config_of world) p) (places p)) step left → ReadsMemory (last_write past) step.access step.value →
@@ -168,10 +165,7 @@ going world past device ends after_ends places p step left is below honest quiet
 
 does_meet : (config : EndConfig) (memory : ℕ → ℕ) (a : Access) → MayDo config a → ReadsMemory memory a (value_given a 0)
 does_meet config memory (access.Read word) may = absurd may
-does_meet config memory (access.Write word written) may = tt
-does_meet config memory (access.State state) may = tt
-does_meet config memory (access.Ring target vector) may = tt
-does_meet config memory access.Nothing may = tt
+does_meet config memory _ may = tt
 
 -- The turn
 

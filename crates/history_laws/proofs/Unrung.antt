@@ -121,11 +121,8 @@ own_marks p [] none = tt
 own_marks p (mark ∷ marks) none = (side_event_none p p (mark_line p mark) mark (mark_is p mark).0 (inl (first_none mark marks none)), own_marks p marks (rest_none mark marks none))
 
 access_none : (p q : ℕ) (a : Access) (value : ℕ) → NoAccepts q (access_lines p a value)
-access_none p q (access.Read word) value = (λ accept. let e = accept.1 in cc, tt)
-access_none p q (access.Write word written) value = (λ accept. let e = accept.1 in cc, tt)
-access_none p q (access.State state) value = (λ accept. let e = accept.1 in cc, tt)
-access_none p q (access.Ring target vector) value = (λ accept. let e = accept.1 in cc, tt)
 access_none p q access.Nothing value = tt
+access_none p q _ value = (λ accept. let e = accept.1 in cc, tt)
 
 pub step_none : (p q : ℕ) (a : Access) (value : ℕ) (device : List Line) (marks : List Mark) → AreSilent device → (p ≢ q) ⊎ ((p ≡ q) × AcceptsNone marks) → NoAccepts q (step_lines p (step_of a value marks) device)
 step_none p q a value device marks silent (inl ne) = both q _ _ (access_none p q a (value_given a value)) (both q _ _ (silents_none q device silent) (others_marks p q ne marks))
@@ -162,11 +159,8 @@ UnrungAt world p (ReadingAvailEvent number) older = Unit {0}
 UnrungAt world p place older = ¬ Unrung world p older
 
 access_keeps : (world : World) (p : ℕ) (a : Access) (value : ℕ) (past : List Line) → ¬ Unrung world p past → ¬ Unrung world p (after_access p a value past)
-access_keeps world p (access.Read word) value past none unrung = none (unrung_before world p _ past (λ accept. let e = accept.1 in cc) unrung)
-access_keeps world p (access.Write word written) value past none unrung = none (unrung_before world p _ past (λ accept. let e = accept.1 in cc) unrung)
-access_keeps world p (access.State state) value past none unrung = none (unrung_before world p _ past (λ accept. let e = accept.1 in cc) unrung)
-access_keeps world p (access.Ring target vector) value past none unrung = none (unrung_before world p _ past (λ accept. let e = accept.1 in cc) unrung)
 access_keeps world p access.Nothing value past none unrung = none unrung
+access_keeps world p _ value past none unrung = none (unrung_before world p _ past (λ accept. let e = accept.1 in cc) unrung)
 
 rung_here : (world : World) (p : ℕ) (past : List Line) → ¬ Unrung world p (doorbell_of world p ∷ past)
 rung_here world p past (inl accept) = let e = accept.1 in cc

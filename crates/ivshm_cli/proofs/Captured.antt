@@ -6,6 +6,7 @@ use Rattle.std.proofs.lemmas.List.{length-take, length-map, length_push, append_
 use Rattle.std.proofs.lemmas.List.Elements.{All-nil, All-cons, All-head, All-tail, All-append}
 use Rattle.line_format.specs.Forms.{Piece, line_of}
 use Rattle.line_format.specs.Rows.{Row, fields_of_row, row, line_of_row, text_of}
+use Rattle.split_ring.specs.declared.sizes.TheConstants.{LONGEST_FRAME}
 use Rattle.scenario_text.specs.Scenario.{World, IsWorld, is_link}
 use Rattle.scenario_text.specs.Spelling as scenario
 use Rattle.lawful_history.specs.declared.line.Line.{Line}
@@ -18,6 +19,7 @@ use Rattle.record_text.specs.Table.{pieces_of}
 use Rattle.record_text.specs.LineRows.{row_of_line}
 use Rattle.record_text.specs.Versions.{first_line}
 use Rattle.record_text.specs.Spelling.{history_rows}
+use Rattle.frame_capture.specs.declared.reading.TheConstants.{LONGEST_CAPTURED}
 use Rattle.frame_capture.specs.Deliveries.{IsShortLine}
 use Rattle.ivshm_cli.specs.Replay.{Spells}
 
@@ -46,7 +48,7 @@ lines_within bytes world version history spelled =
 
 -- ---- frames
 
-cut_short : (n : ℕ) (bytes frame : List ℕ) → frame ≡ take n bytes → n ≤ 65553 → length frame ≤ 262144
+cut_short : (n : ℕ) (bytes frame : List ℕ) → frame ≡ take n bytes → n ≤ LONGEST_FRAME → length frame ≤ LONGEST_CAPTURED
 cut_short n bytes frame is few = omega (arith, ap length is, length-take n bytes)
 
 short_line : DeliveredFramesAreRead → (world : World) → IsWorld world → (before after : List Line) (line : Line) → IsLawful world (before ++ line ∷ after) → IsShortLine line

@@ -9,7 +9,7 @@ use Rattle.program_edge.specs.declared.exit.Status.TheVariants.{Done, Differs, U
 use Rattle.ivshm_cli.specs.declared.runs.Ran.{Ran}
 use Rattle.ivshm_cli.specs.Forms.{IsVerdict}
 use Rattle.program_edge.specs.Exit.{has_reply}
-use Rattle.ivshm_cli.specs.Due.{Follows, IsDue, limit_for, writes_nothing, HasCause, WritesReply, WritesFront, WritesRefusal, Runs, usage_line}
+use Rattle.ivshm_cli.specs.Due.{Follows, limit_for, writes_nothing, HasCause, WritesReply, WritesFront, WritesRefusal, Runs, usage_line}
 use Rattle.ivshm_cli.proofs.ReplayFindsOne.{answer_of}
 use Rattle.ivshm_cli.proofs.Complete.{not_refused, due_usage}
 
@@ -58,13 +58,9 @@ module _ (before now : Input) (before' now' : Output) (ran : Option Ran) where
 
 -- The cases of a status for which nothing is written.
 pub unwritten : {A : Type 0} (result : Status) → (result ≡ ReadFault → A) → (result ≡ NoMemory → A) → writes_nothing result ≡ true → A
-unwritten Done read memory e = cc
-unwritten Differs read memory e = cc
-unwritten Usage read memory e = cc
-unwritten Refused read memory e = cc
 unwritten ReadFault read memory e = read refl
-unwritten WriteFault read memory e = cc
 unwritten NoMemory read memory e = memory refl
+unwritten _ read memory e = cc
 
 -- ---- words that the program has, or can't have
 

@@ -1,17 +1,17 @@
 -- The finding of `replay` in a record, and its uniqueness.
-use Rattle.std.proofs.Common.{◌≡◌, ◌≢◌, ℕ, ◌≤◌, List, length, refl, sym, ◌∙◌, ap, subst}
+use Rattle.std.proofs.Common.{◌≡◌, ◌≢◌, ℕ, List, length, refl, sym, ◌∙◌, ap, subst}
 use Rattle.std.proofs.lemmas.Bool.{ltb-false}
 use Rattle.std.specs.Prelude.{Bool, true, false, Option, Some, None, IfSome, MatchBool}
 use Rattle.ivs_base.specs.SourceAndSink.{Input, Output, Took}
 use Rattle.scenario_text.specs.Scenario.{World}
 use Rattle.lawful_history.specs.declared.line.Line.{Line}
 use Rattle.lawful_history.specs.Sessions.{recorded_in}
-use Rattle.lawful_history.specs.Lawful.{IsLawful, IsLawfulIn}
+use Rattle.lawful_history.specs.Lawful.{IsLawfulIn}
 use Rattle.link_model.specs.declared.fault.Unlawful.{Unlawful}
 use Rattle.record_text.specs.Spelling.{Record, IsSpelling}
 use Rattle.record_text.proofs.SpelledIsRead.{is_answered}
 use Rattle.program_edge.specs.declared.words.Command.{Command}
-use Rattle.program_edge.specs.declared.words.Command.TheVariants.{Sim, Run, Replay, Renew, Dump, Config, Load, Capture, Feed, Ports, Bridge}
+use Rattle.program_edge.specs.declared.words.Command.TheVariants.{Run, Replay, Renew, Capture}
 use Rattle.ivshm_cli.specs.declared.refusals.Fault.{Fault}
 use Rattle.ivshm_cli.specs.declared.refusals.Fault.TheVariants.{TooLong}
 use Rattle.program_edge.specs.declared.exit.Status.{Status}
@@ -98,19 +98,12 @@ answer_of form status before now before' now' ran answered w =
       wrote = w.wrote;
     }
 
--- Only a command that reads records answers Differs: a line for each command.
+-- Only a command that reads records answers Differs.
 differs_of : (form : Command) (bytes text : List ℕ) → Replies form bytes Differs text → ReadsRecords form × IsDifferent bytes text × (limit_of form ≡ Some RECORD_LIMIT)
-differs_of Sim bytes text h = absurd h
-differs_of Run bytes text h = absurd h
 differs_of Replay bytes text h = (tt, h, refl)
 differs_of Renew bytes text h = (tt, h, refl)
-differs_of Dump bytes text h = absurd h
-differs_of (Config peer) bytes text h = absurd h
-differs_of (Load count) bytes text h = absurd h
 differs_of (Capture peer) bytes text h = (tt, h, refl)
-differs_of (Feed peer) bytes text h = absurd h
-differs_of Ports bytes text h = absurd h
-differs_of Bridge bytes text h = absurd h
+differs_of _ bytes text h = absurd h
 
 module _ (before now : Input) (before' now' : Output) where
   peers_left : (ran : Option Ran) → WritesAnswer Run Done before now before' now' ran → RunsPeers before now before' now' ran

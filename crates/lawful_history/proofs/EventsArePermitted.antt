@@ -4,11 +4,11 @@ use Rattle.std.specs.Prelude.{slice_get, Some, nat_lt, nat_le, ◌&&◌, ◌==�
 use Rattle.std.specs.List.{AllByRecursion}
 use Rattle.std.proofs.lemmas.Bool.Decides.{nat_tests}
 use Rattle.scenario_text.specs.declared.acts.Act.{Act}
-use Rattle.scenario_text.specs.declared.acts.Act.TheVariants.{Tick, Offer, Poll, Stop, Auto, Storm, Turn, Reset, Poke, Peek, Set, Ring, CfgRead, CfgWrite, MmioRead, MmioWrite, MsixRead, MsixWrite, Lose, Again}
+use Rattle.scenario_text.specs.declared.acts.Act.TheVariants.{Tick, Offer, Poll, Stop, Auto, Storm, Turn, Poke, Peek, Set, MmioWrite}
 use Rattle.scenario_text.specs.Scenario.{World, IsWorld, is_its_peer, is_frame_size}
 use Rattle.scenario_text.specs.ActRows.{row_of_act}
 pub use Rattle.lawful_history.specs.Permitted.{IsPermittedEvent}
-use Rattle.lawful_history.specs.Schedule.{Event, CallQueued, AutoStarted, StormStarted, TurnTaken, RegionAccessed, DeviceReset, DeviceAccessed, InterruptDropped, InterruptRepeated, event_peer, register_event, events_of, schedule}
+use Rattle.lawful_history.specs.Schedule.{Event, CallQueued, TurnTaken, event_peer, register_event, events_of, schedule}
 
 link_below : (p : ℕ) (peers : ℕ) (flag : Bool) → 2 ≤ peers → (nat_lt p 2 && flag) ≡ true → p < peers
 link_below p peers flag two is = grind (arith, nat_tests)
@@ -29,14 +29,7 @@ turns_there P p (suc steps) others here all = (here, turns_there P p steps other
 
 pub there_below : (world : World) (event : Event) → IsPermittedEvent world event → event_peer event < world.geometry.peers
 there_below world (CallQueued p call) there = there.0
-there_below world (AutoStarted p expected) there = there
-there_below world (StormStarted p seed) there = there
-there_below world (TurnTaken p) there = there
-there_below world (RegionAccessed p a) there = there
-there_below world (DeviceReset p) there = there
-there_below world (DeviceAccessed p a) there = there
-there_below world (InterruptDropped p) there = there
-there_below world (InterruptRepeated p vector) there = there
+there_below world _ there = there
 
 frame_given : (size most : ℕ) → (nat_le 14 size && nat_le size most) ≡ true → (14 ≤ size) × (size ≤ most)
 frame_given size most is = (grind (arith, nat_tests), grind (arith, nat_tests))
@@ -55,19 +48,11 @@ act_there world (Stop p) others two is frame all = ((link_below p _ _ two is, tt
 act_there world (Auto p expect) others two is frame all = (link_below p _ _ two is, all)
 act_there world (Storm p seed) others two is frame all = (hostile_below p _ _ is, all)
 act_there world (Turn p steps) others two is frame all = turns_there (IsPermittedEvent world) p steps others (peer_below p _ is) all
-act_there world (Reset p) others two is frame all = (peer_below p _ is, all)
 act_there world (Poke p word value) others two is frame all = (hostile_below p _ _ is, all)
 act_there world (Peek p word) others two is frame all = (hostile_below p _ _ is, all)
 act_there world (Set p value) others two is frame all = (hostile_below p _ _ is, all)
-act_there world (Ring p target vector) others two is frame all = (peer_below p _ is, all)
-act_there world (CfgRead p offset width) others two is frame all = (peer_below p _ is, all)
-act_there world (CfgWrite p offset width value) others two is frame all = (peer_below p _ is, all)
-act_there world (MmioRead p offset) others two is frame all = (peer_below p _ is, all)
 act_there world (MmioWrite p offset value) others two is frame all = (register_there world p offset value _ _ refl refl (either_below p _ (offset == 16) _ is), all)
-act_there world (MsixRead p offset) others two is frame all = (peer_below p _ is, all)
-act_there world (MsixWrite p offset value) others two is frame all = (peer_below p _ is, all)
-act_there world (Lose p) others two is frame all = (peer_below p _ is, all)
-act_there world (Again p vector) others two is frame all = (peer_below p _ is, all)
+act_there world _ others two is frame all = (peer_below _ _ is, all)
 
 acts_there : (world : World) (acts : List Act) → 2 ≤ world.geometry.peers →
     ((k : ℕ) (act : Act) → slice_get acts k ≡ Some act → is_its_peer world (row_of_act act).form (row_of_act act).numbers ≡ true) →

@@ -1,6 +1,6 @@
 -- The computed history is lawful.
 use Rattle.std.proofs.Common.{◌≡◌, ◌≢◌, ℕ, ◌+◌, ◌*◌, ◌/◌, ◌%◌, ◌<◌, ◌≤◌, Bool, true, false, List, [], ◌∷◌, ◌++◌, length, refl, sym, ◌∙◌, ap, subst, arith, append_assoc, replicate, inl, length-set}
-use Rattle.std.specs.Prelude.{◌==◌, nat_lt, if◌then◌else◌, Option, Some, None, map, reverse}
+use Rattle.std.specs.Prelude.{◌==◌, nat_lt, if◌then◌else◌, Some, None, map, reverse}
 use Rattle.std.specs.List.{flat_map, AllByRecursion}
 use Rattle.std.proofs.lemmas.List.{reverse-append, reverse-reverse, append-nil, get_or-set_same, get_or-set_other, get_or-replicate, get_or_past, length-replicate}
 use Rattle.std.proofs.lemmas.Bool.Decides.{nat_tests}
@@ -13,28 +13,26 @@ use Rattle.split_ring.specs.declared.steps.Access.TheVariants as access
 use Rattle.split_ring.specs.Layout.{Sizes, IsQueue, data_area_start}
 use Rattle.split_ring.proofs.QueueHasBounds.{bounds}
 use Rattle.scenario_text.specs.Scenario.{World, IsWorld}
-use Rattle.doorbell_irq.specs.declared.effect.Delivery.{Delivery}
-use Rattle.doorbell_irq.specs.Events as device
-use Rattle.doorbell_irq.specs.DeviceRules.{effect_of}
-use Rattle.call_grammar.specs.Steps.{Mark, Step, step_of}
+use Rattle.call_grammar.specs.Steps.{Mark, step_of}
 use Rattle.call_grammar.specs.Trees.{CallTree, Ended, Does, Reads}
-use Rattle.call_grammar.specs.Calls.{EndConfig, Call, Tick, Stop, Offer, Poll}
+use Rattle.call_grammar.specs.Calls.{EndConfig, Call, Tick, Offer, Poll}
 use Rattle.call_grammar.specs.Automatic.{Choice, ChoosesTick, ChoosesOffer, ChoosesPoll, IsFinished}
 use Rattle.call_grammar.specs.Permitted.{MayDo, IsPermittedTree, HasSections, IsPermittedCall, CallsArePermitted}
 use Rattle.lawful_history.specs.declared.line.Line.{Line}
 use Rattle.lawful_history.specs.declared.line.Line.TheVariants as line
 use Rattle.lawful_history.specs.Memory.{MemoryLaw, last_write, memory_effect_of}
-use Rattle.lawful_history.specs.Schedule.{Event, CallQueued, AutoStarted, StormStarted, TurnTaken, RegionAccessed, DeviceReset, DeviceAccessed, InterruptDropped, InterruptRepeated, event_peer, schedule, DeviceAccess, ReadsConfig, WritesConfig, ReadsRegister, WritesRegister, ReadsMsix, WritesMsix}
+use Rattle.lawful_history.specs.Schedule.{Event, CallQueued, AutoStarted, StormStarted, TurnTaken, RegionAccessed, DeviceReset, event_peer, schedule, DeviceAccess, ReadsConfig}
 use Rattle.lawful_history.specs.Sides.{config_of}
 use Rattle.lawful_history.specs.Storm.{next_number, draw, drawn_access, storm_step}
-use Rattle.lawful_history.specs.EventRecords.{EventRecord, event_of, owner, mark_line, access_lines, step_lines, turn_lines, region_access_lines, lines_by, lines_of, own}
+use Rattle.lawful_history.specs.EventRecords.{EventRecord, event_of, owner, mark_line, step_lines, turn_lines, region_access_lines, lines_by, lines_of, own}
 use Rattle.lawful_history.specs.Peers.{Auto, Driver, Waits, Chooses, Storms, Peer, at_start, with_call_by, cut, with_choice, chosen, opened_by, opened, driver_after}
 use Rattle.lawful_history.specs.Order.{Progress, initial_progress, EventStep, noted, IsCallSequence}
-use Rattle.lawful_history.specs.Device.{devices_of, device_events, delivery_line, delivery_lines, interrupts_of_event, lost_count, device_event_of, interrupts_of_access, step_interrupts, device_access_line, device_lines, DeviceRules}
+use Rattle.lawful_history.specs.Device.{device_access_line, device_lines, DeviceRules}
 use Rattle.lawful_history.specs.History.{HistoryState, driven_step, driven, step_by, moved_by, acted_step, step_in, peer_in, peer_at, step_of_event, entry_of, peer_after, peer_of_progress, IsWithin, after_event, run, initial_state, HistoryIsLawful}
 use Rattle.lawful_history.proofs.PeersKeepOrder.{keeps_order}
 use Rattle.lawful_history.proofs.Left.{HoldsOfOffer, choice_offers, left_keeps}
 use Rattle.lawful_history.proofs.Owners.{is_same, is_other, not_below}
+use Rattle.lawful_history.proofs.LinesOfDevices.{KeptByDevices, keeps_all, of_event}
 use Rattle.lawful_history.proofs.MemoryLawLine.{Harmless, harmless_law, marks_harmless}
 use Rattle.lawful_history.specs.Permitted.{IsPermittedEvent}
 use Rattle.lawful_history.proofs.EventsArePermitted.{there_below, all_there}
@@ -49,45 +47,12 @@ all_harmless g (line ∷ lines) others first rest = (first.0, all_harmless g lin
 
 -- The lines of the devices have no effect on a word
 
-arrival_harmless : (g : Shape) (b : Bool) (p vector : ℕ) → Harmless g (memory_effect_of (if b then line.Lost p vector else line.Interrupt p vector))
-arrival_harmless g true p vector = tt
-arrival_harmless g false p vector = tt
+reached_harmless : (g : Shape) (world : World) (older : List Line) (p : ℕ) (a : DeviceAccess) → Harmless g (memory_effect_of (device_access_line world older p a))
+reached_harmless g world older p (ReadsConfig offset width) = tt
+reached_harmless g world older p _ = tt
 
-arrived_harmless : (g : Shape) (older : List Line) (losses : ℕ → ℕ) (deliveries : List Delivery) → AllHarmless g (delivery_lines older losses deliveries)
-arrived_harmless g older losses [] = tt
-arrived_harmless g older losses (delivery ∷ deliveries) =
-    (arrival_harmless g (nat_lt (lost_count older delivery.peer) (losses delivery.peer)) delivery.peer delivery.vector, arrived_harmless g (delivery_line older losses delivery ∷ older) losses deliveries)
-
-arrivals_harmless : (world : World) (older : List Line) (losses : ℕ → ℕ) (line : Line) (recorded : Option device.Event) → AllHarmless world.geometry (interrupts_of_event world older losses line recorded)
-arrivals_harmless world older losses line None = tt
-arrivals_harmless world older losses line (Some event) = arrived_harmless world.geometry (line ∷ older) losses (effect_of (devices_of world) (device_events older) event).deliveries.items
-
-brought_harmless : (world : World) (older : List Line) (losses : ℕ → ℕ) (lines : List Line) → AllHarmless world.geometry (interrupts_of_access world older losses lines)
-brought_harmless world older losses [] = tt
-brought_harmless world older losses (line ∷ lines) = arrivals_harmless world older losses line (device_event_of line)
-
-step_harmless : (world : World) (older : List Line) (losses : ℕ → ℕ) (p : ℕ) (went : Option Step) → AllHarmless world.geometry (step_interrupts world older losses p went)
-step_harmless world older losses p None = tt
-step_harmless world older losses p (Some step) = brought_harmless world older losses (access_lines p step.access step.value)
-
-reached_harmless : (world : World) (older : List Line) (p : ℕ) (a : DeviceAccess) → Harmless world.geometry (memory_effect_of (device_access_line world older p a))
-reached_harmless world older p (ReadsConfig offset width) = tt
-reached_harmless world older p (WritesConfig offset width value) = tt
-reached_harmless world older p (ReadsRegister offset) = tt
-reached_harmless world older p (WritesRegister offset value) = tt
-reached_harmless world older p (ReadsMsix offset) = tt
-reached_harmless world older p (WritesMsix offset value) = tt
-
-device_harmless : (world : World) (older : List Line) (losses : ℕ → ℕ) (event : Event) (went : Option Step) → AllHarmless world.geometry (device_lines world older losses event went)
-device_harmless world older losses (CallQueued p call) went = tt
-device_harmless world older losses (AutoStarted p expected) went = tt
-device_harmless world older losses (StormStarted p seed) went = tt
-device_harmless world older losses (TurnTaken p) went = step_harmless world older losses p went
-device_harmless world older losses (RegionAccessed p a) went = step_harmless world older losses p went
-device_harmless world older losses (DeviceReset p) went = arrivals_harmless world older losses (line.Reset p) (device_event_of (line.Reset p))
-device_harmless world older losses (DeviceAccessed p a) went = (reached_harmless world older p a, tt)
-device_harmless world older losses (InterruptDropped p) went = tt
-device_harmless world older losses (InterruptRepeated p vector) went = (tt, tt)
+harmless_keeps : (g : Shape) → KeptByDevices (AllHarmless g)
+harmless_keeps g = keeps_all (λ line. Harmless g (memory_effect_of line)) (λ p vector. tt) (λ p vector. tt) (reached_harmless g)
 
 -- Steps satisfy the memory law
 
@@ -235,17 +200,7 @@ queued_fits config peer call this fit = record { stays = fit.stays; given = wait
 
 asked_fits : (config : EndConfig) (peer : Peer) (driver : Driver) (call : Call) → AreGiven config driver → IsPermittedCall config call → IsFit config peer → IsFit config (with_call_by peer driver call)
 asked_fits config peer (Chooses auto) (Offer frame) given this fit = record { stays = fit.stays; given = fit.given; frames = frames_given config auto.frames frame given this }
-asked_fits config peer (Chooses auto) Tick given this fit = queued_fits config peer Tick this fit
-asked_fits config peer (Chooses auto) Stop given this fit = queued_fits config peer Stop this fit
-asked_fits config peer (Chooses auto) Poll given this fit = queued_fits config peer Poll this fit
-asked_fits config peer Waits Tick given this fit = queued_fits config peer Tick this fit
-asked_fits config peer Waits Stop given this fit = queued_fits config peer Stop this fit
-asked_fits config peer Waits (Offer frame) given this fit = queued_fits config peer (Offer frame) this fit
-asked_fits config peer Waits Poll given this fit = queued_fits config peer Poll this fit
-asked_fits config peer (Storms x) Tick given this fit = queued_fits config peer Tick this fit
-asked_fits config peer (Storms x) Stop given this fit = queued_fits config peer Stop this fit
-asked_fits config peer (Storms x) (Offer frame) given this fit = queued_fits config peer (Offer frame) this fit
-asked_fits config peer (Storms x) Poll given this fit = queued_fits config peer Poll this fit
+asked_fits config peer driver call given this fit = queued_fits config peer call this fit
 
 cut_given : (config : EndConfig) (driver : Driver) → AreGiven config driver → AreGiven config (cut driver)
 cut_given config Waits given = tt
@@ -267,20 +222,15 @@ peer_other world so_far event q other = get_or-set_other so_far.peers (event_pee
 
 lines_law : CallsArePermitted → (world : World) (peer : Peer) (past dev : List Line) (event : Event) → IsWorld world → IsFit (config_of world (event_peer event)) peer → AllHarmless world.geometry dev → MemoryLaw world.geometry past →
     MemoryLaw world.geometry (reverse (lines_by event (step_in world peer past event) dev) ++ past)
-lines_law reach world peer past dev (CallQueued p call) is fit harmless law = harmless_law world.geometry dev past harmless law
-lines_law reach world peer past dev (AutoStarted p expected) is fit harmless law = harmless_law world.geometry dev past harmless law
-lines_law reach world peer past dev (StormStarted p seed) is fit harmless law = harmless_law world.geometry dev past harmless law
 lines_law reach world peer past dev (TurnTaken p) is fit harmless law =
     let config = config_of world p in turn_law world p (opened config peer).driver (opened config peer).left dev past is (opened_fits reach config peer (has_sections world p is) fit).stays harmless law
 lines_law reach world peer past dev (RegionAccessed p a) is fit harmless law = acted_law world p a dev past harmless law
 lines_law reach world peer past dev (DeviceReset p) is fit harmless law = harmless_law world.geometry (line.Reset p ∷ dev) past (tt, harmless) law
-lines_law reach world peer past dev (DeviceAccessed p a) is fit harmless law = harmless_law world.geometry dev past harmless law
-lines_law reach world peer past dev (InterruptDropped p) is fit harmless law = harmless_law world.geometry dev past harmless law
-lines_law reach world peer past dev (InterruptRepeated p vector) is fit harmless law = harmless_law world.geometry dev past harmless law
+lines_law reach world peer past dev _ is fit harmless law = harmless_law world.geometry dev past harmless law
 
 event_law : CallsArePermitted → (world : World) (so_far : HistoryState) (event : Event) → IsWorld world → Good world so_far → MemoryLaw world.geometry (after_event world so_far event).past
 event_law reach world so_far event is good =
-    lines_law reach world (peer_at so_far (event_peer event)) so_far.past _ event is (good.fits (event_peer event)) (device_harmless world so_far.past so_far.losses event (step_of_event world so_far event)) good.law
+    lines_law reach world (peer_at so_far (event_peer event)) so_far.past _ event is (good.fits (event_peer event)) (of_event (AllHarmless world.geometry) (harmless_keeps world.geometry) world so_far.past so_far.losses event (step_of_event world so_far event)) good.law
 
 peer_fits : CallsArePermitted → (world : World) (peer : Peer) (past : List Line) (event : Event) → IsWorld world → IsPermittedEvent world event → IsFit (config_of world (event_peer event)) peer →
     IsFit (config_of world (event_peer event)) (peer_in world peer past event)
@@ -290,11 +240,8 @@ peer_fits reach world peer past (StormStarted p seed) is there fit = record { st
 peer_fits reach world peer past (TurnTaken p) is there fit =
     let opened_fit = opened_fits reach (config_of world p) peer (has_sections world p is) fit in
     moved_fits (config_of world p) (opened (config_of world p) peer) (opened (config_of world p) peer).left past opened_fit.stays opened_fit
-peer_fits reach world peer past (RegionAccessed p a) is there fit = fit
 peer_fits reach world peer past (DeviceReset p) is there fit = record { stays = tt; given = tt; frames = cut_given (config_of world p) peer.driver fit.frames }
-peer_fits reach world peer past (DeviceAccessed p a) is there fit = fit
-peer_fits reach world peer past (InterruptDropped p) is there fit = fit
-peer_fits reach world peer past (InterruptRepeated p vector) is there fit = fit
+peer_fits reach world peer past _ is there fit = fit
 
 -- A property of each peer is a property after an event.
 pub stays_on : (P : ℕ → Peer → Type 0) (world : World) (so_far : HistoryState) (event : Event) → event_peer event < length so_far.peers → P (event_peer event) (peer_after world so_far event) →

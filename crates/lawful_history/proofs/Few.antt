@@ -1,6 +1,6 @@
 -- The number of a scenario's sessions is bounded: each event writes State at most once.
 use Rattle.std.proofs.Common.{◌≡◌, ℕ, ◌+◌, ◌<◌, ◌≤◌, ◌^◌, Bool, true, false, List, [], ◌∷◌, ◌++◌, length, refl, ap, arith}
-use Rattle.std.specs.Prelude.{nat_lt, if◌then◌else◌, Option, Some, None, map, reverse}
+use Rattle.std.specs.Prelude.{if◌then◌else◌, Option, Some, None, map, reverse}
 use Rattle.std.proofs.lemmas.List.{reverse-append, length-append, length-replicate}
 use Rattle.std.proofs.lemmas.List.Sums.{sum_by-cons}
 use Rattle.split_ring.specs.declared.steps.Access.{Access}
@@ -9,17 +9,15 @@ use Rattle.scenario_text.specs.Scenario.{World, IsWorld}
 use Rattle.scenario_text.specs.Acts.{cost, turns_of}
 use Rattle.scenario_text.specs.declared.acts.Act.{Act}
 use Rattle.scenario_text.specs.declared.acts.Act.TheVariants as act
-use Rattle.doorbell_irq.specs.declared.effect.Delivery.{Delivery}
-use Rattle.doorbell_irq.specs.Events as device
-use Rattle.doorbell_irq.specs.DeviceRules.{effect_of}
-use Rattle.call_grammar.specs.Steps.{Mark, Saw, Reclaim, Full, Accept, Look, Deliver, Return, Done, Down, Refuse, Over, Step}
+use Rattle.call_grammar.specs.Steps.{Mark, Saw, Step}
 use Rattle.lawful_history.specs.declared.line.Line.{Line}
 use Rattle.lawful_history.specs.declared.line.Line.TheVariants as line
-use Rattle.lawful_history.specs.Schedule.{Event, CallQueued, AutoStarted, StormStarted, TurnTaken, RegionAccessed, DeviceReset, DeviceAccessed, InterruptDropped, InterruptRepeated, DeviceAccess, ReadsConfig, WritesConfig, ReadsRegister, WritesRegister, ReadsMsix, WritesMsix, events_of, schedule}
+use Rattle.lawful_history.specs.Schedule.{Event, TurnTaken, RegionAccessed, DeviceAccess, ReadsConfig, events_of, schedule}
 use Rattle.lawful_history.specs.EventRecords.{mark_line, access_lines, step_lines, turn_lines, denied_lines, region_access_lines, lines_by, lines_of}
-use Rattle.lawful_history.specs.Device.{devices_of, device_events, delivery_line, delivery_lines, interrupts_of_event, lost_count, device_event_of, interrupts_of_access, step_interrupts, device_access_line, device_lines}
+use Rattle.lawful_history.specs.Device.{device_access_line}
 use Rattle.lawful_history.specs.Sessions.{writes_state, opened_in}
 use Rattle.lawful_history.specs.History.{HistoryState, entry_of, step_of_event, after_event, run, initial_state}
+use Rattle.lawful_history.proofs.LinesOfDevices.{KeptByDevices, of_event}
 
 -- The number of sessions that lines open
 
@@ -50,59 +48,16 @@ OpensNone p lines = opened_in lines p ≡ 0
 none_append : (p : ℕ) (a b : List Line) → OpensNone p a → OpensNone p b → OpensNone p (a ++ b)
 none_append p a b first rest = let whole = opened_append p a b in omega arith
 
-none_arrival : (p : ℕ) (b : Bool) (q vector : ℕ) (lines : List Line) → OpensNone p lines → OpensNone p ((if b then line.Lost q vector else line.Interrupt q vector) ∷ lines)
-none_arrival p true q vector lines rest = rest
-none_arrival p false q vector lines rest = rest
-
-none_arrived : (p : ℕ) (older : List Line) (losses : ℕ → ℕ) (deliveries : List Delivery) → OpensNone p (delivery_lines older losses deliveries)
-none_arrived p older losses [] = refl
-none_arrived p older losses (delivery ∷ deliveries) =
-    none_arrival p (nat_lt (lost_count older delivery.peer) (losses delivery.peer)) delivery.peer delivery.vector (delivery_lines (delivery_line older losses delivery ∷ older) losses deliveries)
-    (none_arrived p (delivery_line older losses delivery ∷ older) losses deliveries)
-
-none_arrivals : (p : ℕ) (world : World) (older : List Line) (losses : ℕ → ℕ) (line : Line) (recorded : Option device.Event) → OpensNone p (interrupts_of_event world older losses line recorded)
-none_arrivals p world older losses line None = refl
-none_arrivals p world older losses line (Some event) = none_arrived p (line ∷ older) losses (effect_of (devices_of world) (device_events older) event).deliveries.items
-
-none_brought : (p : ℕ) (world : World) (older : List Line) (losses : ℕ → ℕ) (lines : List Line) → OpensNone p (interrupts_of_access world older losses lines)
-none_brought p world older losses [] = refl
-none_brought p world older losses (line ∷ lines) = none_arrivals p world older losses line (device_event_of line)
-
-none_interrupts : (p : ℕ) (world : World) (older : List Line) (losses : ℕ → ℕ) (q : ℕ) (went : Option Step) → OpensNone p (step_interrupts world older losses q went)
-none_interrupts p world older losses q None = refl
-none_interrupts p world older losses q (Some step) = none_brought p world older losses (access_lines q step.access step.value)
-
 none_reached : (p : ℕ) (world : World) (older : List Line) (q : ℕ) (a : DeviceAccess) → OpensNone p (device_access_line world older q a ∷ [])
 none_reached p world older q (ReadsConfig offset width) = refl
-none_reached p world older q (WritesConfig offset width value) = refl
-none_reached p world older q (ReadsRegister offset) = refl
-none_reached p world older q (WritesRegister offset value) = refl
-none_reached p world older q (ReadsMsix offset) = refl
-none_reached p world older q (WritesMsix offset value) = refl
+none_reached p world older q _ = refl
 
-none_device : (p : ℕ) (world : World) (older : List Line) (losses : ℕ → ℕ) (event : Event) (went : Option Step) → OpensNone p (device_lines world older losses event went)
-none_device p world older losses (CallQueued q call) went = refl
-none_device p world older losses (AutoStarted q expected) went = refl
-none_device p world older losses (StormStarted q seed) went = refl
-none_device p world older losses (TurnTaken q) went = none_interrupts p world older losses q went
-none_device p world older losses (RegionAccessed q a) went = none_interrupts p world older losses q went
-none_device p world older losses (DeviceReset q) went = none_arrivals p world older losses (line.Reset q) (device_event_of (line.Reset q))
-none_device p world older losses (DeviceAccessed q a) went = none_reached p world older q a
-none_device p world older losses (InterruptDropped q) went = refl
-none_device p world older losses (InterruptRepeated q vector) went = refl
+none_keeps : (p : ℕ) → KeptByDevices (OpensNone p)
+none_keeps p = record { none = refl; interrupt = λ q vector lines rest. rest; lost = λ q vector lines rest. rest; reached = none_reached p }
 
 none_mark : (p q : ℕ) (mark : Mark) (lines : List Line) → OpensNone p lines → OpensNone p (mark_line q mark ∷ lines)
 none_mark p q (Saw value) lines rest = rest
-none_mark p q (Reclaim count) lines rest = rest
-none_mark p q Full lines rest = rest
-none_mark p q (Accept frame) lines rest = rest
-none_mark p q (Look count) lines rest = rest
-none_mark p q (Deliver frame) lines rest = rest
-none_mark p q Return lines rest = rest
-none_mark p q Done lines rest = rest
-none_mark p q Down lines rest = rest
-none_mark p q (Refuse refused) lines rest = rest
-none_mark p q Over lines rest = rest
+none_mark p q _ lines rest = rest
 
 none_marks : (p q : ℕ) (marks : List Mark) → OpensNone p (map (mark_line q) marks)
 none_marks p q [] = refl
@@ -115,11 +70,8 @@ at_most_one true = omega arith
 at_most_one false = omega arith
 
 one_access : (p q : ℕ) (a : Access) (value : ℕ) → opened_in (access_lines q a value) p ≤ 1
-one_access p q (access.Read word) value = omega arith
-one_access p q (access.Write word written) value = omega arith
 one_access p q (access.State state) value = at_most_one (writes_state p 2 (line.State q state))
-one_access p q (access.Ring target vector) value = omega arith
-one_access p q access.Nothing value = omega arith
+one_access p q _ value = omega arith
 
 one_step : (p q : ℕ) (step : Step) (dev : List Line) → OpensNone p dev → opened_in (step_lines q step dev) p ≤ 1
 one_step p q step dev none =
@@ -133,25 +85,16 @@ one_turn p q (Some step) dev none = one_step p q step dev none
 
 none_denied : (p q : ℕ) (a : Access) → OpensNone p (denied_lines q a)
 none_denied p q (access.Read word) = refl
-none_denied p q (access.Write word written) = refl
-none_denied p q (access.State state) = refl
-none_denied p q (access.Ring target vector) = refl
-none_denied p q access.Nothing = refl
+none_denied p q _ = refl
 
 one_acted : (p q : ℕ) (a : Access) (went : Option Step) (dev : List Line) → OpensNone p dev → opened_in (region_access_lines q a went dev) p ≤ 1
 one_acted p q a None dev none = let whole = none_append p (denied_lines q a) dev (none_denied p q a) none in omega arith
 one_acted p q a (Some step) dev none = one_step p q step dev none
 
 one_by : (p : ℕ) (event : Event) (went : Option Step) (dev : List Line) → OpensNone p dev → opened_in (lines_by event went dev) p ≤ 1
-one_by p (CallQueued q call) went dev none = omega arith
-one_by p (AutoStarted q expected) went dev none = omega arith
-one_by p (StormStarted q seed) went dev none = omega arith
 one_by p (TurnTaken q) went dev none = one_turn p q went dev none
 one_by p (RegionAccessed q a) went dev none = one_acted p q a went dev none
-one_by p (DeviceReset q) went dev none = omega arith
-one_by p (DeviceAccessed q a) went dev none = omega arith
-one_by p (InterruptDropped q) went dev none = omega arith
-one_by p (InterruptRepeated q vector) went dev none = omega arith
+one_by p _ went dev none = omega arith
 
 one_event : (p : ℕ) (world : World) (so_far : HistoryState) (event : Event) → opened_in (after_event world so_far event).past p ≤ opened_in so_far.past p + 1
 one_event p world so_far event =
@@ -159,7 +102,7 @@ one_event p world so_far event =
     let whole = opened_append p (reverse lines) so_far.past in
     let back = opened_reverse p lines in
     let one = one_by p event (step_of_event world so_far event) (entry_of world so_far event).device
-    (none_device p world so_far.past so_far.losses event (step_of_event world so_far event)) in omega arith
+    (of_event (OpensNone p) (none_keeps p) world so_far.past so_far.losses event (step_of_event world so_far event)) in omega arith
 
 -- The number of sessions opened is at most the number of events.
 pub opened_run : (p : ℕ) (world : World) (events : List Event) (so_far : HistoryState) → opened_in (run world events so_far).past p ≤ opened_in so_far.past p + length events

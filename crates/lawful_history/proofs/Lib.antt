@@ -1,6 +1,7 @@
 pub mod Owners
 pub mod Unique
 pub mod MemoryLawLine
+pub mod LinesOfDevices
 pub mod PeersKeepOrder
 pub mod Left
 pub mod Exists

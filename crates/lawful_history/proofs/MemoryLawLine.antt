@@ -5,7 +5,7 @@ use Rattle.std.specs.List.{AllByRecursion}
 use Rattle.std.proofs.lemmas.List.{reverse-append}
 use Rattle.section_map.specs.Geometry.{Shape}
 use Rattle.section_map.specs.MayWrite.{MayWrite}
-use Rattle.call_grammar.specs.Steps.{Mark, Saw, Reclaim, Full, Accept, Look, Deliver, Return, Done, Down, Refuse, Over}
+use Rattle.call_grammar.specs.Steps.{Mark, Saw}
 use Rattle.lawful_history.specs.declared.line.Line.{Line}
 use Rattle.lawful_history.specs.Memory.{MemoryEffect, Gave, Stored, Denied, Set, memory_effect_of, IsConsistent, MemoryLaw}
 use Rattle.lawful_history.specs.Memory as touch
@@ -35,16 +35,7 @@ harmless_law g (line ∷ lines) past h law =
 -- A mark has no effect on a word.
 pub mark_apart : (peer : ℕ) (mark : Mark) → memory_effect_of (mark_line peer mark) ≡ touch.Apart
 mark_apart peer (Saw value) = refl
-mark_apart peer (Reclaim count) = refl
-mark_apart peer Full = refl
-mark_apart peer (Accept frame) = refl
-mark_apart peer (Look count) = refl
-mark_apart peer (Deliver frame) = refl
-mark_apart peer Return = refl
-mark_apart peer Done = refl
-mark_apart peer Down = refl
-mark_apart peer (Refuse refused) = refl
-mark_apart peer Over = refl
+mark_apart peer _ = refl
 
 pub marks_harmless : (g : Shape) (peer : ℕ) (marks : List Mark) → AllByRecursion (λ line. Harmless g (memory_effect_of line)) (map (mark_line peer) marks)
 marks_harmless g peer [] = tt

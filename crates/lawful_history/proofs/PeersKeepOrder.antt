@@ -7,10 +7,10 @@ use Rattle.split_ring.specs.declared.steps.Access.{Access}
 use Rattle.split_ring.specs.declared.steps.Access.TheVariants as access
 use Rattle.section_map.specs.MayWrite.{may_write}
 use Rattle.scenario_text.specs.Scenario.{World}
-use Rattle.call_grammar.specs.Steps.{Mark, Saw, Reclaim, Full, Accept, Look, Deliver, Return, Done, Down, Refuse, Over, Step, step_of}
+use Rattle.call_grammar.specs.Steps.{Mark, Saw, Step, step_of}
 use Rattle.call_grammar.specs.Trees.{CallTree, Ended, Does, Reads}
 use Rattle.call_grammar.specs.Ends.{after_reset, end_after}
-use Rattle.call_grammar.specs.Calls.{EndConfig, Call, Tick, Stop, Offer, Poll, in_run, tree_of}
+use Rattle.call_grammar.specs.Calls.{EndConfig, Call, Tick, Offer, Poll, in_run, tree_of}
 use Rattle.call_grammar.specs.Automatic.{Chosen, Choice, ChoosesTick, ChoosesOffer, ChoosesPoll, IsFinished, Round, Anew, AfterOffer, AfterPoll, is_anew, was_offer, is_empty, first_or_poll, choice_by_rule, round_since}
 use Rattle.call_grammar.proofs.AutomaticRounds.{rounds_keep_the_rule}
 use Rattle.lawful_history.specs.declared.line.Line.{Line}
@@ -141,16 +141,7 @@ begins_within config peer (Reads word marks rest) within = within
 
 one_counted : (auto : Auto) (mark : Mark) → counted auto mark ≡ record auto { frames = without_accepted mark auto.frames; delivered = with_delivered mark auto.delivered }
 one_counted auto (Saw value) = refl
-one_counted auto (Reclaim count) = refl
-one_counted auto Full = refl
-one_counted auto (Accept frame) = refl
-one_counted auto (Look count) = refl
-one_counted auto (Deliver frame) = refl
-one_counted auto Return = refl
-one_counted auto Done = refl
-one_counted auto Down = refl
-one_counted auto (Refuse refused) = refl
-one_counted auto Over = refl
+one_counted auto _ = refl
 
 all_counted : (auto : Auto) (marks : List Mark) → counted_all auto marks ≡ record auto { frames = without_all_accepted marks auto.frames; delivered = with_all_delivered marks auto.delivered }
 all_counted auto [] = refl
@@ -228,31 +219,11 @@ asked_kept : (peer : Progress) (c : Chooser) (call : Call) (calls : List Call) (
       driver = driver_of (with_frame call frames) (delivered_in peer.past) peer.before peer.generator c;
     }
 asked_kept peer (TheRule expected) (Offer frame) calls frames within = refl
-asked_kept peer (TheRule expected) Tick calls frames within = rw (drop-append-le peer.begun calls (Tick ∷ []) within) refl
-asked_kept peer (TheRule expected) Stop calls frames within = rw (drop-append-le peer.begun calls (Stop ∷ []) within) refl
-asked_kept peer (TheRule expected) Poll calls frames within = rw (drop-append-le peer.begun calls (Poll ∷ []) within) refl
-asked_kept peer Nobody Tick calls frames within = rw (drop-append-le peer.begun calls (Tick ∷ []) within) refl
-asked_kept peer Nobody Stop calls frames within = rw (drop-append-le peer.begun calls (Stop ∷ []) within) refl
-asked_kept peer Nobody (Offer frame) calls frames within = rw (drop-append-le peer.begun calls (Offer frame ∷ []) within) refl
-asked_kept peer Nobody Poll calls frames within = rw (drop-append-le peer.begun calls (Poll ∷ []) within) refl
-asked_kept peer TheStorm Tick calls frames within = rw (drop-append-le peer.begun calls (Tick ∷ []) within) refl
-asked_kept peer TheStorm Stop calls frames within = rw (drop-append-le peer.begun calls (Stop ∷ []) within) refl
-asked_kept peer TheStorm (Offer frame) calls frames within = rw (drop-append-le peer.begun calls (Offer frame ∷ []) within) refl
-asked_kept peer TheStorm Poll calls frames within = rw (drop-append-le peer.begun calls (Poll ∷ []) within) refl
+asked_kept peer c call calls frames within = rw (drop-append-le peer.begun calls (call ∷ []) within) refl
 
 more_asked : (begun : ℕ) (c : Chooser) (call : Call) (calls : List Call) → begun ≤ length calls → begun ≤ length (queued_with c call calls)
 more_asked begun (TheRule expected) (Offer frame) calls within = within
-more_asked begun (TheRule expected) Tick calls within = omega (arith, length-append calls (Tick ∷ []))
-more_asked begun (TheRule expected) Stop calls within = omega (arith, length-append calls (Stop ∷ []))
-more_asked begun (TheRule expected) Poll calls within = omega (arith, length-append calls (Poll ∷ []))
-more_asked begun Nobody Tick calls within = omega (arith, length-append calls (Tick ∷ []))
-more_asked begun Nobody Stop calls within = omega (arith, length-append calls (Stop ∷ []))
-more_asked begun Nobody (Offer frame) calls within = omega (arith, length-append calls (Offer frame ∷ []))
-more_asked begun Nobody Poll calls within = omega (arith, length-append calls (Poll ∷ []))
-more_asked begun TheStorm Tick calls within = omega (arith, length-append calls (Tick ∷ []))
-more_asked begun TheStorm Stop calls within = omega (arith, length-append calls (Stop ∷ []))
-more_asked begun TheStorm (Offer frame) calls within = omega (arith, length-append calls (Offer frame ∷ []))
-more_asked begun TheStorm Poll calls within = omega (arith, length-append calls (Poll ∷ []))
+more_asked begun c call calls within = omega (arith, length-append calls (call ∷ []))
 
 cut_kept : (frames : List (List ℕ)) (delivered : ℕ) (before : Option Chosen) (generator : ℕ) (c : Chooser) →
     cut (driver_of frames delivered before generator c) ≡ driver_of frames delivered (cut_call before) generator c

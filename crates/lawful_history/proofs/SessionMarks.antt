@@ -1,24 +1,22 @@
 -- The marks of sessions along a history, and the lines of a record of each version.
 use Rattle.std.proofs.Common.{◌≡◌, ℕ, Bool, true, false, List, [], ◌∷◌, ◌++◌, refl, sym, ◌∙◌, ap, subst, append_assoc}
-use Rattle.std.specs.Prelude.{◌==◌, ◌&&◌, not, cond, nat_lt, if◌then◌else◌, Option, Some, None, map, reverse}
+use Rattle.std.specs.Prelude.{◌==◌, ◌&&◌, not, cond, if◌then◌else◌, Option, Some, None, map, reverse}
 use Rattle.std.specs.List.{flat_map}
 use Rattle.std.proofs.lemmas.List.{reverse-append, reverse-reverse, append-nil}
 use Rattle.std.proofs.lemmas.List.Elements.{filter-append}
 use Rattle.split_ring.specs.declared.steps.Access.{Access}
 use Rattle.split_ring.specs.declared.steps.Access.TheVariants as access
 use Rattle.scenario_text.specs.Scenario.{World, is_link}
-use Rattle.doorbell_irq.specs.declared.effect.Delivery.{Delivery}
-use Rattle.doorbell_irq.specs.Events as device
-use Rattle.doorbell_irq.specs.DeviceRules.{effect_of}
 use Rattle.call_grammar.specs.Steps.{Mark, Saw, Reclaim, Full, Accept, Look, Deliver, Return, Done, Down, Refuse, Over, Step}
 use Rattle.lawful_history.specs.declared.line.Line.{Line}
 use Rattle.lawful_history.specs.declared.line.Line.TheVariants as line
-use Rattle.lawful_history.specs.Schedule.{Event, CallQueued, AutoStarted, StormStarted, TurnTaken, RegionAccessed, DeviceReset, DeviceAccessed, InterruptDropped, InterruptRepeated, DeviceAccess, ReadsConfig, WritesConfig, ReadsRegister, WritesRegister, ReadsMsix, WritesMsix}
+use Rattle.lawful_history.specs.Schedule.{Event, TurnTaken, RegionAccessed, DeviceReset, DeviceAccess, ReadsConfig}
 use Rattle.lawful_history.specs.EventRecords.{EventRecord, mark_line, access_lines, step_lines, turn_lines, denied_lines, region_access_lines, lines_by, lines_of}
-use Rattle.lawful_history.specs.Device.{devices_of, device_events, delivery_line, delivery_lines, interrupts_of_event, lost_count, device_event_of, interrupts_of_access, step_interrupts, device_access_line, device_lines, losses_with, DeviceRules}
+use Rattle.lawful_history.specs.Device.{device_access_line, losses_with, DeviceRules}
 use Rattle.lawful_history.specs.Sessions.{enters_run, session_mark, marks_before, with_sessions, recorded_line, recorded_in, without_sessions, is_session}
 use Rattle.lawful_history.specs.Lawful.{IsLawful, HasOneHistory, HasOneHistoryIn, HasNoMarksInOne, HasMarksInTwo, HasRecordInTwo}
 use Rattle.lawful_history.specs.History.{history, HistoryIsLawful, HistoryIsLawfulIn}
+use Rattle.lawful_history.proofs.LinesOfDevices.{KeptByDevices, of_event}
 
 -- The marks of one list after another
 
@@ -72,46 +70,17 @@ without_with world older (line ∷ lines) =
 
 -- A lawful history has no mark of a session
 
-bare_arrival : (b : Bool) (p vector : ℕ) (lines : List Line) → IsBare lines → IsBare ((if b then line.Lost p vector else line.Interrupt p vector) ∷ lines)
-bare_arrival true p vector lines rest = ap (λ ls. line.Lost p vector ∷ ls) rest
-bare_arrival false p vector lines rest = ap (λ ls. line.Interrupt p vector ∷ ls) rest
-
-bare_arrived : (older : List Line) (losses : ℕ → ℕ) (deliveries : List Delivery) → IsBare (delivery_lines older losses deliveries)
-bare_arrived older losses [] = refl
-bare_arrived older losses (delivery ∷ deliveries) =
-    bare_arrival (nat_lt (lost_count older delivery.peer) (losses delivery.peer)) delivery.peer delivery.vector (delivery_lines (delivery_line older losses delivery ∷ older) losses deliveries)
-    (bare_arrived (delivery_line older losses delivery ∷ older) losses deliveries)
-
-bare_arrivals : (world : World) (older : List Line) (losses : ℕ → ℕ) (line : Line) (recorded : Option device.Event) → IsBare (interrupts_of_event world older losses line recorded)
-bare_arrivals world older losses line None = refl
-bare_arrivals world older losses line (Some event) = bare_arrived (line ∷ older) losses (effect_of (devices_of world) (device_events older) event).deliveries.items
-
-bare_brought : (world : World) (older : List Line) (losses : ℕ → ℕ) (lines : List Line) → IsBare (interrupts_of_access world older losses lines)
-bare_brought world older losses [] = refl
-bare_brought world older losses (line ∷ lines) = bare_arrivals world older losses line (device_event_of line)
-
-bare_interrupts : (world : World) (older : List Line) (losses : ℕ → ℕ) (p : ℕ) (went : Option Step) → IsBare (step_interrupts world older losses p went)
-bare_interrupts world older losses p None = refl
-bare_interrupts world older losses p (Some step) = bare_brought world older losses (access_lines p step.access step.value)
-
 bare_reached : (world : World) (older : List Line) (p : ℕ) (a : DeviceAccess) → IsBare (device_access_line world older p a ∷ [])
 bare_reached world older p (ReadsConfig offset width) = refl
-bare_reached world older p (WritesConfig offset width value) = refl
-bare_reached world older p (ReadsRegister offset) = refl
-bare_reached world older p (WritesRegister offset value) = refl
-bare_reached world older p (ReadsMsix offset) = refl
-bare_reached world older p (WritesMsix offset value) = refl
+bare_reached world older p _ = refl
 
-bare_device : (world : World) (older : List Line) (losses : ℕ → ℕ) (event : Event) (went : Option Step) → IsBare (device_lines world older losses event went)
-bare_device world older losses (CallQueued p call) went = refl
-bare_device world older losses (AutoStarted p expected) went = refl
-bare_device world older losses (StormStarted p seed) went = refl
-bare_device world older losses (TurnTaken p) went = bare_interrupts world older losses p went
-bare_device world older losses (RegionAccessed p a) went = bare_interrupts world older losses p went
-bare_device world older losses (DeviceReset p) went = bare_arrivals world older losses (line.Reset p) (device_event_of (line.Reset p))
-bare_device world older losses (DeviceAccessed p a) went = bare_reached world older p a
-bare_device world older losses (InterruptDropped p) went = refl
-bare_device world older losses (InterruptRepeated p vector) went = refl
+bare_keeps : KeptByDevices IsBare
+bare_keeps = record {
+  none = refl;
+  interrupt = λ p vector lines rest. ap (λ ls. line.Interrupt p vector ∷ ls) rest;
+  lost = λ p vector lines rest. ap (λ ls. line.Lost p vector ∷ ls) rest;
+  reached = bare_reached;
+}
 
 bare_mark : (p : ℕ) (mark : Mark) (lines : List Line) → IsBare lines → IsBare (mark_line p mark ∷ lines)
 bare_mark p (Saw value) lines rest = ap (λ ls. line.Saw p value ∷ ls) rest
@@ -132,10 +101,7 @@ bare_marks p (mark ∷ marks) = bare_mark p mark (map (mark_line p) marks) (bare
 
 bare_access : (p : ℕ) (a : Access) (value : ℕ) → IsBare (access_lines p a value)
 bare_access p (access.Read word) value = refl
-bare_access p (access.Write word written) value = refl
-bare_access p (access.State state) value = refl
-bare_access p (access.Ring target vector) value = refl
-bare_access p access.Nothing value = refl
+bare_access p _ value = refl
 
 bare_step : (p : ℕ) (step : Step) (dev : List Line) → IsBare dev → IsBare (step_lines p step dev)
 bare_step p step dev bare =
@@ -148,30 +114,22 @@ bare_turn p (Some step) dev bare = bare_step p step dev bare
 
 bare_denied : (p : ℕ) (a : Access) → IsBare (denied_lines p a)
 bare_denied p (access.Read word) = refl
-bare_denied p (access.Write word written) = refl
-bare_denied p (access.State state) = refl
-bare_denied p (access.Ring target vector) = refl
-bare_denied p access.Nothing = refl
+bare_denied p _ = refl
 
 bare_acted : (p : ℕ) (a : Access) (went : Option Step) (dev : List Line) → IsBare dev → IsBare (region_access_lines p a went dev)
 bare_acted p a None dev bare = bare_append (denied_lines p a) dev (bare_denied p a) bare
 bare_acted p a (Some step) dev bare = bare_step p step dev bare
 
 bare_by : (event : Event) (went : Option Step) (dev : List Line) → IsBare dev → IsBare (lines_by event went dev)
-bare_by (CallQueued p call) went dev bare = bare
-bare_by (AutoStarted p expected) went dev bare = bare
-bare_by (StormStarted p seed) went dev bare = bare
 bare_by (TurnTaken p) went dev bare = bare_turn p went dev bare
 bare_by (RegionAccessed p a) went dev bare = bare_acted p a went dev bare
 bare_by (DeviceReset p) went dev bare = ap (λ ls. line.Reset p ∷ ls) bare
-bare_by (DeviceAccessed p a) went dev bare = bare
-bare_by (InterruptDropped p) went dev bare = bare
-bare_by (InterruptRepeated p vector) went dev bare = bare
+bare_by _ went dev bare = bare
 
 bare_entries : (world : World) (older : List Line) (losses : ℕ → ℕ) (entries : List EventRecord) → DeviceRules world older losses entries → IsBare (flat_map lines_of entries)
 bare_entries world older losses [] rules = refl
 bare_entries world older losses (entry ∷ entries) rules =
-    let dev : IsBare entry.device = subst IsBare (sym rules.0) (bare_device world older losses entry.event entry.went) in
+    let dev : IsBare entry.device = subst IsBare (sym rules.0) (of_event IsBare bare_keeps world older losses entry.event entry.went) in
     bare_append (lines_of entry) (flat_map lines_of entries) (bare_by entry.event entry.went entry.device dev)
     (bare_entries world (reverse (lines_of entry) ++ older) (losses_with entry.event losses) entries rules.1)
 

@@ -14,7 +14,7 @@ use Rattle.lawful_history.specs.declared.line.Line.{Line}
 use Rattle.lawful_history.specs.declared.line.Line.TheVariants as line
 use Rattle.lawful_history.specs.Memory.{memory_effect_of, IsConsistent, MemoryLaw, last_write}
 use Rattle.lawful_history.specs.Sides.{config_of}
-use Rattle.lawful_history.specs.Schedule.{Event, CallQueued, AutoStarted, StormStarted, TurnTaken, RegionAccessed, DeviceReset, DeviceAccessed, InterruptDropped, InterruptRepeated, event_peer}
+use Rattle.lawful_history.specs.Schedule.{Event, TurnTaken, RegionAccessed, event_peer}
 use Rattle.lawful_history.specs.EventRecords.{EventRecord, event_of, owner, mark_line, step_lines, turn_lines, region_access_lines, lines_by, lines_of, own}
 use Rattle.lawful_history.specs.Order.{Chooser, Nobody, TheRule, TheStorm, chooser, Progress, initial_progress, begins, goes_to, IdleStep, GoesOn, CallStep, IsMade, EventStep, noted, IsCallSequence}
 use Rattle.lawful_history.specs.Device.{device_lines, losses_with, DeviceRules}
@@ -120,16 +120,10 @@ same_made g past p access.Nothing dev dev' went went' made made' law law' = made
 same_acts : (world : World) (past : List Line) (q : ℕ) (peer : Progress) (event : Event) (dev dev' : List Line) (went went' : Option Step) (new new' : Progress) →
     EventStep world q peer event went new → EventStep world q peer event went' new' →
     MemoryLaw world.geometry (reverse (lines_by event went dev) ++ past) → MemoryLaw world.geometry (reverse (lines_by event went' dev') ++ past) → (went ≡ went') × (new ≡ new')
-same_acts world past q peer (CallQueued p call) dev dev' went went' new new' a a' law law' = (a.0 ∙ sym a'.0, a.1 ∙ sym a'.1)
-same_acts world past q peer (AutoStarted p expected) dev dev' went went' new new' a a' law law' = (a.0 ∙ sym a'.0, a.1 ∙ sym a'.1)
-same_acts world past q peer (StormStarted p seed) dev dev' went went' new new' a a' law law' = (a.0 ∙ sym a'.0, a.1 ∙ sym a'.1)
 same_acts world past q peer (TurnTaken p) dev dev' went went' new new' a a' law law' =
     same_moves world past q p dev dev' (begins (config_of world q) peer) (begins (config_of world q) peer).left went went' new new' a a' law law'
 same_acts world past q peer (RegionAccessed p a0) dev dev' went went' new new' a a' law law' = (same_made world.geometry past p a0 dev dev' went went' a.0 a'.0 law law', a.1 ∙ sym a'.1)
-same_acts world past q peer (DeviceReset p) dev dev' went went' new new' a a' law law' = (a.0 ∙ sym a'.0, a.1 ∙ sym a'.1)
-same_acts world past q peer (DeviceAccessed p a0) dev dev' went went' new new' a a' law law' = (a.0 ∙ sym a'.0, a.1 ∙ sym a'.1)
-same_acts world past q peer (InterruptDropped p) dev dev' went went' new new' a a' law law' = (a.0 ∙ sym a'.0, a.1 ∙ sym a'.1)
-same_acts world past q peer (InterruptRepeated p vector) dev dev' went went' new new' a a' law law' = (a.0 ∙ sym a'.0, a.1 ∙ sym a'.1)
+same_acts world past q peer _ dev dev' went went' new new' a a' law law' = (a.0 ∙ sym a'.0, a.1 ∙ sym a'.1)
 
 -- The peers, after one of them changed.
 abbrev with_peer : (ℕ → Progress) → ℕ → Progress → ℕ → Progress

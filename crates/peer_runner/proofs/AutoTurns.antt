@@ -17,6 +17,7 @@ use Rattle.call_grammar.specs.Automatic as automatic
 use Rattle.call_grammar.specs.Permitted.{IsPermittedAccess}
 use Rattle.call_grammar.specs.Polls.{is_last}
 use Rattle.call_grammar.specs.Places.{Place, Closed, WritingState, Refusing, NotInRun, RingingOffer, RingingPoll, ReadingUsedIndex, ReadingAvailIndex, first_place, access_at, next_place, step_at, marks_at, is_open}
+use Rattle.call_grammar.proofs.ReplaysAreCalls.{shut_place}
 use Rattle.link_endpoint.specs.Engine.{Engine, offered, delivered}
 use Rattle.link_endpoint.specs.Refinement.{RefinesAt, Takes, marks_between}
 use Rattle.link_endpoint.specs.Plan as plans
@@ -55,10 +56,6 @@ use Rattle.peer_runner.specs.declared.turns.AutoPeer.{AutoPeer}
 use Rattle.shared_words.proofs.FoldOfOperations.{standing_snoc, stand_honest}
 use Rattle.shared_words.proofs.Actions.{accesses_none, accesses_both, accesses_snoc}
 use Rattle.shared_words.proofs.LinkOfSetup.{clash, section_ends}
-
-pub shut : (place : Place) → is_open place ≡ false → place ≡ Closed
-shut Closed is = refl
-shut place is = absurd (cc)
 
 -- The reported call is the chosen call.
 same_call : (answer : Choice) (frames : List (List ℕ)) (c : automatic.Choice) → IsChoice answer frames c → call_of answer frames ≡ call_chosen (Some c)
@@ -203,7 +200,7 @@ begins_recorded key s Finished frames are closed = tt
 
 begins_if : (key : RunSetup) (r : Runner) (s : DerivedState) (answer : Option Choice) (frames : List (List ℕ)) → Frames key frames → Matches answer frames (chosen r) → (r.place ≡ Closed → s.place ≡ Closed) → Begins (link_config_of key) s (call_chosen_by answer frames)
 begins_if key r s None frames are is closed = tt
-begins_if key r s (Some answer) frames are is closed = begins_recorded key s answer frames are (closed (shut r.place (chosen_where (is_open r.place) _ answer frames is).0))
+begins_if key r s (Some answer) frames are is closed = begins_recorded key s answer frames are (closed (shut_place r.place (chosen_where (is_open r.place) _ answer frames is).0))
 
 -- The place of the access is the same for the derived state, if the place is settled.
 same_place : (config : EndConfig) (r : Runner) (call : Option Call) → (call ≡ None → settled_place r.place ≡ r.place) → (begun_if config (derived_state_of r) call).place ≡ place_for config r.end r.place call
@@ -336,10 +333,7 @@ taken_none routes call access.Nothing value is = accesses_none
 cleared_none : (a : Access) (found : ℕ) → accesses_in {A = MemoryOp CallAccess} (cleared_by a found) ≡ []
 unfolding accesses_in
 cleared_none (access.Read word) found = refl
-cleared_none (access.Write word written) found = refl
-cleared_none (access.State state) found = refl
-cleared_none (access.Ring target vector) found = refl
-cleared_none access.Nothing found = refl
+cleared_none _ found = refl
 
 not_touched : (routes : List Route) (call : Option Call) (a : Access) (done : Done) → touches a ≡ false → accesses_in (done_of routes call a done) ≡ []
 not_touched routes call a (Stepped value) is = taken_none routes call a value is
@@ -366,7 +360,7 @@ held_guards ringing guarded Rung is held = absurd (clash held)
 
 -- If the place of a turn is settled as closed, so was the place before.
 settled_before : (config : EndConfig) (r : Runner) (b : Bool) → is_open r.place ≡ b → settled_place (place_in config r) ≡ Closed → settled_place r.place ≡ Closed
-settled_before config r false is closed = ap settled_place (shut r.place is) ∙ settled_closed
+settled_before config r false is closed = ap settled_place (shut_place r.place is) ∙ settled_closed
 settled_before config r true is closed =
     let none : call_chosen (chosen r) ≡ None = ap (λ (b : Bool). call_chosen (if b then None else Some (choice_of r.end.handshake.phase r.auto.round r.auto.frames r.auto.delivered r.auto.expected))) is in
     ap settled_place (sym (at_none config r.end r.place (call_chosen (chosen r)) none)) ∙ closed
@@ -452,24 +446,14 @@ rung_one (Direct bit) target = omega arith
 rung_one (Guarded bit) target = omega arith
 
 taken_one : (routes : List Route) (call : Option Call) (a : Access) (value : ℕ) → length (taken_of routes call a value) ≤ 1
-taken_one routes call (access.Read word) value = omega arith
-taken_one routes call (access.Write word written) value = omega arith
-taken_one routes call (access.State state) value = omega arith
 taken_one routes call (access.Ring target vector) value = rung_one (doorbell_path_to routes target vector) target
-taken_one routes call access.Nothing value = omega arith
+taken_one routes call _ value = omega arith
 
 pub done_one : (routes : List Route) (call : Option Call) (a : Access) (done : Done) → length (done_of routes call a done) ≤ 1
 done_one routes call a (Stepped value) = taken_one routes call a value
-done_one routes call (access.Read word) (Cleared found) = omega arith
-done_one routes call (access.Write word written) (Cleared found) = omega arith
-done_one routes call (access.State state) (Cleared found) = omega arith
 done_one routes call (access.Ring target vector) (Cleared found) = omega arith
-done_one routes call access.Nothing (Cleared found) = omega arith
-done_one routes call (access.Read word) Rung = omega arith
-done_one routes call (access.Write word written) Rung = omega arith
-done_one routes call (access.State state) Rung = omega arith
 done_one routes call (access.Ring target vector) Rung = rung_one (doorbell_path_to routes target vector) target
-done_one routes call access.Nothing Rung = omega arith
+done_one routes call _ _ = omega arith
 
 made_lists : (h : PassView) (l acts : List (Action (MemoryOp CallAccess))) → length acts ≤ 1 → h.lists ≡ l ∷ [] → (made h acts).lists ≡ (l ++ acts) ∷ []
 made_lists h l [] one is = is ∙ ap (λ m. m ∷ []) (sym (append-nil l))
@@ -712,10 +696,7 @@ plan_cut plan r is = record { frames = is.frames; expected = is.expected; delive
 -- The line of an access takes its value from a read alone.
 given_line : (me : ℕ) (a : Access) (value : ℕ) → access_lines me a value ≡ access_lines me a (value_given a value)
 given_line me (access.Read word) value = refl
-given_line me (access.Write word written) value = refl
-given_line me (access.State state) value = refl
-given_line me (access.Ring target vector) value = refl
-given_line me access.Nothing value = refl
+given_line me _ value = refl
 
 -- A choice is made before the first step of a call.
 pub first_is : (choice : Option Choice) (busy : Bool) (r : Runner) → Closes choice busy → busy ≡ is_open r.place → is_some choice ≡ is_first r
@@ -829,10 +810,7 @@ turned_stepped routes config r done is = ap (λ (b : Bool). if b then held_on ro
 -- A State step with 2 opens a session.
 pub opened_on : (n : Numbers) (end : End) (a : Access) → n.log.opened + opens a ≡ (numbers_after n end a).log.opened
 opened_on n end (access.State state) = elim (state == 2) as (λ b. n.log.opened + (if b then 1 else 0) ≡ (if b then n.log.opened + 1 else n.log.opened)) [ true ↦ refl | false ↦ omega arith ]
-opened_on n end (access.Read word) = omega arith
-opened_on n end (access.Write word written) = omega arith
-opened_on n end (access.Ring target vector) = omega arith
-opened_on n end access.Nothing = omega arith
+opened_on n end _ = omega arith
 
 -- The same of the runner as it is turned.
 module _ (key : RunSetup) (me : ℕ) (routes : List Route) (done : Done) (r : Runner) (answer : Option Choice) (old pass : PassView) (p : AutoPeer) (e1 : Engine) (a : Access) (turns : Turns key me routes r answer old p)

@@ -48,10 +48,6 @@ noted_written end [] = refl
 noted_written end (m ∷ marks) = noted_written (with_mark end m) marks ∙ once end m
   where
     once : (end : End) (m : Mark) → (with_mark end m).written ≡ end.written
-    once end (mark.Reclaim count) = refl
-    once end (mark.Accept frame) = refl
-    once end (mark.Deliver frame) = refl
-    once end mark.Return = refl
     once end (mark.Refuse refused) = refl
     once end m = refl
 

@@ -63,23 +63,11 @@ silent_if false lines s = s
 access_silent : (p : ℕ) (a : Access) (value : ℕ) → IsSilent (access_lines p a value)
 unfolding how_many
 access_silent p (access.Read word) value = (refl, λ v. refl)
-access_silent p (access.Write word written) value = (refl, λ v. refl)
-access_silent p (access.State state) value = (refl, λ v. refl)
-access_silent p (access.Ring target vector) value = (refl, λ v. refl)
-access_silent p access.Nothing value = (refl, λ v. refl)
+access_silent p _ value = (refl, λ v. refl)
 
 mark_silent : (p : ℕ) (m : Mark) → (is_interrupt (mark_line p m) ≡ false) × ((v : ℕ) → is_interrupt_by v (mark_line p m) ≡ false)
 mark_silent p (mark.Saw value) = (refl, λ v. refl)
-mark_silent p (mark.Reclaim count) = (refl, λ v. refl)
-mark_silent p mark.Full = (refl, λ v. refl)
-mark_silent p (mark.Accept frame) = (refl, λ v. refl)
-mark_silent p (mark.Look count) = (refl, λ v. refl)
-mark_silent p (mark.Deliver frame) = (refl, λ v. refl)
-mark_silent p mark.Return = (refl, λ v. refl)
-mark_silent p mark.Done = (refl, λ v. refl)
-mark_silent p mark.Down = (refl, λ v. refl)
-mark_silent p (mark.Refuse refused) = (refl, λ v. refl)
-mark_silent p mark.Over = (refl, λ v. refl)
+mark_silent p _ = (refl, λ v. refl)
 
 marks_silent : (p : ℕ) (marks : List Mark) → IsSilent (map (mark_line p) marks)
 unfolding how_many
@@ -160,19 +148,13 @@ blind_rung v (Guarded b) target = refl
 
 blind_step : (v : ℕ) (routes : List Route) (a : Access) (value : ℕ) → count_in (finds_bit v) (acted_by routes a value) ≡ 0
 unfolding count_in finds_bit
-blind_step v routes (access.Read word) value = refl
-blind_step v routes (access.Write word written) value = refl
-blind_step v routes (access.State state) value = refl
 blind_step v routes (access.Ring target vector) value = blind_rung v (doorbell_path_to routes target vector) target
-blind_step v routes access.Nothing value = refl
+blind_step v routes _ value = refl
 
 blind_clear : (v : ℕ) (a : Access) (found : ℕ) → count_in {A = MemoryOp ObservedAccess} (finds_bit v) (cleared_by a found) ≡ 0
 unfolding count_in finds_bit
 blind_clear v (access.Read word) found = refl
-blind_clear v (access.Write word written) found = refl
-blind_clear v (access.State state) found = refl
-blind_clear v (access.Ring target vector) found = refl
-blind_clear v access.Nothing found = refl
+blind_clear v _ found = refl
 
 seen_look : (v found : ℕ) → count_in {A = MemoryOp ObservedAccess} (finds_bit v) (looked found ∷ []) ≡ bit_at found v
 seen_look v found = weigh_one (finds_bit v) (looked found) ∙ finds_looked (MemoryOp ObservedAccess) v found
@@ -288,37 +270,25 @@ module _ (routes : List Route) (p target v : ℕ) (intx : Bool) (line_is : (rout
   step_rings : (a : Access) (value : ℕ) → count_in (rings_bit target v) (acted_by routes a value) ≡ ringing_by a
   unfolding count_in rings_bit
   step_rings (access.Read word) value = refl
-  step_rings (access.Write word written) value = refl
-  step_rings (access.State state) value = refl
-  step_rings (access.Ring at vector) value = refl
-  step_rings access.Nothing value = refl
+  step_rings _ value = refl
 
   line_bells : (a : Access) (value : ℕ) → ringing_by a ≤ how_many (is_bell intx target v) (access_lines p a value)
   unfolding count_in rings_bit
-  line_bells (access.Read word) value = omega arith
-  line_bells (access.Write word written) value = omega arith
-  line_bells (access.State state) value = omega arith
   line_bells (access.Ring at vector) value = let one : how_many (is_bell intx target v) (line.Doorbell p at vector ∷ []) ≡ one_if ((at == target) && (intx || vector == v)) = many_one (is_bell intx target v) (line.Doorbell p at vector) in
       let most = bell_rings at vector in omega arith
-  line_bells access.Nothing value = omega arith
+  line_bells _ value = omega arith
 
   step_bells : (first : Bool) (a : Access) (value : ℕ) (marks : List Mark) → ringing_by a ≤ how_many (is_bell intx target v) (lines_of p first a value marks)
   unfolding count_in rings_bit
-  step_bells first (access.Read word) value marks = omega arith
-  step_bells first (access.Write word written) value marks = omega arith
-  step_bells first (access.State state) value marks = omega arith
   step_bells first (access.Ring at vector) value marks = let here = line_bells (access.Ring at vector) value in
       let both : how_many (is_bell intx target v) (access_lines p (access.Ring at vector) value ++ map (mark_line p) marks) ≡ how_many (is_bell intx target v) (access_lines p (access.Ring at vector) value) + how_many (is_bell intx target v) (map (mark_line p) marks) =
       many_both (is_bell intx target v) (access_lines p (access.Ring at vector) value) (map (mark_line p) marks) in omega arith
-  step_bells first access.Nothing value marks = omega arith
+  step_bells first _ value marks = omega arith
 
   clear_rings : (a : Access) (found : ℕ) → count_in {A = MemoryOp ObservedAccess} (rings_bit target v) (cleared_by a found) ≡ 0
   unfolding count_in rings_bit
   clear_rings (access.Read word) found = refl
-  clear_rings (access.Write word written) found = refl
-  clear_rings (access.State state) found = refl
-  clear_rings (access.Ring at vector) found = refl
-  clear_rings access.Nothing found = refl
+  clear_rings _ found = refl
 
   operation_rings : (d : MemoryOp ObservedAccess) → count_in (rings_bit target v) (accessed d ∷ []) ≡ 0
   unfolding count_in rings_bit

@@ -1,11 +1,10 @@
 -- The end, sessions and doorbells by a running peer's lines are those that its turns leave.
 use Rattle.std.proofs.Common.{◌≡◌, ◌≢◌, ℕ, zero, suc, ⊎_elim, Bool, true, false, List, [], ◌∷◌, ◌++◌, refl, sym, ap, ◌∙◌, subst}
-use Rattle.std.specs.Prelude.{Some, None, ◌==◌, not, nat_le, if◌then◌else◌, map, ◌%◌}
+use Rattle.std.specs.Prelude.{Some, None, ◌==◌, not, if◌then◌else◌, map, ◌%◌}
 use Rattle.std.specs.Int.{bit_at}
 use Rattle.split_ring.specs.declared.steps.Access.{Access}
 use Rattle.split_ring.specs.declared.steps.Access.TheVariants as access
 use Rattle.split_ring.specs.declared.ranges.FieldName.TheVariants as field_name
-use Rattle.split_ring.specs.Layout.{size_of}
 use Rattle.split_ring.specs.Ranges.{is_avail_index}
 use Rattle.split_ring.specs.Spelling.{low_half, high_half}
 use Rattle.call_grammar.specs.Steps.{Mark, value_given, Saw, Reclaim, Full, Accept, Look, Deliver, Over}
@@ -30,11 +29,12 @@ use Rattle.peer_runner.specs.DoorbellPaths.{is_guarded, doorbell_path_in}
 use Rattle.shared_words.specs.DerivedStates.{FrameNumber, accepted_last, delivered_next, DoorbellRequest, Nowhere, Written, At, event_word, request_after_access, lapsed, request_after_marks, Wake, wake_after, wake_on}
 use Rattle.peer_runner.specs.Turns.{Turn, Looks, Enters, Restarts, interrupt_line, interrupt_lines, finds_nothing, is_quiet, lines_of, lines_in}
 use Rattle.peer_runner.specs.RunningRecord.{RecordReader, initial_reader, side_in, with_carried, reader_after_line, reader_after_lines, ReaderMatches}
-use Rattle.peer_runner.specs.Runners.{touches, Runner, initial_runner, chosen, call_chosen, place_in, value_done, IsDone, awaits_ring, due_word, turn_met, met_on, restarted_on, is_first, looked_on, held_on, stepped_on, turned, lines_on, woken_on, derived_state_of, HasMet}
+use Rattle.peer_runner.specs.Runners.{touches, Runner, initial_runner, call_chosen, place_in, value_done, IsDone, awaits_ring, due_word, turn_met, met_on, restarted_on, is_first, looked_on, held_on, stepped_on, turned, lines_on, woken_on, derived_state_of, HasMet}
 use Rattle.shared_words.specs.declared.sessions.SessionWord.{SessionWord}
 use Rattle.shared_words.specs.declared.sessions.SessionWord.TheVariants.{Own, Others}
 use Rattle.shared_words.proofs.LinkOfSetup.{clash}
-use Rattle.peer_runner.proofs.AutoTurns.{shut, held_guards, held_line, turned_held, turned_stepped, IsEntering, IsMaking, stepped_kind}
+use Rattle.call_grammar.proofs.ReplaysAreCalls.{shut_place}
+use Rattle.peer_runner.proofs.AutoTurns.{held_guards, held_line, turned_held, turned_stepped, IsEntering, IsMaking, stepped_kind}
 use Rattle.shared_words.proofs.RequestsAreRung.{HasNoLook, IsPlain, plain_marks, plain_asked, plain_wake_missed, lapsed_by, lapsed_not, lapsed_free, lapsed_by_free, more_than, empty_marks, AsksAt, free_asks, asks_on}
 
 -- Lines one after another
@@ -76,10 +76,7 @@ nothing_counts t marks is = absurd (cc)
 quiet_counts : (first : Bool) (t : RecordReader) (a : Access) (marks : List Mark) → is_quiet first a marks ≡ true → Counts t t t.asked marks
 quiet_counts true t (access.Read word) marks is = nothing_counts t marks is
 quiet_counts false t (access.Read word) marks is = absurd (clash is)
-quiet_counts first t (access.Write word written) marks is = absurd (clash is)
-quiet_counts first t (access.State state) marks is = absurd (clash is)
-quiet_counts first t (access.Ring target vector) marks is = absurd (clash is)
-quiet_counts first t access.Nothing marks is = absurd (clash is)
+quiet_counts first t _ marks is = absurd (clash is)
 
 no_look : (p event : ℕ) (t : RecordReader) (marks : List Mark) → t.read ≡ false → HasNoLook marks → Counts t (reader_after_lines event t (map (mark_line p) marks)) (lapsed_by marks t.asked) marks
 unfolding reader_after_lines
@@ -178,10 +175,7 @@ counts_both t s u first then' marks c d = record { kept = λ end log k. d.kept e
 quiet_is : (first : Bool) (event : ℕ) (t : RecordReader) (a : Access) (marks : List Mark) → is_quiet first a marks ≡ true → (first ≡ true) × (request_after_access event t.asked a ≡ t.asked)
 quiet_is true event t (access.Read word) marks is = (refl, refl)
 quiet_is false event t (access.Read word) marks is = absurd (clash is)
-quiet_is first event t (access.Write word written) marks is = absurd (clash is)
-quiet_is first event t (access.State state) marks is = absurd (clash is)
-quiet_is first event t (access.Ring target vector) marks is = absurd (clash is)
-quiet_is first event t access.Nothing marks is = absurd (clash is)
+quiet_is first event t _ marks is = absurd (clash is)
 
 plain_step : (p event : ℕ) (first : Bool) (n : Numbers) (t : RecordReader) (a : Access) (v : ℕ) (marks : List Mark) → IsWord a → IsPlain marks → (first ≡ true → t.asked ≢ Written) → Steps event n t (reader_after_lines event t (lines_of p first a v marks)) a marks
 plain_step p event first n t a v marks word_is is free = by (is_quiet first a marks) refl
@@ -215,7 +209,7 @@ turn_asks config r h = by (is_open r.place) refl
     by : (b : Bool) → is_open r.place ≡ b → TurnAsks (is_first r) r.wake.asked (place_in config r)
     by true is = let none : place_in config r ≡ r.place = ap (λ (b : Bool). place_for config r.end r.place (call_chosen (if b then None else Some (choice_of r.end.handshake.phase r.auto.round r.auto.frames r.auto.delivered r.auto.expected)))) is in
         (λ e. absurd (clash (sym (ap not is) ∙ e)), subst (PlaceAsks r.wake.asked) (sym none) h)
-    by false is = let ne = subst (PlaceAsks r.wake.asked) (shut r.place is) h in (λ e. ne, free_asks (λ taken. Unit {0}) r.wake.asked (place_in config r) ne)
+    by false is = let ne = subst (PlaceAsks r.wake.asked) (shut_place r.place is) h in (λ e. ne, free_asks (λ taken. Unit {0}) r.wake.asked (place_in config r) ne)
 
 -- The lines of a look
 

@@ -38,16 +38,7 @@ marks_clear end (m ∷ marks) is = marks_clear (with_mark end m) marks is
 
 refused_line : (p : ℕ) (m : Mark) → refuses (mark_line p m) ≡ refused_on m
 refused_line p (mark.Saw value) = refl
-refused_line p (mark.Reclaim count) = refl
-refused_line p mark.Full = refl
-refused_line p (mark.Accept frame) = refl
-refused_line p (mark.Look count) = refl
-refused_line p (mark.Deliver frame) = refl
-refused_line p mark.Return = refl
-refused_line p mark.Done = refl
-refused_line p mark.Down = refl
-refused_line p (mark.Refuse refused) = refl
-refused_line p mark.Over = refl
+refused_line p _ = refl
 
 refused_lines : (p : ℕ) (marks : List Mark) → list_any refuses (map (mark_line p) marks) ≡ list_any refused_on marks
 refused_lines p [] = refl
@@ -55,10 +46,7 @@ refused_lines p (m ∷ marks) = λ i. (refused_line p m i || refused_lines p mar
 
 access_refuses : (p : ℕ) (a : Access) (value : ℕ) → list_any refuses (access_lines p a value) ≡ false
 access_refuses p (access.Read word) value = refl
-access_refuses p (access.Write word written) value = refl
-access_refuses p (access.State state) value = refl
-access_refuses p (access.Ring target vector) value = refl
-access_refuses p access.Nothing value = refl
+access_refuses p _ value = refl
 
 marked_refuses : (p : ℕ) (a : Access) (value : ℕ) (marks : List Mark) → list_any refused_on marks ≡ false → list_any refuses (access_lines p a value ++ map (mark_line p) marks) ≡ false
 marked_refuses p a value marks none = list_any-append refuses (access_lines p a value) (map (mark_line p) marks) ∙ (λ i. (access_refuses p a value i || (refused_lines p marks ∙ none) i))

@@ -75,10 +75,7 @@ stores_are_owned key s kept p t c = operation_is_owned key _ _ (accesses_by kept
 
 state_left_is : (phase : Phase) (a : Access) (n : ℕ) → state_of phase ≡ n → ((state : ℕ) → a ≡ access.State state → state_of (phase_of_state state) ≡ state) → state_of (phase_left phase a) ≡ state_left n a
 state_left_is phase (access.State state) n was set = set state refl
-state_left_is phase (access.Read word) n was set = was
-state_left_is phase (access.Write word value) n was set = was
-state_left_is phase (access.Ring target vector) n was set = was
-state_left_is phase access.Nothing n was set = was
+state_left_is phase _ n was set = was
 
 none_there : (front back : List (MemoryOp CallAccess)) (d : MemoryOp CallAccess) → [] ≡ front ++ d ∷ back → ⊥
 none_there [] back d e = cc

@@ -41,10 +41,7 @@ use Rattle.peer_runner.proofs.TurnsAndLines.{takes_none, takes_snoc, actions_non
 -- A step that was drawn records its access and nothing else, and its ring adds no line.
 plain_lines : (p : ℕ) (a : Access) → lines_of p true a 0 [] ≡ access_lines p a 0
 plain_lines p (access.Read word) = refl
-plain_lines p (access.Write word written) = refl
-plain_lines p (access.State state) = refl
-plain_lines p (access.Ring target vector) = refl
-plain_lines p access.Nothing = refl
+plain_lines p _ = refl
 
 done_lines_of : (p : ℕ) (a : Access) (done : Done) → lines_in p (turn_of true 0 None (step_of a 0 []) done) ≡ drawn_lines p a done
 done_lines_of p (access.Read word) (Stepped value) = plain_lines p (access.Read word)

@@ -58,7 +58,8 @@ use Rattle.shared_words.proofs.Actions.{accesses_none, accesses_both}
 use Rattle.peer_runner.proofs.NoRefusalRecorded.{none_refused, refused_more}
 use Rattle.shared_words.proofs.LinkOfSetup.{clash}
 use Rattle.peer_runner.specs.RunningRecord.{refuses, initial_reader, reader_after_lines, reader_of_lines, ReaderMatches}
-use Rattle.peer_runner.proofs.AutoTurns.{shut, settled_closed, met_place, met_before, IsEntering, IsMaking, stepped_kind}
+use Rattle.call_grammar.proofs.ReplaysAreCalls.{shut_place}
+use Rattle.peer_runner.proofs.AutoTurns.{settled_closed, met_place, met_before, IsEntering, IsMaking, stepped_kind}
 use Rattle.peer_runner.proofs.LinesMatchState.{reports_none, reports_both, StateMatches, recorded_is, recorded_first, looked_recorded, met_recorded, restarted_recorded, turned_recorded}
 
 -- One turn more
@@ -114,24 +115,13 @@ mine_and : (me : ℕ) (b : Bool) → b ≡ true → ((me == me) && b) ≡ true
 mine_and me b is = ap (λ x. x && b) (mine me) ∙ is
 
 pub access_own : (me : ℕ) (a : Access) (value : ℕ) → AreOwn me (access_lines me a value)
-access_own me (access.Read word) value = mine_and me true refl
-access_own me (access.Write word written) value = mine_and me true refl
-access_own me (access.State state) value = mine_and me true refl
-access_own me (access.Ring target vector) value = mine_and me true refl
 access_own me access.Nothing value = refl
+access_own me _ value = mine_and me true refl
 
 mark_own : (me : ℕ) (m : Mark) → is_own me (mark_line me m) ≡ has_frame (mark_line me m)
 mark_own me (mark.Accept frame) = ap (λ x. x && not (length frame == 0)) (mine me)
 mark_own me (mark.Deliver frame) = ap (λ x. x && not (length frame == 0)) (mine me)
-mark_own me (mark.Saw value) = mine me
-mark_own me (mark.Reclaim count) = mine me
-mark_own me mark.Full = mine me
-mark_own me (mark.Look count) = mine me
-mark_own me mark.Return = mine me
-mark_own me mark.Done = mine me
-mark_own me mark.Down = mine me
-mark_own me (mark.Refuse refused) = mine me
-mark_own me mark.Over = mine me
+mark_own me _ = mine me
 
 mark_then : (me : ℕ) (m : Mark) (lines : List Line) (b : Bool) → has_frame (mark_line me m) ≡ b → (b && list_all has_frame lines) ≡ true → (list_all has_frame lines ≡ true → AreOwn me lines) → AreOwn me (mark_line me m ∷ lines)
 mark_then me m lines true is has rest = ap (λ x. x && list_all (is_own me) lines) (mark_own me m ∙ is) ∙ rest has
@@ -168,16 +158,8 @@ entered_own me first opened other step true has = all_append (is_own me) (access
 entered_own me first opened other step false has = made_own me first step has
 
 stepped_own : (me : ℕ) (first : Bool) (opened : ℕ) (met : Option ℕ) (step : Step) (a : Access) → HaveFrames (map (mark_line me) step.marks) → AreOwn me (lines_in me (stepped_turn first opened met step a))
-stepped_own me first opened None step (access.Read word) has = made_own me first step has
-stepped_own me first opened None step (access.Write word value) has = made_own me first step has
-stepped_own me first opened None step (access.State state) has = made_own me first step has
-stepped_own me first opened None step (access.Ring target vector) has = made_own me first step has
-stepped_own me first opened None step access.Nothing has = made_own me first step has
-stepped_own me first opened (Some other) step (access.Read word) has = made_own me first step has
-stepped_own me first opened (Some other) step (access.Write word value) has = made_own me first step has
 stepped_own me first opened (Some other) step (access.State state) has = entered_own me first opened other step (state == 3) has
-stepped_own me first opened (Some other) step (access.Ring target vector) has = made_own me first step has
-stepped_own me first opened (Some other) step access.Nothing has = made_own me first step has
+stepped_own me first opened met step a has = made_own me first step has
 
 pub turn_own : (me : ℕ) (first : Bool) (opened : ℕ) (met : Option ℕ) (step : Step) (done : Done) → HaveFrames (map (mark_line me) step.marks) → AreOwn me (lines_in me (turn_of first opened met step done))
 turn_own me first opened met step (Stepped value) has = stepped_own me first opened met step step.access has
@@ -234,7 +216,7 @@ turn_opens follow config r goes = by (is_open r.place) refl
           (goes_on (remaining config r.place) _ _ config (peer_of config r) (follow.comes config r.place 0 is)).0 ∙ (λ i. peer_at r.end (remaining config (sym here i)) (round_on r.auto (sym none i))),
           ap is_open here ∙ is,
         )
-    by false is = let some : chosen r ≡ Some (choice_in r) = ap (λ (b : Bool). if b then None else Some (choice_in r)) is in let closed = shut r.place is in
+    by false is = let some : chosen r ≡ Some (choice_in r) = ap (λ (b : Bool). if b then None else Some (choice_in r)) is in let closed = shut_place r.place is in
         let with = with_is follow config r.end r.auto (choice_in r) (sym (ap finishes some) ∙ goes) in
         let here : place_for config r.end Closed (call_chosen (Some (choice_in r))) ≡ place_in config r = λ i. place_for config r.end (sym closed i) (call_chosen (sym some i)) in (
           ap (λ (p : Place). opened config (peer_at r.end (remaining config p) r.auto)) closed ∙ (with.0 ∙ (λ i. peer_at r.end (remaining config (here i)) (round_on r.auto (sym some i)))),
@@ -255,7 +237,7 @@ first_place_is follow config r = by (is_open r.place) refl
   where
     by : (b : Bool) → is_open r.place ≡ b → has_ended (remaining config r.place) ≡ not (is_open r.place)
     by true is = (goes_on (remaining config r.place) _ _ config (peer_of config r) (follow.comes config r.place 0 is)).1 ∙ sym (ap not is)
-    by false is = ap (λ (p : Place). has_ended (remaining config p)) (shut r.place is) ∙ sym (ap not is)
+    by false is = ap (λ (p : Place). has_ended (remaining config p)) (shut_place r.place is) ∙ sym (ap not is)
 
 -- A look is next if the code says so.
 due_tree : (config : EndConfig) (end : End) (tree : CallTree) (auto : Auto) → looks_due config end tree (Chooses auto) ≡ (if has_ended tree then (if sleeps config end auto then 64 else 1) else 0)
@@ -310,18 +292,12 @@ cleared_same routes config r found = by (is_set found)
 
 -- The State that a step sets.
 sets_is : (state : ℕ) (auto : Auto) (a : Access) → sets state (Chooses auto) a ≡ true → a ≡ access.State state
-sets_is state auto (access.Read word) is = absurd (clash is)
-sets_is state auto (access.Write word value) is = absurd (clash is)
 sets_is state auto (access.State value) is = ap access.State (eqb-true value state is)
-sets_is state auto (access.Ring target vector) is = absurd (clash is)
-sets_is state auto access.Nothing is = absurd (clash is)
+sets_is state auto _ is = absurd (clash is)
 
 sets_none : (state : ℕ) (auto : Auto) (a : Access) → ((value : ℕ) → a ≡ access.State value → (value == state) ≡ false) → sets state (Chooses auto) a ≡ false
-sets_none state auto (access.Read word) never = refl
-sets_none state auto (access.Write word value) never = refl
 sets_none state auto (access.State value) never = never value refl
-sets_none state auto (access.Ring target vector) never = refl
-sets_none state auto access.Nothing never = refl
+sets_none state auto _ never = refl
 
 steps_to : PlacesFollowTrees → (routes : List Route) (config : EndConfig) (storm : ℕ → Step) (r : Runner) (done : Done) (ringing guarded : Bool) → IsNoLook config routes r → has_finished r ≡ false → r.ringing ≡ ringing →
     is_guarded (doorbell_path_in routes (access_at config (place_in config r))) ≡ guarded → StepsTo config storm routes (running_of config r) ringing guarded (step_of_turn config r done) (peer_of config (stepped_on routes config r done))
@@ -413,7 +389,7 @@ finished_same follow config r = by (is_open r.place) refl
   where
     by : (b : Bool) → is_open r.place ≡ b → has_finished r ≡ is_finished (peer_of config r)
     by true is = ap (λ (b : Bool). finishes (if b then None else Some (choice_in r))) is ∙ sym (ap (λ (b : Bool). b && is_end (choice_in r)) (goes_on (remaining config r.place) _ _ config (peer_of config r) (follow.comes config r.place 0 is)).1)
-    by false is = ap (λ (b : Bool). finishes (if b then None else Some (choice_in r))) is ∙ sym (ap (λ (p : Place). has_ended (remaining config p) && is_end (choice_in r)) (shut r.place is))
+    by false is = ap (λ (b : Bool). finishes (if b then None else Some (choice_in r))) is ∙ sym (ap (λ (p : Place). has_ended (remaining config p) && is_end (choice_in r)) (shut_place r.place is))
 
 skips_none : (ringing : Bool) (auto : Auto) → Chooses auto ≡ skipped ringing (Chooses auto)
 skips_none true auto = refl
@@ -437,34 +413,20 @@ rung_shown (Direct bit) target = refl
 rung_shown (Guarded bit) target = refl
 
 step_actions : (routes : List Route) (call : Option Call) (a : Access) (value : ℕ) → shown (taken_of routes call a value) ≡ acted_by routes a (value_given a value)
-step_actions routes call (access.Read word) value = refl
-step_actions routes call (access.Write word written) value = refl
-step_actions routes call (access.State state) value = refl
 step_actions routes call (access.Ring target vector) value = rung_shown (doorbell_path_to routes target vector) target
-step_actions routes call access.Nothing value = refl
+step_actions routes call _ value = refl
 
 cleared_shown : (a : Access) (found : ℕ) → shown (cleared_by a found) ≡ cleared_by a found
 cleared_shown (access.Read word) found = refl
-cleared_shown (access.Write word written) found = refl
-cleared_shown (access.State state) found = refl
-cleared_shown (access.Ring target vector) found = refl
-cleared_shown access.Nothing found = refl
+cleared_shown _ found = refl
 
 entered_acted : (routes : List Route) (first : Bool) (opened other : ℕ) (step : Step) (b : Bool) → acted_by routes step.access step.value ≡ acted_in routes (if b then Enters step opened other else Makes first step)
 entered_acted routes first opened other step true = refl
 entered_acted routes first opened other step false = refl
 
 stepped_acted : (routes : List Route) (first : Bool) (opened : ℕ) (met : Option ℕ) (step : Step) (a : Access) → acted_by routes step.access step.value ≡ acted_in routes (stepped_turn first opened met step a)
-stepped_acted routes first opened None step (access.Read word) = refl
-stepped_acted routes first opened None step (access.Write word value) = refl
-stepped_acted routes first opened None step (access.State state) = refl
-stepped_acted routes first opened None step (access.Ring target vector) = refl
-stepped_acted routes first opened None step access.Nothing = refl
-stepped_acted routes first opened (Some other) step (access.Read word) = refl
-stepped_acted routes first opened (Some other) step (access.Write word value) = refl
 stepped_acted routes first opened (Some other) step (access.State state) = entered_acted routes first opened other step (state == 3)
-stepped_acted routes first opened (Some other) step (access.Ring target vector) = refl
-stepped_acted routes first opened (Some other) step access.Nothing = refl
+stepped_acted routes first opened met step a = refl
 
 done_actions : (routes : List Route) (call : Option Call) (first : Bool) (opened : ℕ) (met : Option ℕ) (a : Access) (done : Done) (marks : List Mark) →
     shown (done_of routes call a done) ≡ acted_in routes (turn_of first opened met (mark.step_of a (value_done done) marks) done)
@@ -499,11 +461,8 @@ all_later (suc n ∷ spans) is = absurd is
 
 -- A step opens one session at most.
 opens_one : (a : Access) → opens a ≤ 1
-opens_one (access.Read word) = omega arith
-opens_one (access.Write word value) = omega arith
 opens_one (access.State state) = elim (state == 2) as (λ b. (if b then 1 else 0) ≤ 1) [ true ↦ omega arith | false ↦ omega arith ]
-opens_one (access.Ring target vector) = omega arith
-opens_one access.Nothing = omega arith
+opens_one _ = omega arith
 
 -- The facts of the turns so far.
 

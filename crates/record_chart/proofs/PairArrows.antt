@@ -36,35 +36,6 @@ accept_accepted : (b : Bool) (frame : List ℕ) (side : Side) →
 accept_accepted true frame side = refl
 accept_accepted false frame side = refl
 
-line_accepted : (line : Line) (q : ℕ) (side : Side) → (side_after_line (line_side_event_of line) q side).accepted ≡ accepted_then line q side.accepted
-line_accepted (kinds.Read peer word value) q side = accepted_kept (peer == q) _ side _ refl refl
-line_accepted (kinds.Write peer word value) q side = refl
-line_accepted (kinds.Denied peer word) q side = refl
-line_accepted (kinds.State peer value) q side = state_accepted (peer == q) value side
-line_accepted (kinds.Doorbell peer target vector) q side = refl
-line_accepted (kinds.Interrupt peer vector) q side = refl
-line_accepted (kinds.Lost peer vector) q side = refl
-line_accepted (kinds.Reset peer) q side = accepted_kept (peer == q) _ side _ refl refl
-line_accepted (kinds.Idle peer) q side = refl
-line_accepted (kinds.ConfigRead peer offset width value) q side = refl
-line_accepted (kinds.ConfigWrite peer offset width value) q side = refl
-line_accepted (kinds.RegisterRead peer offset value) q side = refl
-line_accepted (kinds.RegisterWrite peer offset value) q side = refl
-line_accepted (kinds.MsixRead peer offset value) q side = refl
-line_accepted (kinds.MsixWrite peer offset value) q side = refl
-line_accepted (kinds.Saw peer value) q side = accepted_kept (peer == q) _ side _ refl refl
-line_accepted (kinds.Reclaim peer count) q side = accepted_kept (peer == q) _ side _ refl refl
-line_accepted (kinds.Look peer count) q side = accepted_kept (peer == q) _ side _ refl refl
-line_accepted (kinds.Full peer) q side = accepted_kept (peer == q) _ side _ refl refl
-line_accepted (kinds.Done peer) q side = accepted_kept (peer == q) _ side _ refl refl
-line_accepted (kinds.Over peer) q side = accepted_kept (peer == q) _ side _ refl refl
-line_accepted (kinds.Down peer) q side = accepted_kept (peer == q) _ side _ refl refl
-line_accepted (kinds.Accept peer frame) q side = accept_accepted (peer == q) frame side
-line_accepted (kinds.Deliver peer frame) q side = accepted_kept (peer == q) _ side _ refl refl
-line_accepted (kinds.Return peer) q side = accepted_kept (peer == q) _ side _ refl refl
-line_accepted (kinds.Refuse peer refused) q side = accepted_kept (peer == q) _ side _ refl refl
-line_accepted (kinds.Session peer opened other) q side = refl
-
 delivered_kept : (b : Bool) (new side : Side) (count : ℕ) → length new.delivered ≡ count → length side.delivered ≡ count →
     length (if b then new else side).delivered ≡ count
 delivered_kept true new side count e f = e
@@ -85,38 +56,32 @@ deliver_delivered : (b : Bool) (frame : List ℕ) (side : Side) →
 deliver_delivered true frame side = length_push side.delivered frame
 deliver_delivered false frame side = refl
 
-line_delivered : (line : Line) (p : ℕ) (side : Side) → length (side_after_line (line_side_event_of line) p side).delivered ≡ delivered_after p line (length side.delivered)
-line_delivered (kinds.Read peer word value) p side = delivered_kept (peer == p) _ side _ refl refl
-line_delivered (kinds.Write peer word value) p side = refl
-line_delivered (kinds.Denied peer word) p side = refl
-line_delivered (kinds.State peer value) p side = state_delivered (peer == p) value side
-line_delivered (kinds.Doorbell peer target vector) p side = refl
-line_delivered (kinds.Interrupt peer vector) p side = refl
-line_delivered (kinds.Lost peer vector) p side = refl
-line_delivered (kinds.Reset peer) p side = delivered_kept (peer == p) _ side _ refl refl
-line_delivered (kinds.Idle peer) p side = refl
-line_delivered (kinds.ConfigRead peer offset width value) p side = refl
-line_delivered (kinds.ConfigWrite peer offset width value) p side = refl
-line_delivered (kinds.RegisterRead peer offset value) p side = refl
-line_delivered (kinds.RegisterWrite peer offset value) p side = refl
-line_delivered (kinds.MsixRead peer offset value) p side = refl
-line_delivered (kinds.MsixWrite peer offset value) p side = refl
-line_delivered (kinds.Saw peer value) p side = delivered_kept (peer == p) _ side _ refl refl
-line_delivered (kinds.Reclaim peer count) p side = delivered_kept (peer == p) _ side _ refl refl
-line_delivered (kinds.Look peer count) p side = delivered_kept (peer == p) _ side _ refl refl
-line_delivered (kinds.Full peer) p side = delivered_kept (peer == p) _ side _ refl refl
-line_delivered (kinds.Done peer) p side = delivered_kept (peer == p) _ side _ refl refl
-line_delivered (kinds.Over peer) p side = delivered_kept (peer == p) _ side _ refl refl
-line_delivered (kinds.Down peer) p side = delivered_kept (peer == p) _ side _ refl refl
-line_delivered (kinds.Accept peer frame) p side = delivered_kept (peer == p) _ side _ refl refl
-line_delivered (kinds.Deliver peer frame) p side = deliver_delivered (peer == p) frame side
-line_delivered (kinds.Return peer) p side = delivered_kept (peer == p) _ side _ refl refl
-line_delivered (kinds.Refuse peer refused) p side = delivered_kept (peer == p) _ side _ refl refl
-line_delivered (kinds.Session peer opened other) p side = refl
+both_kept : (b : Bool) (new side : Side) (frames : List (List ℕ)) (count : ℕ) → new.accepted ≡ frames → side.accepted ≡ frames → length new.delivered ≡ count → length side.delivered ≡ count →
+    ((if b then new else side).accepted ≡ frames) × (length (if b then new else side).delivered ≡ count)
+both_kept b new side frames count e f g h = (accepted_kept b new side frames e f, delivered_kept b new side count g h)
+
+line_lists : (line : Line) (p : ℕ) (side : Side) →
+    ((side_after_line (line_side_event_of line) p side).accepted ≡ accepted_then line p side.accepted) ×
+    (length (side_after_line (line_side_event_of line) p side).delivered ≡ delivered_after p line (length side.delivered))
+line_lists (kinds.State peer value) p side = (state_accepted (peer == p) value side, state_delivered (peer == p) value side)
+line_lists (kinds.Accept peer frame) p side = (accept_accepted (peer == p) frame side, delivered_kept (peer == p) _ side _ refl refl)
+line_lists (kinds.Deliver peer frame) p side = (accepted_kept (peer == p) _ side _ refl refl, deliver_delivered (peer == p) frame side)
+line_lists (kinds.Read peer word value) p side = both_kept (peer == p) _ side _ _ refl refl refl refl
+line_lists (kinds.Reset peer) p side = both_kept (peer == p) _ side _ _ refl refl refl refl
+line_lists (kinds.Saw peer value) p side = both_kept (peer == p) _ side _ _ refl refl refl refl
+line_lists (kinds.Reclaim peer count) p side = both_kept (peer == p) _ side _ _ refl refl refl refl
+line_lists (kinds.Look peer count) p side = both_kept (peer == p) _ side _ _ refl refl refl refl
+line_lists (kinds.Full peer) p side = both_kept (peer == p) _ side _ _ refl refl refl refl
+line_lists (kinds.Done peer) p side = both_kept (peer == p) _ side _ _ refl refl refl refl
+line_lists (kinds.Over peer) p side = both_kept (peer == p) _ side _ _ refl refl refl refl
+line_lists (kinds.Down peer) p side = both_kept (peer == p) _ side _ _ refl refl refl refl
+line_lists (kinds.Return peer) p side = both_kept (peer == p) _ side _ _ refl refl refl refl
+line_lists (kinds.Refuse peer refused) p side = both_kept (peer == p) _ side _ _ refl refl refl refl
+line_lists _ p side = (refl, refl)
 
 deliveries_are : (p : ℕ) (older : List Line) → delivery_count p older ≡ length (side_of older p).delivered
 deliveries_are p [] = refl
-deliveries_are p (line ∷ older) = ap (delivered_after p line) (deliveries_are p older) ∙ sym (line_delivered line p (side_of older p))
+deliveries_are p (line ∷ older) = ap (delivered_after p line) (deliveries_are p older) ∙ sym (line_lists line p (side_of older p)).1
 
 -- ---- the lines at which the frames of a side were accepted
 
@@ -209,7 +174,7 @@ paired_after q (line ∷ older) =
     let here = subst (λ (before : List Line). Paired q before (acceptances q (line ∷ older)) (accepted_then line q (side_of older q).accepted))
     (sym (reversed line older)) step in
     subst (λ (frames : List (List ℕ)). Paired q (reverse (line ∷ older)) (acceptances q (line ∷ older)) frames)
-    (sym (line_accepted line q (side_of older q))) here
+    (sym (line_lists line q (side_of older q)).0) here
 
 -- ---- the rows of a lawful history
 

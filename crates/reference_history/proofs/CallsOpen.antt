@@ -11,7 +11,7 @@ use Rattle.call_grammar.specs.Ends.{end_after}
 use Rattle.call_grammar.specs.Calls.{EndConfig, tree_of}
 use Rattle.call_grammar.specs.Calls as calls
 use Rattle.call_grammar.proofs.ReplaysAreCalls.{shut_place}
-use Rattle.call_grammar.specs.Places.{Place, Closed, ReadingOtherState, Clearing, WritingState, Refusing, NotInRun, ReadingUsedIndex, ReadingUsedId, WritingFrameWord, WritingDescAddressLow, WritingDescAddressHigh, WritingDescLength, WritingDescFlags, WritingAvailEntry, WritingAvailIndex, ReadingAvailEvent, RingingOffer, ReadingAvailIndex, WritingAvailEvent, ReadingAvailEntry, ReadingDescAddressLow, ReadingDescAddressHigh, ReadingDescLength, ReadingDescFlags, ReadingFrameWord, WritingUsedId, WritingUsedLength, WritingUsedIndex, RingingPoll, remaining, first_place, step_at, next_place, is_open, PlacesFollowTrees}
+use Rattle.call_grammar.specs.Places.{Place, ReadingUsedIndex, remaining, first_place, step_at, next_place, is_open, PlacesFollowTrees}
 use Rattle.reference_calls.specs.declared.ends.Call.{Call}
 use Rattle.reference_calls.specs.declared.ends.End.{End}
 use Rattle.reference_calls.specs.Views.{call_view, HasView}
@@ -32,35 +32,8 @@ few_wider most more (Chooses auto) wide few = omega arith
 few_wider most more (Storms x) wide few = tt
 
 fresh_wider : (most more : ℕ) (s : Peer) (place : Place) → most ≤ more → IsFresh most s.end place → IsFresh more s.end place
-fresh_wider most more s Closed wide fresh = tt
-fresh_wider most more s (ReadingOtherState handshake) wide fresh = tt
-fresh_wider most more s (Clearing at count state) wide fresh = tt
-fresh_wider most more s (WritingState state) wide fresh = tt
-fresh_wider most more s Refusing wide fresh = tt
-fresh_wider most more s NotInRun wide fresh = tt
 fresh_wider most more s (ReadingUsedIndex pending freed) wide fresh = let number = fresh.0 in (omega arith, fresh.1)
-fresh_wider most more s (ReadingUsedId pending freed count) wide fresh = tt
-fresh_wider most more s (WritingFrameWord pending at count) wide fresh = tt
-fresh_wider most more s (WritingDescAddressLow pending) wide fresh = tt
-fresh_wider most more s (WritingDescAddressHigh pending) wide fresh = tt
-fresh_wider most more s (WritingDescLength pending) wide fresh = tt
-fresh_wider most more s (WritingDescFlags pending) wide fresh = tt
-fresh_wider most more s (WritingAvailEntry pending) wide fresh = tt
-fresh_wider most more s (WritingAvailIndex pending) wide fresh = tt
-fresh_wider most more s (ReadingAvailEvent number) wide fresh = tt
-fresh_wider most more s RingingOffer wide fresh = tt
-fresh_wider most more s (ReadingAvailIndex taken last) wide fresh = tt
-fresh_wider most more s (WritingAvailEvent taken) wide fresh = tt
-fresh_wider most more s (ReadingAvailEntry number count) wide fresh = tt
-fresh_wider most more s (ReadingDescAddressLow number count entry) wide fresh = tt
-fresh_wider most more s (ReadingDescAddressHigh number count entry low) wide fresh = tt
-fresh_wider most more s (ReadingDescLength number count entry address) wide fresh = tt
-fresh_wider most more s (ReadingDescFlags number count entry address bytes) wide fresh = tt
-fresh_wider most more s (ReadingFrameWord number count entry address bytes read words) wide fresh = tt
-fresh_wider most more s (WritingUsedId number count entry) wide fresh = tt
-fresh_wider most more s (WritingUsedLength number count) wide fresh = tt
-fresh_wider most more s (WritingUsedIndex number count) wide fresh = tt
-fresh_wider most more s RingingPoll wide fresh = tt
+fresh_wider most more s _ wide fresh = tt
 
 pub peer_wider : (config : EndConfig) (most more : ℕ) (s : Peer) (peer : history.Peer) → most ≤ more → IsPeer config most s peer → IsPeer config more s peer
 peer_wider config most more s peer wide refines =

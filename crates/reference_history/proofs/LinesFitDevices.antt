@@ -8,7 +8,7 @@ use Rattle.split_ring.specs.declared.steps.Access.{Access}
 use Rattle.split_ring.specs.declared.steps.Access.TheVariants as access
 use Rattle.section_map.specs.MayWrite.{may_write}
 use Rattle.scenario_text.specs.Scenario.{World}
-use Rattle.call_grammar.specs.Steps.{Mark, Saw, Reclaim, Full, Accept, Look, Deliver, Return, Done, Down, Refuse, Over, Step}
+use Rattle.call_grammar.specs.Steps.{Mark, Saw, Step}
 use Rattle.lawful_history.specs.declared.line.Line.{Line}
 use Rattle.lawful_history.specs.declared.line.Line.TheVariants as line
 use Rattle.lawful_history.specs.EventRecords.{access_lines, mark_line, step_lines}
@@ -53,16 +53,7 @@ brought_recorded world peers older losses (line ∷ lines) = arrivals_recorded w
 
 mark_recorded : (peers p : ℕ) (mark : Mark) → FitsDevices peers (mark_line p mark)
 mark_recorded peers p (Saw value) = tt
-mark_recorded peers p (Reclaim count) = tt
-mark_recorded peers p Full = tt
-mark_recorded peers p (Accept frame) = tt
-mark_recorded peers p (Look count) = tt
-mark_recorded peers p (Deliver frame) = tt
-mark_recorded peers p Return = tt
-mark_recorded peers p Done = tt
-mark_recorded peers p Down = tt
-mark_recorded peers p (Refuse refused) = tt
-mark_recorded peers p Over = tt
+mark_recorded peers p _ = tt
 
 marks_recorded : (peers p : ℕ) (marks : List Mark) → AllFitDevices peers (map (mark_line p) marks)
 marks_recorded peers p [] = tt

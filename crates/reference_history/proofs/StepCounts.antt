@@ -20,7 +20,7 @@ use Rattle.call_grammar.specs.Ticks.{tick_marks}
 use Rattle.call_grammar.specs.Offers.{PendingOffer, avail_entry_of, frame_fits, full_marks, reclaim_marks, refusal, returned_by, wants_doorbell}
 use Rattle.call_grammar.specs.Polls.{published_by, is_last, look_marks}
 use Rattle.call_grammar.specs.Calls.{EndConfig, Call, Tick, Stop, Offer, Poll, in_run, pending_of}
-use Rattle.call_grammar.specs.Places.{Place, Closed, ReadingOtherState, Clearing, WritingState, Refusing, NotInRun, ReadingUsedIndex, ReadingUsedId, WritingFrameWord, WritingDescAddressLow, WritingDescAddressHigh, WritingDescLength, WritingDescFlags, WritingAvailEntry, WritingAvailIndex, ReadingAvailEvent, RingingOffer, ReadingAvailIndex, WritingAvailEvent, ReadingAvailEntry, ReadingDescAddressLow, ReadingDescAddressHigh, ReadingDescLength, ReadingDescFlags, ReadingFrameWord, WritingUsedId, WritingUsedLength, WritingUsedIndex, RingingPoll, clear_place, tick_place, fill_place, ids_place, none_place, items_place, words_place, first_place, marks_at, next_place}
+use Rattle.call_grammar.specs.Places.{Place, Closed, ReadingOtherState, Clearing, WritingState, Refusing, NotInRun, ReadingUsedIndex, ReadingUsedId, WritingFrameWord, WritingAvailIndex, ReadingAvailEvent, RingingOffer, ReadingAvailIndex, WritingAvailEvent, ReadingAvailEntry, ReadingDescAddressLow, ReadingDescAddressHigh, ReadingDescLength, ReadingDescFlags, ReadingFrameWord, WritingUsedIndex, RingingPoll, clear_place, tick_place, fill_place, ids_place, none_place, items_place, words_place, first_place, marks_at, next_place}
 use Rattle.reference_calls.specs.declared.ends.End.{End}
 use Rattle.reference_calls.specs.declared.steps.Mark as plain
 use Rattle.reference_calls.specs.Views.{mark_view, marks_view, HasView}
@@ -69,35 +69,24 @@ short_look : (last : Bool) (count : ℕ) → IsShort (look_marks last count)
 short_look last count = short_if (count == 0) _ _ (short_if last _ _ (pair_if true (Look 0) Done) (single _)) (single _)
 
 short_at : (config : EndConfig) (place : Place) (value : ℕ) → IsShort (marks_at config place value)
-short_at config Closed value = none
 short_at config (ReadingOtherState handshake) value = short_tick value (move_of handshake value)
-short_at config (Clearing at more state) value = none
 short_at config (WritingState state) value = single Over
 short_at config Refusing value = single Over
 short_at config NotInRun value = single Down
 short_at config (ReadingUsedIndex pending freed) value = short_if _ _ _ (short_reclaim config pending freed (returned_by freed value)) (refused _ _)
 short_at config (ReadingUsedId pending freed more) value = short_if _ _ _ (short_if _ _ _ (short_full config pending (freed + 1)) none) (refused _ _)
-short_at config (WritingFrameWord pending at more) value = none
-short_at config (WritingDescAddressLow pending) value = none
-short_at config (WritingDescAddressHigh pending) value = none
-short_at config (WritingDescLength pending) value = none
-short_at config (WritingDescFlags pending) value = none
-short_at config (WritingAvailEntry pending) value = none
 short_at config (WritingAvailIndex pending) value = single (Accept pending.frame)
 short_at config (ReadingAvailEvent number) value = short_if _ _ _ none (single Over)
 short_at config RingingOffer value = single Over
 short_at config (ReadingAvailIndex taken last) value = short_if _ _ _ (short_look last (published_by taken value)) (refused _ _)
-short_at config (WritingAvailEvent taken) value = none
 short_at config (ReadingAvailEntry number more) value = short_if _ _ _ none (refused _ _)
-short_at config (ReadingDescAddressLow number more entry) value = none
 short_at config (ReadingDescAddressHigh number more entry low) value = short_if _ _ _ none (refused _ _)
 short_at config (ReadingDescLength number more entry address) value = short_if _ _ _ none (refused _ _)
 short_at config (ReadingDescFlags number more entry address bytes) value = short_if _ _ _ none (refused _ _)
 short_at config (ReadingFrameWord number more entry address bytes read words) value = short_if _ _ _ (single _) none
-short_at config (WritingUsedId number more entry) value = none
-short_at config (WritingUsedLength number more) value = none
 short_at config (WritingUsedIndex number more) value = single Return
 short_at config RingingPoll value = single Done
+short_at config _ value = none
 
 pub marks_few : (config : EndConfig) (place : Place) (value : ℕ) → length (marks_at config place value) ≤ 2
 marks_few config place value = (short_at config place value).few
@@ -157,35 +146,17 @@ frees_none : (most : ℕ) (end : End) (xs : List Mark) → FreesNone xs → end.
 frees_none most end xs none few = let zero_is = none.none in omega arith
 
 pub freed_few : (most : ℕ) (end : End) (config : EndConfig) (place : Place) (value : ℕ) → IsFresh most end place → end.freed ≤ most → end.freed + freed_in (marks_at config place value) ≤ most
-freed_few most end config Closed value fresh few = omega arith
 freed_few most end config (ReadingOtherState handshake) value fresh few = frees_none most end (marks_at config (ReadingOtherState handshake) value) (tick_none value (move_of handshake value)) few
-freed_few most end config (Clearing at more state) value fresh few = omega arith
-freed_few most end config (WritingState state) value fresh few = omega arith
-freed_few most end config Refusing value fresh few = omega arith
-freed_few most end config NotInRun value fresh few = omega arith
 freed_few most end config (ReadingUsedIndex pending freed) value fresh few = freed_offer most end config pending freed (returned_by freed value) (refusal field_name.UsedIndex (high_half value)) (is_used_index (freed % 65536) (high_half value) (pending.number - freed)) refl fresh.0 fresh.1 few (refused_none field_name.UsedIndex (high_half value))
 freed_few most end config (ReadingUsedId pending freed more) value fresh few = frees_none most end (marks_at config (ReadingUsedId pending freed more) value) (none_if _ _ _ (none_if _ _ _ (full_none config pending (freed + 1)) none_freed) (refused_none _ _)) few
-freed_few most end config (WritingFrameWord pending at more) value fresh few = omega arith
-freed_few most end config (WritingDescAddressLow pending) value fresh few = omega arith
-freed_few most end config (WritingDescAddressHigh pending) value fresh few = omega arith
-freed_few most end config (WritingDescLength pending) value fresh few = omega arith
-freed_few most end config (WritingDescFlags pending) value fresh few = omega arith
-freed_few most end config (WritingAvailEntry pending) value fresh few = omega arith
-freed_few most end config (WritingAvailIndex pending) value fresh few = omega arith
 freed_few most end config (ReadingAvailEvent number) value fresh few = frees_none most end (marks_at config (ReadingAvailEvent number) value) (none_if _ _ _ none_freed over_none) few
-freed_few most end config RingingOffer value fresh few = omega arith
 freed_few most end config (ReadingAvailIndex taken last) value fresh few = frees_none most end (marks_at config (ReadingAvailIndex taken last) value) (none_if _ _ _ (looks_none last (published_by taken value)) (refused_none _ _)) few
-freed_few most end config (WritingAvailEvent taken) value fresh few = omega arith
 freed_few most end config (ReadingAvailEntry number more) value fresh few = frees_none most end (marks_at config (ReadingAvailEntry number more) value) (none_if _ _ _ none_freed (refused_none _ _)) few
-freed_few most end config (ReadingDescAddressLow number more entry) value fresh few = omega arith
 freed_few most end config (ReadingDescAddressHigh number more entry low) value fresh few = frees_none most end (marks_at config (ReadingDescAddressHigh number more entry low) value) (none_if _ _ _ none_freed (refused_none _ _)) few
 freed_few most end config (ReadingDescLength number more entry address) value fresh few = frees_none most end (marks_at config (ReadingDescLength number more entry address) value) (none_if _ _ _ none_freed (refused_none _ _)) few
 freed_few most end config (ReadingDescFlags number more entry address bytes) value fresh few = frees_none most end (marks_at config (ReadingDescFlags number more entry address bytes) value) (none_if _ _ _ none_freed (refused_none _ _)) few
 freed_few most end config (ReadingFrameWord number more entry address bytes read words) value fresh few = frees_none most end (marks_at config (ReadingFrameWord number more entry address bytes read words) value) (none_if _ _ _ (deliver_none _) none_freed) few
-freed_few most end config (WritingUsedId number more entry) value fresh few = omega arith
-freed_few most end config (WritingUsedLength number more) value fresh few = omega arith
-freed_few most end config (WritingUsedIndex number more) value fresh few = omega arith
-freed_few most end config RingingPoll value fresh few = omega arith
+freed_few most end config _ value fresh few = omega arith
 
 -- The places at which a call reads the counts of its end
 
@@ -220,38 +191,24 @@ fresh_words most end number more entry address bytes read (suc words) = tt
 
 -- It reads them only at its first step.
 pub fresh_next : (most : ℕ) (end : End) (config : EndConfig) (place : Place) (value : ℕ) → IsFresh most end (next_place config place value)
-fresh_next most end config Closed value = tt
 fresh_next most end config (ReadingOtherState handshake) value = fresh_tick most end config (move_of handshake value)
 fresh_next most end config (Clearing at more state) value = fresh_clear most end (at + 1) more state
-fresh_next most end config (WritingState state) value = tt
-fresh_next most end config Refusing value = tt
-fresh_next most end config NotInRun value = tt
 fresh_next most end config (ReadingUsedIndex pending freed) value = fresh_if most end _ _ Refusing (fresh_ids most end config pending freed (returned_by freed value)) tt
 fresh_next most end config (ReadingUsedId pending freed more) value = fresh_if most end _ _ Refusing (fresh_ids most end config pending (freed + 1) more) tt
 fresh_next most end config (WritingFrameWord pending at more) value = fresh_fill most end pending (at + 1) more
-fresh_next most end config (WritingDescAddressLow pending) value = tt
-fresh_next most end config (WritingDescAddressHigh pending) value = tt
-fresh_next most end config (WritingDescLength pending) value = tt
-fresh_next most end config (WritingDescFlags pending) value = tt
-fresh_next most end config (WritingAvailEntry pending) value = tt
 fresh_next most end config (WritingAvailIndex pending) value = fresh_if most end (has_events config.sizes) (ReadingAvailEvent pending.number) RingingOffer tt tt
 fresh_next most end config (ReadingAvailEvent number) value = fresh_if most end (wants_doorbell (low_half value) number) RingingOffer Closed tt tt
-fresh_next most end config RingingOffer value = tt
 fresh_next most end config (ReadingAvailIndex taken last) value =
     let count = published_by taken value in
     fresh_if most end (is_avail_index config.sizes (taken % 65536) (high_half value)) (if count == 0 then none_place taken last else items_place taken count) Refusing
     (fresh_if most end (count == 0) (none_place taken last) (items_place taken count) (fresh_if most end last Closed (WritingAvailEvent taken) tt tt) (fresh_items most end taken count)) tt
-fresh_next most end config (WritingAvailEvent taken) value = tt
 fresh_next most end config (ReadingAvailEntry number more) value = fresh_if most end (is_avail_entry config.sizes (entry_half (avail_entry_of config number) value)) (ReadingDescAddressLow number more (entry_half (avail_entry_of config number) value)) Refusing tt tt
-fresh_next most end config (ReadingDescAddressLow number more entry) value = tt
 fresh_next most end config (ReadingDescAddressHigh number more entry low) value = fresh_if most end (is_desc_address config.sizes (address_of low value)) (ReadingDescLength number more entry (address_of low value)) Refusing tt tt
 fresh_next most end config (ReadingDescLength number more entry address) value = fresh_if most end (is_desc_length config.sizes address value) (ReadingDescFlags number more entry address value) Refusing tt tt
 fresh_next most end config (ReadingDescFlags number more entry address bytes) value = fresh_if most end _ _ Refusing (fresh_words most end number more entry address bytes [] (words_for bytes)) tt
 fresh_next most end config (ReadingFrameWord number more entry address bytes read words) value = fresh_words most end number more entry address bytes (read ++ value ∷ []) words
-fresh_next most end config (WritingUsedId number more entry) value = tt
-fresh_next most end config (WritingUsedLength number more) value = tt
 fresh_next most end config (WritingUsedIndex number more) value = fresh_items most end (number + 1) more
-fresh_next most end config RingingPoll value = tt
+fresh_next most end config _ value = tt
 
 fresh_run : (most : ℕ) (end : End) (phase : Phase) (p : Place) → IsFresh most end p → IsFresh most end (if in_run phase then p else NotInRun)
 fresh_run most end Reset p fresh = tt

@@ -42,10 +42,7 @@ not_all_marked lines past me marks i none =
 pub interrupts_are : (world : World) (past : List Line) (losses : ℕ → ℕ) (me : ℕ) (a : Access) (value : ℕ) →
     interrupts_of_access world past losses (access_lines me a value) ≡ delivery_lines (reverse (access_lines me a value) ++ past) losses (brought (devices_of world) (device_events past) (device_event_of_access me a))
 interrupts_are world past losses me (access.Read word) value = refl
-interrupts_are world past losses me (access.Write word written) value = refl
-interrupts_are world past losses me (access.State state) value = refl
-interrupts_are world past losses me (access.Ring target vector) value = refl
-interrupts_are world past losses me access.Nothing value = refl
+interrupts_are world past losses me _ value = refl
 
 -- The lines of a step are its access, its interrupts and its marks, in order.
 pub step_after : (world : World) (past : List Line) (losses : ℕ → ℕ) (me : ℕ) (step : laws.Step) →

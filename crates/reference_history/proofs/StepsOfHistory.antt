@@ -8,7 +8,7 @@ use Rattle.call_grammar.specs.Steps.{Step, value_given, step_of}
 use Rattle.call_grammar.specs.Trees.{CallTree, Ended, Does, Goes}
 use Rattle.call_grammar.specs.Trees as trees
 use Rattle.call_grammar.specs.Calls.{EndConfig}
-use Rattle.call_grammar.specs.Places.{Place, Closed, ReadingOtherState, Clearing, WritingState, Refusing, NotInRun, ReadingUsedIndex, ReadingUsedId, WritingFrameWord, WritingDescAddressLow, WritingDescAddressHigh, WritingDescLength, WritingDescFlags, WritingAvailEntry, WritingAvailIndex, ReadingAvailEvent, RingingOffer, ReadingAvailIndex, WritingAvailEvent, ReadingAvailEntry, ReadingDescAddressLow, ReadingDescAddressHigh, ReadingDescLength, ReadingDescFlags, ReadingFrameWord, WritingUsedId, WritingUsedLength, WritingUsedIndex, RingingPoll, remaining, access_at, next_place, step_at, is_open, PlacesFollowTrees}
+use Rattle.call_grammar.specs.Places.{Place, RingingOffer, RingingPoll, remaining, access_at, next_place, step_at, is_open, PlacesFollowTrees}
 use Rattle.lawful_history.specs.declared.line.Line.{Line}
 use Rattle.lawful_history.specs.Memory.{last_write}
 use Rattle.lawful_history.specs.Peers.{Driver, Peer, stepped}
@@ -45,35 +45,9 @@ step_is follow world p peer config place met past left opens meets =
 
 -- A call rings only the other link peer.
 pub fits_at : (config : EndConfig) (place : Place) → config.other < 2 ^ 16 → config.vector < 2 ^ 16 → FitsDoorbell (access_at config place)
-fits_at config Closed other vector = tt
-fits_at config (ReadingOtherState handshake) other vector = tt
-fits_at config (Clearing at more state) other vector = tt
-fits_at config (WritingState state) other vector = tt
-fits_at config Refusing other vector = tt
-fits_at config NotInRun other vector = tt
-fits_at config (ReadingUsedIndex pending freed) other vector = tt
-fits_at config (ReadingUsedId pending freed more) other vector = tt
-fits_at config (WritingFrameWord pending at more) other vector = tt
-fits_at config (WritingDescAddressLow pending) other vector = tt
-fits_at config (WritingDescAddressHigh pending) other vector = tt
-fits_at config (WritingDescLength pending) other vector = tt
-fits_at config (WritingDescFlags pending) other vector = tt
-fits_at config (WritingAvailEntry pending) other vector = tt
-fits_at config (WritingAvailIndex pending) other vector = tt
-fits_at config (ReadingAvailEvent number) other vector = tt
 fits_at config RingingOffer other vector = (other, vector)
-fits_at config (ReadingAvailIndex taken last) other vector = tt
-fits_at config (WritingAvailEvent taken) other vector = tt
-fits_at config (ReadingAvailEntry number more) other vector = tt
-fits_at config (ReadingDescAddressLow number more entry) other vector = tt
-fits_at config (ReadingDescAddressHigh number more entry low) other vector = tt
-fits_at config (ReadingDescLength number more entry address) other vector = tt
-fits_at config (ReadingDescFlags number more entry address bytes) other vector = tt
-fits_at config (ReadingFrameWord number more entry address bytes read words) other vector = tt
-fits_at config (WritingUsedId number more entry) other vector = tt
-fits_at config (WritingUsedLength number more) other vector = tt
-fits_at config (WritingUsedIndex number more) other vector = tt
 fits_at config RingingPoll other vector = (other, vector)
+fits_at config _ other vector = tt
 
 pub goes_to : (world : World) (lines past : List Line) (config : EndConfig) (most : ℕ) (it : Peer) (seen : plain.Peer) (r : Option ℕ) → Reads lines past r → AllFitDevices world.geometry.peers past → IsPeer config most seen it →
     GoesTo world lines past config most it seen r
@@ -104,10 +78,7 @@ storm_goes world lines past lost me x it config most new step r driver is goes =
 -- The value met is the value of the step.
 given_is : (past : List Line) (a : Access) (met : ℕ) → Meets past a met → value_given a met ≡ met
 given_is past (access.Read word) met meets = refl
-given_is past (access.Write word written) met meets = sym meets
-given_is past (access.State state) met meets = sym meets
-given_is past (access.Ring target vector) met meets = sym meets
-given_is past access.Nothing met meets = sym meets
+given_is past _ met meets = sym meets
 
 -- The step of an access outside a call.
 pub acted_goes : (world : World) (past : List Line) (lost : ℕ → ℕ) (me : ℕ) (a : Access) (met : ℕ) (P : List Line → Type 0) → Meets past a met → acted_step world me a past ≡ Some (step_of a met []) →

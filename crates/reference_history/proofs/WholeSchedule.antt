@@ -14,7 +14,7 @@ use Rattle.scenario_text.specs.Acts.{cost, turns_of}
 use Rattle.scenario_text.specs.Scenario.{World, IsWorld, is_aligned}
 use Rattle.call_grammar.specs.Calls.{EndConfig}
 use Rattle.lawful_history.specs.declared.line.Line.{Line}
-use Rattle.lawful_history.specs.Schedule.{Event, CallQueued, AutoStarted, StormStarted, TurnTaken, RegionAccessed, DeviceReset, DeviceAccessed, InterruptDropped, InterruptRepeated, event_peer, register_event, events_of, schedule}
+use Rattle.lawful_history.specs.Schedule.{Event, TurnTaken, InterruptDropped, event_peer, register_event, events_of, schedule}
 use Rattle.lawful_history.specs.Permitted.{IsPermittedEvent}
 use Rattle.lawful_history.specs.Sides.{config_of}
 use Rattle.lawful_history.specs.Device.{losses_with}
@@ -87,14 +87,7 @@ one_loss p q n count false few = omega arith
 
 losses_few : (event : Event) (losses : ℕ → ℕ) (count q : ℕ) → losses q ≤ count → losses_with event losses q ≤ count + 1
 losses_few (InterruptDropped p) losses count q few = one_loss p q (losses q) count (p == q) few
-losses_few (CallQueued p call) losses count q few = omega arith
-losses_few (AutoStarted p expected) losses count q few = omega arith
-losses_few (StormStarted p seed) losses count q few = omega arith
-losses_few (TurnTaken p) losses count q few = omega arith
-losses_few (RegionAccessed p a) losses count q few = omega arith
-losses_few (DeviceReset p) losses count q few = omega arith
-losses_few (DeviceAccessed p a) losses count q few = omega arith
-losses_few (InterruptRepeated p vector) losses count q few = omega arith
+losses_few _ losses count q few = omega arith
 
 -- One more event.
 pub moment_on : (world : World) (lines : List Line) (count : ℕ) (event : Event) (so_far : HistoryState) (s s' : plain.ReferenceState) (new : Peer) → RefinesState world lines count so_far s → event_peer event < world.geometry.peers →
@@ -187,25 +180,18 @@ can_by world (act.Tick p) there is = (record { peer = there.0.0; fits = tt }, tt
 can_by world (act.Offer p frame) there is = (record { peer = there.0.0; fits = tt }, tt)
 can_by world (act.Poll p) there is = (record { peer = there.0.0; fits = tt }, tt)
 can_by world (act.Stop p) there is = (record { peer = there.0.0; fits = tt }, tt)
-can_by world (act.Auto p expected) there is = (record { peer = there.0; fits = tt }, tt)
-can_by world (act.Storm p seed) there is = (record { peer = there.0; fits = tt }, tt)
 can_by world (act.Turn p steps) there is = can_turn world p steps (peer_below p world.geometry.peers is.1.peer)
-can_by world (act.Reset p) there is = (record { peer = there.0; fits = tt }, tt)
 can_by world (act.Poke p word value) there is = let most = is.1.values.2.1 in (record { peer = there.0; fits = (tt, omega arith) }, tt)
 can_by world (act.Peek p word) there is = (record { peer = there.0; fits = (tt, tt) }, tt)
 can_by world (act.Set p value) there is = (record { peer = there.0; fits = (tt, tt) }, tt)
 can_by world (act.Ring p target vector) there is = let target_most = is.1.values.2.1 in let vector_most = is.1.values.2.2.1 in (record { peer = there.0; fits = ((omega arith, omega arith), tt) }, tt)
 can_by world (act.CfgRead p offset width) there is = (record { peer = there.0; fits = within offset width is.1.range is.1.values.2.1 is.1.values.2.2.0 is.1.values.2.2.1 }, tt)
 can_by world (act.CfgWrite p offset width value) there is = (record { peer = there.0; fits = within offset width is.1.range is.1.values.2.1 is.1.values.2.2.0 is.1.values.2.2.1 }, tt)
-can_by world (act.MmioRead p offset) there is = (record { peer = there.0; fits = tt }, tt)
 can_by world (act.MmioWrite p offset value) there is =
     let most = is.1.values.2.2.1 in
     let here : p < world.geometry.peers = subst (λ q. q < world.geometry.peers) (register_peer p offset value (offset == 0x10) (offset == 0x0C) refl refl) (there_below world (register_event p offset value) there.0) in
     (can_register world p offset value (offset == 0x10) (offset == 0x0C) refl refl (omega arith) here, tt)
-can_by world (act.MsixRead p offset) there is = (record { peer = there.0; fits = tt }, tt)
-can_by world (act.MsixWrite p offset value) there is = (record { peer = there.0; fits = tt }, tt)
-can_by world (act.Lose p) there is = (record { peer = there.0; fits = tt }, tt)
-can_by world (act.Again p vector) there is = (record { peer = there.0; fits = tt }, tt)
+can_by world _ there is = (record { peer = there.0; fits = tt }, tt)
 
 pub act_can : (world : World) (act : Act) → IsWorld world → IsAct world act → AllByRecursion (CanHappen world) (events_of act)
 act_can world act is_world is = can_by world act (act_there world act [] is_world.geometry.two_peers is.1.peer is.1.frame tt) is
@@ -234,26 +220,8 @@ one_event world act e k so_far same inside =
 
 -- The number of events of an act is the number for which it counts.
 events_count : (act : Act) → length (events_of act) ≡ cost act
-events_count (act.Tick p) = refl
-events_count (act.Offer p frame) = refl
-events_count (act.Poll p) = refl
-events_count (act.Stop p) = refl
-events_count (act.Auto p expected) = refl
-events_count (act.Storm p seed) = refl
 events_count (act.Turn p steps) = length-replicate steps (TurnTaken p)
-events_count (act.Reset p) = refl
-events_count (act.Poke p word value) = refl
-events_count (act.Peek p word) = refl
-events_count (act.Set p value) = refl
-events_count (act.Ring p target vector) = refl
-events_count (act.CfgRead p offset width) = refl
-events_count (act.CfgWrite p offset width value) = refl
-events_count (act.MmioRead p offset) = refl
-events_count (act.MmioWrite p offset value) = refl
-events_count (act.MsixRead p offset) = refl
-events_count (act.MsixWrite p offset value) = refl
-events_count (act.Lose p) = refl
-events_count (act.Again p vector) = refl
+events_count _ = refl
 
 -- All of them.
 pub all_events : (act : Act) (k : ℕ) → k ≡ cost act → take k (events_of act) ≡ events_of act

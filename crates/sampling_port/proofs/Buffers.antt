@@ -143,10 +143,7 @@ opened_same world q past new port (place.WritingWord at more) is most few there 
   λ j below. same (data_at world q (port.published + 1) j) (data_in world q (port.published + 1) j is (few_words world.most (length port.hand) j is.size.0 (omega arith) (omega (arith, there.0)))) ∙ opened.1 j below,
 )
 opened_same world q past new port place.WritingSequence is most few there same opened = spells_same world q past new (port.published + 1) port.hand is (omega arith) same opened
-opened_same world q past new port (place.AtSequence from) is most few there same opened = tt
-opened_same world q past new port (place.AtLength from sequence) is most few there same opened = tt
-opened_same world q past new port (place.AtWord from sequence bytes at more) is most few there same opened = tt
-opened_same world q past new port (place.AtSecond from sequence) is most few there same opened = tt
+opened_same world q past new port _ is most few there same opened = tt
 
 -- If the words don't change, the writer's state doesn't.
 pub writer_same : (world : World) (q : ℕ) (past new : List Line) (port next : PortView) (done : List (List ℕ)) → IsWorld world → Same world q past new → Writer world q past port done → next.published ≡ port.published →

@@ -67,36 +67,20 @@ numbers_second port from sequence value true few eight = record { published = re
 numbers_second port from sequence value false few eight = record { published = refl; lasts = λ f below. refl }
 
 pub numbers_after : (port : PortView) (p : Place) (value : ℕ) → IsPort port → IsPlace port p → Numbers port (port_after port p value) (marked (from_at p) port.hand (note_at port p value))
-numbers_after port place.Closed value is there = record { published = refl; lasts = λ f few. refl }
-numbers_after port place.WritingLength value is there = record { published = refl; lasts = λ f few. refl }
-numbers_after port (place.WritingWord at more) value is there = record { published = refl; lasts = λ f few. refl }
-numbers_after port place.WritingSequence value is there = record { published = refl; lasts = λ f few. refl }
 numbers_after port (place.AtSequence from) value is there = numbers_first port from value port.hand _ _
 numbers_after port (place.AtLength from sequence) value is there = numbers_length port _ from value port.hand _ refl refl
-numbers_after port (place.AtWord from sequence bytes at more) value is there = record { published = refl; lasts = λ f few. refl }
 numbers_after port (place.AtSecond from sequence) value is there = numbers_second port from sequence value _ (omega (arith, is.few, there)) is.lasts
+numbers_after port _ value is there = record { published = refl; lasts = λ f few. refl }
 
 -- A call begins
 
 busy_begins : (world : World) (me : ℕ) (peer : Progress) (port : PortView) (p : Place) → is_open p ≡ true → begins_by world me peer (left_at port p) ≡ peer
 busy_begins world me peer port place.Closed opens = absurd cc
-busy_begins world me peer port place.WritingLength opens = refl
-busy_begins world me peer port (place.WritingWord at more) opens = refl
-busy_begins world me peer port place.WritingSequence opens = refl
-busy_begins world me peer port (place.AtSequence from) opens = refl
-busy_begins world me peer port (place.AtLength from sequence) opens = refl
-busy_begins world me peer port (place.AtWord from sequence bytes at more) opens = refl
-busy_begins world me peer port (place.AtSecond from sequence) opens = refl
+busy_begins world me peer port _ opens = refl
 
 closed_left : (port : PortView) (p : Place) → is_open p ≡ false → left_at port p ≡ Ended
 closed_left port place.Closed shut = refl
-closed_left port place.WritingLength shut = absurd cc
-closed_left port (place.WritingWord at more) shut = absurd cc
-closed_left port place.WritingSequence shut = absurd cc
-closed_left port (place.AtSequence from) shut = absurd cc
-closed_left port (place.AtLength from sequence) shut = absurd cc
-closed_left port (place.AtWord from sequence bytes at more) shut = absurd cc
-closed_left port (place.AtSecond from sequence) shut = absurd cc
+closed_left port _ shut = absurd cc
 
 -- The calls after the first ones.
 none_left : {A : Type 0} (xs : List A) (n : ℕ) → [] ≡ drop n xs → slice_get xs n ≡ None

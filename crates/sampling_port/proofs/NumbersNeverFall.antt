@@ -22,7 +22,7 @@ use Rattle.sampling_port.specs.Views.{PortView, IsPlace, is_busy, access_at, not
 use Rattle.sampling_port.specs.Laws.{step_of_port}
 use Rattle.sampling_port.specs.Schedule.{PortCall, Event, CallQueued, TurnTaken, Poked, event_peer, schedule}
 use Rattle.sampling_port.specs.Schedule as call
-use Rattle.sampling_port.specs.EventRecords.{Line, Read, Wrote, Denied, Idle, Marked, access_lines, mark_lines, step_lines, lines_by}
+use Rattle.sampling_port.specs.EventRecords.{Line, Marked, access_lines, mark_lines, step_lines, lines_by}
 use Rattle.sampling_port.specs.Order.{last_with}
 use Rattle.sampling_port.specs.Lawful.{IsLawful, HasOneHistory}
 use Rattle.sampling_port.specs.History.{PeerState, HistoryState, opened, opened_by, met_by, may_write, peer_state_in, after_event, run, initial_state, history_state_after, history, HistoryIsLawful}
@@ -73,10 +73,7 @@ mark_rises reader writer peer (Got from number message) older true is here = got
 
 line_rises : (reader writer : ℕ) (line : Line) (older : List Line) → NotFallen line older → highest reader writer older ≤ highest reader writer (line ∷ older)
 line_rises reader writer (Marked peer mark) older here = mark_rises reader writer peer mark older _ refl here
-line_rises reader writer (Read peer word value) older here = omega arith
-line_rises reader writer (Wrote peer word value) older here = omega arith
-line_rises reader writer (Denied peer word) older here = omega arith
-line_rises reader writer (Idle peer) older here = omega arith
+line_rises reader writer _ older here = omega arith
 
 rises : (reader writer : ℕ) (new old : List Line) → NeverFallen (new ++ old) → highest reader writer old ≤ highest reader writer (new ++ old)
 rises reader writer [] old all = omega arith
@@ -169,14 +166,10 @@ mark_not_fallen reader port p value past hand (Some (note.Got number)) is here t
     same_number false sequence is = absurd cc
 
     second : (p : Place) → note_at port p value ≡ Some (note.Got number) → NotBelow port p → IsPlace port p → highest reader (from_at p) past ≤ number
-    second place.Closed is here there = absurd cc
-    second place.WritingLength is here there = absurd cc
-    second (place.WritingWord at more) is here there = absurd cc
-    second place.WritingSequence is here there = absurd cc
     second (place.AtSequence from) is here there = absurd (first_never _ _ is)
     second (place.AtLength from sequence) is here there = absurd (length_never _ is)
-    second (place.AtWord from sequence bytes at more) is here there = absurd cc
     second (place.AtSecond from sequence) is here there = let same = same_number _ sequence is in let last = lasts from (omega arith) in omega arith
+    second _ is here there = absurd cc
 
 -- Lines that are no marks
 
@@ -189,22 +182,13 @@ quiet_lines me access.Nothing value past all = all
 
 quiet_highest : (reader writer me : ℕ) (a : Access) (value : ℕ) (past : List Line) → highest reader writer (access_lines me a value ++ past) ≡ highest reader writer past
 quiet_highest reader writer me (access.Read word) value past = refl
-quiet_highest reader writer me (access.Write word written) value past = refl
-quiet_highest reader writer me (access.State state) value past = refl
-quiet_highest reader writer me (access.Ring target vector) value past = refl
-quiet_highest reader writer me access.Nothing value past = refl
+quiet_highest reader writer me _ value past = refl
 
 pub step_is : (me : ℕ) (a : Access) (value : ℕ) (mark : Option PortMark) (past : List Line) → reverse (step_lines me (port_step a value mark)) ++ past ≡ mark_lines me mark ++ (access_lines me a value ++ past)
 step_is me (access.Read word) value None past = refl
 step_is me (access.Read word) value (Some mark) past = refl
-step_is me (access.Write word written) value None past = refl
-step_is me (access.Write word written) value (Some mark) past = refl
-step_is me (access.State state) value None past = refl
-step_is me (access.State state) value (Some mark) past = refl
-step_is me (access.Ring target vector) value None past = refl
-step_is me (access.Ring target vector) value (Some mark) past = refl
-step_is me access.Nothing value None past = refl
-step_is me access.Nothing value (Some mark) past = refl
+step_is me a value None past = refl
+step_is me a value (Some mark) past = refl
 
 mark_highest : (reader writer me : ℕ) (mark : Option PortMark) (past : List Line) (b : Bool) → (me == reader) ≡ b →
     highest reader writer (mark_lines me mark ++ past) ≡ (if b then last_with writer mark (highest reader writer past) else highest reader writer past)

@@ -48,10 +48,7 @@ there-snoc P (x ∷ events) event all here = (all.0, there-snoc P events event a
 
 one_access : (peer : ℕ) (a : Access) (value : ℕ) → length (access_lines peer a value) ≤ 1
 one_access peer (access.Read word) value = omega arith
-one_access peer (access.Write word written) value = omega arith
-one_access peer (access.State state) value = omega arith
-one_access peer (access.Ring target vector) value = omega arith
-one_access peer access.Nothing value = omega arith
+one_access peer _ value = omega arith
 
 one_mark : (peer : ℕ) (mark : Option PortMark) → length (mark_lines peer mark) ≤ 1
 one_mark peer (Some mark) = omega arith

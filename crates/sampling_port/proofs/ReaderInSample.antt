@@ -88,27 +88,19 @@ pub record Reader (world : World) (q p : ℕ) (past : List Line) (port : PortVie
   pub at : At world q p past port done port.place
 
 at_past : (world : World) (q p : ℕ) (past : List Line) (port : PortView) (done : List (List ℕ)) (line : Line) (at : Place) → is_of p line ≡ 0 → is_read_of p line ≡ 0 → At world q p past port done at → At world q p (line ∷ past) port done at
-at_past world q p past port done line place.Closed none no_read here = tt
-at_past world q p past port done line place.WritingLength none no_read here = tt
-at_past world q p past port done line (place.WritingWord k more) none no_read here = tt
-at_past world q p past port done line place.WritingSequence none no_read here = tt
-at_past world q p past port done line (place.AtSequence from) none no_read here = tt
 at_past world q p past port done line (place.AtLength from sequence) none no_read here = λ e. let h = here e in (looking_past world q p past sequence 0 line none no_read h.0, h.1)
 at_past world q p past port done line (place.AtWord from sequence bytes k more) none no_read here = λ e. let h = here e in (looking_past world q p past sequence (k + 1) line none no_read h.0, h.1, h.2)
 at_past world q p past port done line (place.AtSecond from sequence) none no_read here = λ e. let h = here e in (looking_past world q p past sequence (words_for (length port.hand) + 1) line none no_read h.0, h.1, h.2)
+at_past world q p past port done line _ none no_read here = tt
 
 pub reader_past : (world : World) (q p : ℕ) (past : List Line) (port : PortView) (done : List (List ℕ)) (line : Line) → is_of p line ≡ 0 → is_read_of p line ≡ 0 → Reader world q p past port done → Reader world q p (line ∷ past) port done
 reader_past world q p past port done line none no_read r = record { last = r.last; at = at_past world q p past port done line port.place none no_read r.at }
 
 at_published : (world : World) (q p : ℕ) (past : List Line) (port : PortView) (done : List (List ℕ)) (m : List ℕ) (at : Place) → At world q p past port done at → At world q p past port (m ∷ done) at
-at_published world q p past port done m place.Closed here = tt
-at_published world q p past port done m place.WritingLength here = tt
-at_published world q p past port done m (place.WritingWord k more) here = tt
-at_published world q p past port done m place.WritingSequence here = tt
-at_published world q p past port done m (place.AtSequence from) here = tt
 at_published world q p past port done m (place.AtLength from sequence) here = λ e. let h = here e in (h.0, (h.1.0, omega (arith, h.1.1)))
 at_published world q p past port done m (place.AtWord from sequence bytes k more) here = λ e. let h = here e in (h.0, (h.1.0, omega (arith, h.1.1)), λ same. absurd (omega (arith, h.1.1)))
 at_published world q p past port done m (place.AtSecond from sequence) here = λ e. let h = here e in (h.0, (h.1.0, omega (arith, h.1.1)), λ same. absurd (omega (arith, h.1.1)))
+at_published world q p past port done m _ here = tt
 
 -- One more message was published.
 pub reader_published : (world : World) (q p : ℕ) (past : List Line) (port : PortView) (done : List (List ℕ)) (m : List ℕ) → Reader world q p past port done → Reader world q p past port (m ∷ done)

@@ -67,17 +67,11 @@ may_false g peer word denied = never (may_write g peer word) (λ holds. denied (
 
 pub recorded_alone : (me : ℕ) (a : Access) (value : ℕ) (past : List Line) → reverse (access_lines me a (value_given a value) ++ []) ++ past ≡ access_lines me a value ++ past
 recorded_alone me (access.Read word) value past = refl
-recorded_alone me (access.Write word written) value past = refl
-recorded_alone me (access.State state) value past = refl
-recorded_alone me (access.Ring target vector) value past = refl
-recorded_alone me access.Nothing value past = refl
+recorded_alone me _ value past = refl
 
 pub recorded_marked : (me : ℕ) (a : Access) (value : ℕ) (mark : PortMark) (past : List Line) → reverse (access_lines me a (value_given a value) ++ Marked me mark ∷ []) ++ past ≡ Marked me mark ∷ (access_lines me a value ++ past)
 recorded_marked me (access.Read word) value mark past = refl
-recorded_marked me (access.Write word written) value mark past = refl
-recorded_marked me (access.State state) value mark past = refl
-recorded_marked me (access.Ring target vector) value mark past = refl
-recorded_marked me access.Nothing value mark past = refl
+recorded_marked me _ value mark past = refl
 
 -- The message that was got is the one in hand.
 second_got : (port : PortView) (from sequence value number : ℕ) (b : Bool) → (if b then Some (note.Got sequence) else Some (note.Again sequence value)) ≡ Some (note.Got number) →
@@ -95,21 +89,14 @@ length_never true value number is = absurd cc
 length_never false value number is = absurd cc
 
 got_message : (port : PortView) (p : Place) (value number : ℕ) → note_at port p value ≡ Some (note.Got number) → (port_after port p value).message ≡ port.hand
-got_message port place.Closed value number is = absurd cc
-got_message port place.WritingLength value number is = absurd cc
-got_message port (place.WritingWord at more) value number is = absurd cc
-got_message port place.WritingSequence value number is = absurd cc
 got_message port (place.AtSequence from) value number is = absurd (first_never _ _ value number is)
 got_message port (place.AtLength from sequence) value number is = absurd (length_never _ value number is)
-got_message port (place.AtWord from sequence bytes at more) value number is = absurd cc
 got_message port (place.AtSecond from sequence) value number is = second_got port from sequence value number _ is
+got_message port _ value number is = absurd cc
 
 pub mark_is : (port : PortView) (p : Place) (value : ℕ) (n : PortNote) → note_at port p value ≡ Some n → mark_of (from_at p) (port_after port p value).message n ≡ mark_of (from_at p) port.hand n
-mark_is port p value (note.Publish number) is = refl
 mark_is port p value (note.Got number) is = ap (λ m. Got (from_at p) number m) (got_message port p value number is)
-mark_is port p value note.Nothing is = refl
-mark_is port p value (note.Again first second) is = refl
-mark_is port p value (note.Refuse field v) is = refl
+mark_is port p value _ is = refl
 
 -- The requirements of a port's step on the region.
 pub can : (port : PortView) (a : Access) → IsPort port → IsPortAccess port a → CanPerform port.shape port.me a

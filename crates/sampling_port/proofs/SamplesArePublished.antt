@@ -80,34 +80,21 @@ step_at world q me messages past port done (place.AtSecond from sequence) is the
 -- A turn without a step
 
 at_quiet : (world : World) (q p : ℕ) (past : List Line) (port : PortView) (done : List (List ℕ)) (at : Place) → is_open at ≡ false → At world q p past port done at
-at_quiet world q p past port done place.Closed shut = tt
-at_quiet world q p past port done place.WritingLength shut = tt
-at_quiet world q p past port done (place.WritingWord k more) shut = tt
-at_quiet world q p past port done place.WritingSequence shut = tt
-at_quiet world q p past port done (place.AtSequence from) shut = tt
 at_quiet world q p past port done (place.AtLength from sequence) shut = absurd cc
 at_quiet world q p past port done (place.AtWord from sequence bytes k more) shut = absurd cc
 at_quiet world q p past port done (place.AtSecond from sequence) shut = absurd cc
+at_quiet world q p past port done _ shut = tt
 
 opened_quiet : (world : World) (q : ℕ) (past : List Line) (port : PortView) (at : Place) → is_open at ≡ false → Opened world q past port at
-opened_quiet world q past port place.Closed shut = tt
-opened_quiet world q past port place.WritingLength shut = tt
 opened_quiet world q past port (place.WritingWord k more) shut = absurd cc
 opened_quiet world q past port place.WritingSequence shut = absurd cc
-opened_quiet world q past port (place.AtSequence from) shut = tt
-opened_quiet world q past port (place.AtLength from sequence) shut = tt
-opened_quiet world q past port (place.AtWord from sequence bytes k more) shut = tt
-opened_quiet world q past port (place.AtSecond from sequence) shut = tt
+opened_quiet world q past port _ shut = tt
 
 hand_quiet : (port : PortView) (at : Place) → is_open at ≡ false → hand_at port at ≡ []
-hand_quiet port place.Closed shut = refl
 hand_quiet port place.WritingLength shut = absurd cc
 hand_quiet port (place.WritingWord k more) shut = absurd cc
 hand_quiet port place.WritingSequence shut = absurd cc
-hand_quiet port (place.AtSequence from) shut = refl
-hand_quiet port (place.AtLength from sequence) shut = refl
-hand_quiet port (place.AtWord from sequence bytes k more) shut = refl
-hand_quiet port (place.AtSecond from sequence) shut = refl
+hand_quiet port _ shut = refl
 
 not_idle : (p me : ℕ) → p ≢ me → is_of p (Idle me) ≡ 0
 not_idle p me other = let e : (me == p) ≡ false = ne_eqb me p (λ s. other (sym s)) in rw e refl

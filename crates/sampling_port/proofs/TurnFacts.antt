@@ -87,14 +87,10 @@ Beside q (place.AtSecond from sequence) = from ≢ q
 Beside q _ = Unit {0}
 
 at_beside : (world : World) (q p : ℕ) (past : List Line) (port : PortView) (done : List (List ℕ)) (at : Place) → Beside q at → At world q p past port done at
-at_beside world q p past port done place.Closed beside = tt
-at_beside world q p past port done place.WritingLength beside = tt
-at_beside world q p past port done (place.WritingWord k more) beside = tt
-at_beside world q p past port done place.WritingSequence beside = tt
-at_beside world q p past port done (place.AtSequence from) beside = tt
 at_beside world q p past port done (place.AtLength from sequence) beside = λ e. absurd (beside e)
 at_beside world q p past port done (place.AtWord from sequence bytes k more) beside = λ e. absurd (beside e)
 at_beside world q p past port done (place.AtSecond from sequence) beside = λ e. absurd (beside e)
+at_beside world q p past port done _ beside = tt
 
 facts_beside : (world : World) (q p from word value : ℕ) (messages : List (List ℕ)) (hand : List ℕ) (n : Option PortNote) (past : List Line) → from ≢ q → word ≢ head_of world q → Facts world q messages None past →
     Facts world q messages None (mark_lines p (marked from hand n) ++ Read p word value ∷ past)
@@ -315,14 +311,11 @@ reading_after world q past port (place.AtSecond from sequence) value word reads 
     by false = record { published = refl; writing = tt; none = refl }
 
 no_hand : (port : PortView) (p : Place) (word : ℕ) → ReadsFrom port p word → hand_at port p ≡ []
-no_hand port place.Closed word reads = absurd reads
-no_hand port place.WritingLength word reads = absurd reads
-no_hand port (place.WritingWord k more) word reads = absurd reads
-no_hand port place.WritingSequence word reads = absurd reads
 no_hand port (place.AtSequence from) word reads = refl
 no_hand port (place.AtLength from sequence) word reads = refl
 no_hand port (place.AtWord from sequence bytes k more) word reads = refl
 no_hand port (place.AtSecond from sequence) word reads = refl
+no_hand port _ word reads = absurd reads
 
 pub sample_stepped : (world : World) (q me : ℕ) (messages : List (List ℕ)) (past : List Line) (port : PortView) (done : List (List ℕ)) (p : Place) (word value : ℕ) → IsWorld world → q < world.geometry.peers → Before world q messages past done →
     Stands world q me port past done → port.place ≡ p → IsPlace port p → ReadsFrom port p word → value ≡ last_write past word →

@@ -1,30 +1,26 @@
 -- The turn of an honest end of the link.
 use Rattle.std.proofs.Common.{◌≡◌, ℕ, zero, suc, ◌+◌, ◌*◌, ◌<◌, ◌≤◌, Bool, true, false, List, [], ◌∷◌, ◌++◌, length, take, get_or, refl, sym, ◌∙◌, ap, subst, arith, inl, inr}
-use Rattle.std.specs.Prelude.{Option, Some, None, ◌&&◌, reverse, map, drop}
+use Rattle.std.specs.Prelude.{Option, Some, None, ◌&&◌, reverse, map}
 use Rattle.std.proofs.Math.Nat.{mul-le-mul_right}
 use Rattle.std.proofs.lemmas.List.{reverse-append, take_more, map-append}
 use Rattle.split_ring.specs.declared.steps.Access.{Access}
 use Rattle.split_ring.specs.declared.steps.Access.TheVariants as access
 use Rattle.split_ring.specs.declared.steps.Note.{Note}
-use Rattle.scenario_text.specs.Scenario.{World, IsWorld}
-use Rattle.call_grammar.specs.Steps.{Mark, Saw, Reclaim, Full, Accept, Look, Deliver, Return, Done, Down, Refuse, Over, Step, value_given, step_of}
+use Rattle.scenario_text.specs.Scenario.{World}
+use Rattle.call_grammar.specs.Steps.{Mark, Accept, Deliver, Step, value_given, step_of}
 use Rattle.call_grammar.specs.Trees.{CallTree, Ended}
-use Rattle.call_grammar.specs.Ends.{End, end_after}
 use Rattle.call_grammar.specs.Calls.{EndConfig}
 use Rattle.call_grammar.specs.Calls as calls
-use Rattle.call_grammar.specs.Places as places
-use Rattle.call_grammar.specs.Places.{Place, Closed, remaining, access_at, marks_at, next_place, step_at, is_open, PlacesFollowTrees}
+use Rattle.call_grammar.specs.Places.{Place, remaining, access_at, marks_at, next_place, step_at, is_open, PlacesFollowTrees}
 use Rattle.call_grammar.specs.Permitted.{IsPermittedAccess}
-use Rattle.link_endpoint.specs.declared.place.Place as ends
-use Rattle.link_endpoint.specs.declared.place.Place.TheVariants as peer_states
-use Rattle.link_endpoint.specs.Engine.{Engine, is_open_at, is_busy, offered, delivered}
-use Rattle.link_endpoint.specs.Refinement.{RefinesAt, IsAt, goes_on, Takes, mark_between, marks_between}
+use Rattle.link_endpoint.specs.Engine.{Engine, is_busy, offered, delivered}
+use Rattle.link_endpoint.specs.Refinement.{Takes, mark_between, marks_between}
 use Rattle.link_endpoint.specs.Plan.{Plan}
 use Rattle.lawful_history.specs.declared.line.Line.{Line}
 use Rattle.lawful_history.specs.declared.line.Line.TheVariants as line
 use Rattle.lawful_history.specs.Sides.{config_of}
 use Rattle.lawful_history.specs.EventRecords.{mark_line, turn_lines}
-use Rattle.lawful_history.specs.Peers.{Auto, Driver, Waits, Chooses, Storms, Peer, with_call_by, with_call, counted, counted_all, driver_after, stepped, chosen, opened_by, opened}
+use Rattle.lawful_history.specs.Peers.{Auto, Driver, Waits, Chooses, Storms, Peer, with_call_by, with_call, counted_all, driver_after, stepped, chosen, opened_by, opened}
 use Rattle.lawful_history.specs.Device.{step_interrupts}
 use Rattle.lawful_history.specs.History.{driven_step, driven, step_by, moved_by, moved, turn_step, turned}
 use Rattle.lawful_history.specs.Frames.{has_frame, HaveFrames}
@@ -47,17 +43,9 @@ use Rattle.simulator.proofs.Openings.{shut_left}
 
 -- A mark changes no word and is no event of the devices.
 pub mark_remark : (me : ℕ) (mark : Mark) → has_frame (mark_line me mark) ≡ true → IsMark (mark_line me mark)
-mark_remark me (Saw value) has = record { touch = refl; recorded = refl; lost = λ p. refl; frame = refl }
-mark_remark me (Reclaim count) has = record { touch = refl; recorded = refl; lost = λ p. refl; frame = refl }
-mark_remark me Full has = record { touch = refl; recorded = refl; lost = λ p. refl; frame = refl }
 mark_remark me (Accept frame) has = record { touch = refl; recorded = refl; lost = λ p. refl; frame = has }
-mark_remark me (Look count) has = record { touch = refl; recorded = refl; lost = λ p. refl; frame = refl }
 mark_remark me (Deliver frame) has = record { touch = refl; recorded = refl; lost = λ p. refl; frame = has }
-mark_remark me Return has = record { touch = refl; recorded = refl; lost = λ p. refl; frame = refl }
-mark_remark me Done has = record { touch = refl; recorded = refl; lost = λ p. refl; frame = refl }
-mark_remark me Down has = record { touch = refl; recorded = refl; lost = λ p. refl; frame = refl }
-mark_remark me (Refuse refused) has = record { touch = refl; recorded = refl; lost = λ p. refl; frame = refl }
-mark_remark me Over has = record { touch = refl; recorded = refl; lost = λ p. refl; frame = refl }
+mark_remark me _ has = record { touch = refl; recorded = refl; lost = λ p. refl; frame = refl }
 
 both : (a b : Bool) → (a && b) ≡ true → (a ≡ true) × (b ≡ true)
 both true true is = (refl, refl)

@@ -42,20 +42,25 @@ one_arrived past losses ds i d inside is =
 pub known_at : (words : List ℕ) (value : ℕ) (past : List Line) (word : ℕ) → WordsAre words past → slice_get words word ≡ Some value → value ≡ last_write past word
 known_at words value past word holds at = grind (arith, common_steps, gets, holds word)
 
+-- A line that is no event of the devices and loses no interrupt, with the words after it.
+pub plain_after : (world : World) (output : Output) (past : List Line) (losses : ℕ → ℕ) (s s' : WorldState) (line : Line) → WorldStateAfter world output past losses s → has_frame line ≡ true → device_event_of line ≡ None →
+    ((p : ℕ) → lost_by line p ≡ 0) → WordsAre s'.region.words (line ∷ past) → s'.region.shape ≡ s.region.shape → s'.device ≡ s.device → s'.unspent ≡ s.unspent → Records line s.log s'.log → WorldStateAfter world output (line ∷ past) losses s'
+plain_after world output past losses s s' line after frame recorded lost words shape device unspent log_step = record {
+  is_world = after.is_world;
+  shape = shape ∙ after.shape;
+  log = log_step world output past frame after.log;
+  words = words;
+  devices = rw (device, recorded) after.devices;
+  unspent = λ p. let u = after.unspent p in let none = lost p in rw unspent (omega arith);
+  peer_states = rw unspent after.peer_states;
+}
+
 pub read_after : (world : World) (output : Output) (past : List Line) (losses : ℕ → ℕ) (s s' : WorldState) (me word value : ℕ) → WorldStateAfter world output past losses s → slice_get s.region.words word ≡ Some value →
     s'.region ≡ s.region → s'.device ≡ s.device → s'.unspent ≡ s.unspent → Records (line.Read me word value) s.log s'.log →
     (value ≡ last_write past word) × WorldStateAfter world output (line.Read me word value ∷ past) losses s'
 read_after world output past losses s s' me word value after at region device unspent log_step = (
   known_at s.region.words value past word after.words at,
-  record {
-    is_world = after.is_world;
-    shape = ap (λ r. r.shape) region ∙ after.shape;
-    log = log_step world output past refl after.log;
-    words = rw region after.words;
-    devices = rw device after.devices;
-    unspent = λ p. let u = after.unspent p in rw unspent (omega arith);
-    peer_states = rw unspent after.peer_states;
-  },
+  plain_after world output past losses s s' (line.Read me word value) after refl refl (λ p. refl) (rw region after.words) (ap (λ r. r.shape) region) device unspent log_step,
 )
 
 -- An interrupt that is delivered, or lost.
@@ -81,15 +86,7 @@ pub comes : (world : World) (output : Output) (past : List Line) (losses : ℕ �
     s'.unspent ≡ s.unspent → Records (line.Interrupt d.peer d.vector) s.log s'.log → WorldStateAfter world output (delivery_line past losses d ∷ past) losses s'
 comes world output past losses s s' d after none region device unspent log_step =
     let is : delivery_line past losses d ≡ line.Interrupt d.peer d.vector = came _ d.peer d.vector (loses_no_more (lost_count past d.peer) (losses d.peer) (slice_index_or s.unspent d.peer 0) (after.unspent d.peer) none) in
-    rw is (record {
-      is_world = after.is_world;
-      shape = ap (λ r. r.shape) region ∙ after.shape;
-      log = log_step world output past refl after.log;
-      words = rw region after.words;
-      devices = rw device after.devices;
-      unspent = λ p. let u = after.unspent p in rw unspent (omega arith);
-      peer_states = rw unspent after.peer_states;
-    })
+    rw is (plain_after world output past losses s s' (line.Interrupt d.peer d.vector) after refl refl (λ p. refl) (rw region after.words) (ap (λ r. r.shape) region) device unspent log_step)
 
 pub is_lost : (world : World) (output : Output) (past : List Line) (losses : ℕ → ℕ) (s s' : WorldState) (d : Delivery) → WorldStateAfter world output past losses s → d.peer < 8 → 0 < slice_index_or s.unspent d.peer 0 → s'.region ≡ s.region →
     s'.device ≡ s.device → s'.unspent ≡ slice_set s.unspent d.peer (slice_index_or s.unspent d.peer 0 - 1) → Records (line.Lost d.peer d.vector) s.log s'.log →
@@ -143,12 +140,6 @@ come_after P world past losses line (Some event) deliveries brings holds =
 -- A line that changes nothing, after the others.
 pub remarked : (world : World) (output : Output) (past : List Line) (losses : ℕ → ℕ) (s s' : WorldState) (line : Line) → WorldStateAfter world output past losses s → IsMark line →
     s'.region ≡ s.region → s'.device ≡ s.device → s'.unspent ≡ s.unspent → Records line s.log s'.log → WorldStateAfter world output (line ∷ past) losses s'
-remarked world output past losses s s' line after record_mark region device unspent log_step = record {
-  is_world = after.is_world;
-  shape = ap (λ r. r.shape) region ∙ after.shape;
-  log = log_step world output past record_mark.frame after.log;
-  words = rw region (λ word inside. after.words word inside ∙ ap (λ t. value_after t word (last_write past word)) (sym record_mark.touch));
-  devices = rw (device, record_mark.recorded) after.devices;
-  unspent = λ p. let u = after.unspent p in let none = record_mark.lost p in rw unspent (omega arith);
-  peer_states = rw unspent after.peer_states;
-}
+remarked world output past losses s s' line after record_mark region device unspent log_step =
+    plain_after world output past losses s s' line after record_mark.frame record_mark.recorded record_mark.lost
+    (rw region (λ word inside. after.words word inside ∙ ap (λ t. value_after t word (last_write past word)) (sym record_mark.touch))) (ap (λ r. r.shape) region) device unspent log_step

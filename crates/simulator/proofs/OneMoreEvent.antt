@@ -17,7 +17,7 @@ use Rattle.section_map.specs.MayWrite.{may_write}
 use Rattle.call_grammar.specs.Steps.{Step, step_of}
 use Rattle.scenario_text.specs.declared.acts.Act.TheVariants as act
 use Rattle.call_grammar.specs.Trees.{Ended}
-use Rattle.lawful_history.specs.Schedule.{Event, CallQueued, AutoStarted, StormStarted, TurnTaken, RegionAccessed, DeviceReset, DeviceAccessed, InterruptDropped, InterruptRepeated, WritesRegister, event_peer, register_event, events_of, schedule}
+use Rattle.lawful_history.specs.Schedule.{Event, TurnTaken, RegionAccessed, DeviceAccessed, InterruptDropped, WritesRegister, event_peer, register_event, events_of, schedule}
 use Rattle.lawful_history.specs.Permitted.{IsPermittedEvent}
 use Rattle.lawful_history.specs.Sides.{config_of}
 use Rattle.lawful_history.specs.EventRecords.{region_access_lines, lines_by}
@@ -345,14 +345,7 @@ played_turns (Err e) a peer steps old new is turns = tt
 -- The number of losses that an act adds.
 abbrev loses_by : Event → ℕ → ℕ
 loses_by (InterruptDropped p) q = if p == q then 1 else 0
-loses_by (CallQueued p call) q = 0
-loses_by (AutoStarted p expected) q = 0
-loses_by (StormStarted p seed) q = 0
-loses_by (TurnTaken p) q = 0
-loses_by (RegionAccessed p a) q = 0
-loses_by (DeviceReset p) q = 0
-loses_by (DeviceAccessed p a) q = 0
-loses_by (InterruptRepeated p vector) q = 0
+loses_by _ q = 0
 
 abbrev loses_in : List Event → ℕ → ℕ
 loses_in [] q = 0
@@ -364,14 +357,7 @@ one_loss p q n false = omega arith
 
 losses_by : (event : Event) (losses : ℕ → ℕ) (q : ℕ) → losses_with event losses q ≡ losses q + loses_by event q
 losses_by (InterruptDropped p) losses q = one_loss p q (losses q) (p == q)
-losses_by (CallQueued p call) losses q = omega arith
-losses_by (AutoStarted p expected) losses q = omega arith
-losses_by (StormStarted p seed) losses q = omega arith
-losses_by (TurnTaken p) losses q = omega arith
-losses_by (RegionAccessed p a) losses q = omega arith
-losses_by (DeviceReset p) losses q = omega arith
-losses_by (DeviceAccessed p a) losses q = omega arith
-losses_by (InterruptRepeated p vector) losses q = omega arith
+losses_by _ losses q = omega arith
 
 losses_run : (world : World) (events : List Event) (so_far : HistoryState) (q : ℕ) → (run world events so_far).losses q ≡ so_far.losses q + loses_in events q
 losses_run world [] so_far q = omega arith
@@ -397,26 +383,10 @@ register_loses p offset value q false true is is' = rw (is, is') (omega arith)
 register_loses p offset value q false false is is' = rw (is, is') (omega arith)
 
 act_loses : (act : Act) (q : ℕ) → loses_in (events_of act) q ≤ 1
-act_loses (act.Tick p) q = omega arith
-act_loses (act.Offer p frame) q = omega arith
-act_loses (act.Poll p) q = omega arith
-act_loses (act.Stop p) q = omega arith
-act_loses (act.Auto p expected) q = omega arith
-act_loses (act.Storm p seed) q = omega arith
 act_loses (act.Turn p steps) q = let none = turns_lose steps p q in omega arith
-act_loses (act.Reset p) q = omega arith
-act_loses (act.Poke p word value) q = omega arith
-act_loses (act.Peek p word) q = omega arith
-act_loses (act.Set p value) q = omega arith
-act_loses (act.Ring p target vector) q = omega arith
-act_loses (act.CfgRead p offset width) q = omega arith
-act_loses (act.CfgWrite p offset width value) q = omega arith
-act_loses (act.MmioRead p offset) q = omega arith
 act_loses (act.MmioWrite p offset value) q = register_loses p offset value q _ _ refl refl
-act_loses (act.MsixRead p offset) q = omega arith
-act_loses (act.MsixWrite p offset value) q = omega arith
 act_loses (act.Lose p) q = at_most_one (p == q)
-act_loses (act.Again p vector) q = omega arith
+act_loses _ q = omega arith
 
 acts_lose : (acts : List Act) (q : ℕ) → loses_in (schedule acts) q ≤ length acts
 acts_lose [] q = omega arith

@@ -15,7 +15,8 @@ use Rattle.simulator.specs.declared.link.Waiting.{Waiting}
 use Rattle.simulator.specs.declared.link.Waiting.TheVariants.{Tick, Poll, Stop, Offer}
 use Rattle.simulator.specs.declared.link.Link.{Link}
 use Rattle.simulator.specs.PeerStates.{call_of, DriverIs, LinkRefines, IsOffered, MayWait, PlanFits, LinkFits}
-use Rattle.simulator.proofs.PlacesOfCalls.{open_by, shut_place}
+use Rattle.call_grammar.proofs.ReplaysAreCalls.{shut_place}
+use Rattle.simulator.proofs.PlacesOfCalls.{open_by}
 
 -- An open call isn't replaced.
 pub stays_open : (config : EndConfig) (peer : Peer) (link : Link) → (refines : LinkRefines config peer link) → is_open refines.place ≡ true → LinkRefines config (opened config peer) link

@@ -1,5 +1,5 @@
 -- A poke: the write is made if the peer may write the word, and denied otherwise.
-use Rattle.std.proofs.Common.{◌≡◌, ℕ, Bool, true, false, List, [], ◌∷◌, ◌++◌, refl, sym, ap, ◌∙◌, arith}
+use Rattle.std.proofs.Common.{◌≡◌, ℕ, Bool, true, false, List, [], ◌∷◌, ◌++◌, refl, sym, ap, ◌∙◌}
 use Rattle.std.specs.Prelude.{reverse, slice_set, if◌then◌else◌}
 use Rattle.section_map.specs.MayWrite.{MayWrite, may_write}
 use Rattle.split_ring.specs.declared.steps.Access.TheVariants as access
@@ -12,7 +12,7 @@ use Rattle.section_map.proofs.TestDecidesWrites.{may_test, may_fails}
 use Rattle.simulator.specs.Log.{Output, Records}
 use Rattle.simulator.specs.WorldState.{WorldStateAfter}
 use Rattle.simulator.specs.declared.world_state.WorldState.{WorldState}
-use Rattle.simulator.proofs.InterruptLines.{written}
+use Rattle.simulator.proofs.InterruptLines.{plain_after, written}
 
 -- The lines of a poke.
 poked_lines : (world : World) (past : List Line) (p word value : ℕ) (b : Bool) → may_write world.geometry p word ≡ b →
@@ -25,27 +25,13 @@ pub poke_writes : (world : World) (output : Output) (past : List Line) (losses :
     WorldStateAfter world output (reverse (region_access_lines me (access.Write word value) (acted_step world me (access.Write word value) past) []) ++ past) losses s'
 poke_writes world output past losses s s' me word value after may region device unspent log_step =
     let is : may_write world.geometry me word ≡ true = ap (λ g. may_write g me word) (sym after.shape) ∙ may_test s.region.shape me word may in
-    rw (poked_lines world past me word value true is) (record {
-      is_world = after.is_world;
-      shape = ap (λ r. r.shape) region ∙ after.shape;
-      log = log_step world output past refl after.log;
-      words = rw region (λ k inside. written s.region.words past word value k inside after.words);
-      devices = rw device after.devices;
-      unspent = λ p. let u = after.unspent p in rw unspent (omega arith);
-      peer_states = rw unspent after.peer_states;
-    })
+    rw (poked_lines world past me word value true is)
+    (plain_after world output past losses s s' (line.Write me word value) after refl refl (λ p. refl) (rw region (λ k inside. written s.region.words past word value k inside after.words)) (ap (λ r. r.shape) region) device unspent log_step)
 
 pub poke_denied : (world : World) (output : Output) (past : List Line) (losses : ℕ → ℕ) (s s' : WorldState) (me word value : ℕ) → WorldStateAfter world output past losses s → ¬ MayWrite s.region.shape me word → s'.region ≡ s.region →
     s'.device ≡ s.device → s'.unspent ≡ s.unspent → Records (line.Denied me word) s.log s'.log →
     WorldStateAfter world output (reverse (region_access_lines me (access.Write word value) (acted_step world me (access.Write word value) past) []) ++ past) losses s'
 poke_denied world output past losses s s' me word value after may_not region device unspent log_step =
     let is : may_write world.geometry me word ≡ false = ap (λ g. may_write g me word) (sym after.shape) ∙ may_fails s.region.shape me word may_not in
-    rw (poked_lines world past me word value false is) (record {
-      is_world = after.is_world;
-      shape = ap (λ r. r.shape) region ∙ after.shape;
-      log = log_step world output past refl after.log;
-      words = rw region after.words;
-      devices = rw device after.devices;
-      unspent = λ p. let u = after.unspent p in rw unspent (omega arith);
-      peer_states = rw unspent after.peer_states;
-    })
+    rw (poked_lines world past me word value false is)
+    (plain_after world output past losses s s' (line.Denied me word) after refl refl (λ p. refl) (rw region after.words) (ap (λ r. r.shape) region) device unspent log_step)

@@ -31,20 +31,14 @@ by_tree world p driver peer (Reads word marks rest) step new past goes known =
 -- The line of an access depends on the value of a read alone.
 same_lines : (me : ℕ) (a : Access) (value : ℕ) → access_lines me a (value_given a value) ≡ access_lines me a value
 same_lines me (access.Read word) value = refl
-same_lines me (access.Write word written) value = refl
-same_lines me (access.State state) value = refl
-same_lines me (access.Ring target vector) value = refl
-same_lines me access.Nothing value = refl
+same_lines me _ value = refl
 
 last_of : (past : List Line) (a b : Access) (value word : ℕ) → a ≡ b → GaveLast past a value → b ≡ access.Read word → value_given b value ≡ last_write past word
 last_of past (access.Read w) b value word is gave reads =
     let same : access.Read w ≡ access.Read word = is ∙ reads in
     let word_is : w ≡ word = cc in
     ap (λ x. value_given x value) reads ∙ gave ∙ ap (λ k. last_write past k) word_is
-last_of past (access.Write w x) b value word is gave reads = absurd (cc)
-last_of past (access.State x) b value word is gave reads = absurd (cc)
-last_of past (access.Ring t v) b value word is gave reads = absurd (cc)
-last_of past access.Nothing b value word is gave reads = absurd (cc)
+last_of past _ b value word is gave reads = absurd (cc)
 
 -- The line of the access, the interrupts that it causes and then the marks are the lines of the
 -- step.

@@ -1,5 +1,6 @@
 -- The state of a world: its region, its devices and its lines, after the lines so far.
-use Rattle.std.specs.Prelude.{ℕ, ◌≡◌, ◌+◌, ◌<◌, ◌^◌, true, Option, Some, None, List, [], ◌∷◌, ◌++◌, length, slice_index, slice_index_or, slice_set}
+use Rattle.std.specs.Prelude.{ℕ, ◌≡◌, ◌+◌, ◌<◌, ◌^◌, true, Option, Some, None, List, [], ◌∷◌, ◌++◌, length, slice_index, slice_index_or, slice_set, Result, OnOk}
+use Rattle.ivs_base.specs.declared.NoMemory.{NoMemory}
 use Rattle.section_map.specs.Geometry.{Words, word_count}
 use Rattle.section_map.specs.MayWrite.{MayWrite}
 use Rattle.split_ring.specs.declared.steps.Access.{Access}
@@ -11,8 +12,9 @@ use Rattle.doorbell_irq.specs.Refinement.{Refines, peer_count}
 use Rattle.scenario_text.specs.Scenario.{World, IsWorld}
 use Rattle.lawful_history.specs.declared.line.Line.{Line}
 use Rattle.lawful_history.specs.Memory.{Apart, memory_effect_of, last_write}
+use Rattle.lawful_history.specs.Schedule.{DeviceAccess}
 use Rattle.lawful_history.specs.EventRecords.{access_lines}
-use Rattle.lawful_history.specs.Device.{devices_of, device_event_of, device_events, lost_by, lost_count, interrupts_of_line, interrupts_of_access}
+use Rattle.lawful_history.specs.Device.{devices_of, device_event_of, device_events, lost_by, lost_count, device_access_line, interrupts_of_line, interrupts_of_access}
 use Rattle.lawful_history.specs.Frames.{has_frame}
 use Rattle.simulator.specs.Log.{Output, IsLogOf}
 use Rattle.simulator.specs.declared.world_state.WorldState.{WorldState}
@@ -38,6 +40,11 @@ pub record WorldStateAfter (world : World) (output : Output) (past : List Line) 
 abbrev pub InEachWorld : WorldState → (World → Output → List Line → (ℕ → ℕ) → Type 0) → Type 0
 InEachWorld world_state Holds = (world : World) (output : Output) (past : List Line) (losses : ℕ → ℕ) →
     WorldStateAfter world output past losses world_state → Holds world output past losses
+
+-- The line of the peer's access to its device is added.
+abbrev pub AddsAccess : {A : Type 0} → WorldState → WorldState → ℕ → DeviceAccess → Result A NoMemory → Type 0
+AddsAccess old new me by result =
+    InEachWorld old (λ world output past losses. OnOk result (WorldStateAfter world output (device_access_line world past me by ∷ past) losses new))
 
 -- The region and the devices have the peer.
 pub record HasPeer (world_state : WorldState) (me : ℕ) : Type 0 where

@@ -4,8 +4,8 @@ ghost use Rattle.std.specs.Prelude.{◌≡◌, ℕ, ◌<◌, ◌-◌, ◌^◌, L
 ghost use Rattle.pci_space.specs.Fields.{is_access};
 ghost use Rattle.lawful_history.specs.declared.line.Line.TheVariants.{Interrupt};
 ghost use Rattle.lawful_history.specs.Schedule.{InterruptDropped, ReadsConfig, WritesConfig, ReadsRegister, WritesRegister, ReadsMsix, WritesMsix};
-ghost use Rattle.lawful_history.specs.Device.{device_access_line, losses_with};
-ghost use Rattle.simulator.specs.WorldState.{InEachWorld, WorldStateAfter, HasPeer};
+ghost use Rattle.lawful_history.specs.Device.{losses_with};
+ghost use Rattle.simulator.specs.WorldState.{InEachWorld, WorldStateAfter, HasPeer, AddsAccess};
 
 use crate::world_state::WorldState;
 use ivs_base::NoMemory;
@@ -16,9 +16,7 @@ impl WorldState {
     pub fn read_config(&mut self, me: u32, offset: u16, width: u16) -> Result<(), NoMemory>
         requires seated { HasPeer self.old me }
         requires access { is_access 256 offset width ≡ true }
-        ensures after { InEachWorld self.old (λ world output past losses.
-            OnOk result (WorldStateAfter world output
-            (device_access_line world past me (ReadsConfig offset width) ∷ past) losses self.new)) }
+        ensures after { AddsAccess self.old self.new me (ReadsConfig offset width) result }
         ensures seated { (q : ℕ) → HasPeer self.old q → HasPeer self.new q }
     {
         match self.device.config_read(me, offset, width) {
@@ -44,9 +42,7 @@ impl WorldState {
     ) -> Result<(), NoMemory>
         requires seated { HasPeer self.old me }
         requires access { is_access 256 offset width ≡ true }
-        ensures after { InEachWorld self.old (λ world output past losses.
-            OnOk result (WorldStateAfter world output
-            (device_access_line world past me (WritesConfig offset width value) ∷ past) losses self.new)) }
+        ensures after { AddsAccess self.old self.new me (WritesConfig offset width value) result }
         ensures seated { (q : ℕ) → HasPeer self.old q → HasPeer self.new q }
     {
         match self.device.config_write(me, offset, width, value) {
@@ -65,9 +61,7 @@ impl WorldState {
     /// Reads a register of the peer.
     pub fn read_register(&mut self, me: u32, offset: u32) -> Result<(), NoMemory>
         requires { HasPeer self.old me }
-        ensures after { InEachWorld self.old (λ world output past losses.
-            OnOk result (WorldStateAfter world output
-            (device_access_line world past me (ReadsRegister offset) ∷ past) losses self.new)) }
+        ensures after { AddsAccess self.old self.new me (ReadsRegister offset) result }
         ensures seated { (q : ℕ) → HasPeer self.old q → HasPeer self.new q }
     {
         let value = self.device.register_read(me, offset);
@@ -82,9 +76,7 @@ impl WorldState {
     /// interrupted.
     pub fn write_register(&mut self, me: u32, offset: u32, value: u32) -> Result<(), NoMemory>
         requires { HasPeer self.old me }
-        ensures after { InEachWorld self.old (λ world output past losses.
-            OnOk result (WorldStateAfter world output
-            (device_access_line world past me (WritesRegister offset value) ∷ past) losses self.new)) }
+        ensures after { AddsAccess self.old self.new me (WritesRegister offset value) result }
         ensures seated { (q : ℕ) → HasPeer self.old q → HasPeer self.new q }
     {
         let _ = self.device.register_write(me, offset, value);
@@ -98,9 +90,7 @@ impl WorldState {
     /// Reads the peer's MSI-X region.
     pub fn read_msix(&mut self, me: u32, offset: u32) -> Result<(), NoMemory>
         requires { HasPeer self.old me }
-        ensures after { InEachWorld self.old (λ world output past losses.
-            OnOk result (WorldStateAfter world output
-            (device_access_line world past me (ReadsMsix offset) ∷ past) losses self.new)) }
+        ensures after { AddsAccess self.old self.new me (ReadsMsix offset) result }
         ensures seated { (q : ℕ) → HasPeer self.old q → HasPeer self.new q }
     {
         let value = self.device.msix_read(me, offset);
@@ -114,9 +104,7 @@ impl WorldState {
     /// Writes the peer's MSI-X region.
     pub fn write_msix(&mut self, me: u32, offset: u32, value: u32) -> Result<(), NoMemory>
         requires { HasPeer self.old me }
-        ensures after { InEachWorld self.old (λ world output past losses.
-            OnOk result (WorldStateAfter world output
-            (device_access_line world past me (WritesMsix offset value) ∷ past) losses self.new)) }
+        ensures after { AddsAccess self.old self.new me (WritesMsix offset value) result }
         ensures seated { (q : ℕ) → HasPeer self.old q → HasPeer self.new q }
     {
         self.device.msix_write(me, offset, value);

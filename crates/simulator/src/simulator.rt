@@ -5,7 +5,7 @@ ghost use Rattle.scenario_text.specs.Scenario.{World, is_link};
 ghost use Rattle.lawful_history.specs.declared.line.Line.{Line};
 ghost use Rattle.lawful_history.specs.Schedule.{Event, CallQueued, AutoStarted, StormStarted, TurnTaken, RegionAccessed, DeviceReset, DeviceAccessed, InterruptDropped, InterruptRepeated, DeviceAccess, register_event, events_of};
 ghost use Rattle.lawful_history.specs.Versions.{is_version};
-ghost use Rattle.lawful_history.specs.Sides.{world_of, config_of, traffic_vector};
+ghost use Rattle.lawful_history.specs.Sides.{world_of, config_of};
 ghost use Rattle.lawful_history.specs.Peers.{at_start};
 ghost use Rattle.lawful_history.specs.Permitted.{IsPermittedEvent};
 ghost use Rattle.simulator.specs.Log.{Output, no_output, given, IsLogOf};
@@ -21,7 +21,6 @@ use doorbell_irq::Device;
 use ivs_base::{Frame, NoMemory};
 use lawful_history::{Line, Lines};
 use link_endpoint::Endpoint;
-use pci_space::Wiring;
 use scenario_text::{Act, Scenario};
 use section_map::Region;
 use std::alloc::Global;
@@ -39,25 +38,6 @@ pub struct Simulator {
     pub peer_states: Vec<PeerState>,
 }
 
-/// Returns the vector of the doorbells of offers and polls: 1 if MSI-X has two vectors or more,
-/// else 0 (profile).
-fn traffic_of(wiring: Wiring) -> u32
-    ensures { result ≡ traffic_vector wiring }
-{
-    match wiring {
-        Wiring::Msix(vectors) if vectors >= 2 => 1,
-        _ => 0,
-    }
-}
-
-/// Whether the peer is an honest end of the link.
-fn is_end(scenario: &Scenario, peer: u32) -> bool
-    requires { peer < scenario.now.geometry.peers }
-    ensures { result ≡ is_link (world_of scenario.now) peer }
-{
-    peer < 2 && scenario.honest.items()[peer as usize]
-}
-
 /// Returns the initial state of a peer.
 fn peer_state_of(alloc: Global, scenario: &Scenario, peer: u32) -> Result<PeerState, NoMemory>
     requires { peer < scenario.now.geometry.peers }
@@ -65,7 +45,7 @@ fn peer_state_of(alloc: Global, scenario: &Scenario, peer: u32) -> Result<PeerSt
         PeerStateRefines (config_of (world_of scenario.now) peer) at_start peer_state) }
     ensures linked { IfOk result (λ peer_state. is_honest peer_state ≡ is_link (world_of scenario.now) peer) }
 {
-    if !is_end(scenario, peer) {
+    if !scenario.is_link(peer) {
         return Ok(PeerState::Idle);
     }
     let end = Endpoint::new(
@@ -73,7 +53,7 @@ fn peer_state_of(alloc: Global, scenario: &Scenario, peer: u32) -> Result<PeerSt
         peer,
         &scenario.geometry,
         &scenario.queue,
-        traffic_of(scenario.wiring),
+        scenario.traffic_vector(),
     )?;
     Ok(PeerState::Honest(Link {
         end,
@@ -98,7 +78,7 @@ fn peer_states_of(alloc: Global, scenario: &Scenario) -> Result<Vec<PeerState>, 
 fn log_of(alloc: Global, scenario: &Scenario, version: u32) -> Log
     ensures { IsLogOf (world_of scenario.now) (no_output version) [] result }
 {
-    Log::new(alloc, version, [is_end(scenario, 0), is_end(scenario, 1)])
+    Log::new(alloc, version, [scenario.is_link(0), scenario.is_link(1)])
 }
 
 impl Simulator {

@@ -1,8 +1,7 @@
 -- The access of three draws.
-use Rattle.std.proofs.Common.{◌≡◌, ℕ, ◌/◌, refl, ap, ◌∙◌, arith}
+use Rattle.std.proofs.Common.{◌≡◌, ℕ, refl, ap, ◌∙◌, arith}
 use Rattle.split_ring.specs.declared.steps.Access.{Access}
 use Rattle.scenario_text.specs.Scenario.{World}
-use Rattle.call_grammar.specs.Steps.{step_of}
 use Rattle.lawful_history.specs.Storm.{next_number, draw, drawn_access, storm_step}
 use Rattle.lawful_history.proofs.Exists.{ring_words, storm_does}
 use Rattle.step_lines.specs.declared.storm.Storm.{Storm}

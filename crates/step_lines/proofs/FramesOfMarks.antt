@@ -20,7 +20,7 @@ use Rattle.call_grammar.specs.Calls.{EndConfig, Call, Tick, Stop, Offer, Poll, i
 use Rattle.call_grammar.specs.Ticks.{tick_marks}
 use Rattle.call_grammar.specs.Offers.{PendingOffer, returned_by, descriptor_of}
 use Rattle.call_grammar.specs.Polls.{is_last, published_by}
-use Rattle.call_grammar.specs.Places.{Place, Closed, ReadingOtherState, Clearing, WritingState, Refusing, NotInRun, ReadingUsedIndex, ReadingUsedId, WritingFrameWord, WritingDescAddressLow, WritingDescAddressHigh, WritingDescLength, WritingDescFlags, WritingAvailEntry, WritingAvailIndex, ReadingAvailEvent, RingingOffer, ReadingAvailIndex, WritingAvailEvent, ReadingAvailEntry, ReadingDescAddressLow, ReadingDescAddressHigh, ReadingDescLength, ReadingDescFlags, ReadingFrameWord, WritingUsedId, WritingUsedLength, WritingUsedIndex, RingingPoll, marks_at, next_place, first_place, fill_place, ids_place, items_place, none_place, words_place, tick_place, clear_place, is_open}
+use Rattle.call_grammar.specs.Places.{Place, Closed, ReadingOtherState, Clearing, WritingState, Refusing, NotInRun, ReadingUsedIndex, ReadingUsedId, WritingFrameWord, WritingDescAddressLow, WritingDescAddressHigh, WritingDescLength, WritingDescFlags, WritingAvailEntry, WritingAvailIndex, ReadingAvailEvent, RingingOffer, ReadingAvailIndex, WritingAvailEvent, ReadingAvailEntry, ReadingDescAddressLow, ReadingDescAddressHigh, ReadingDescLength, ReadingDescFlags, ReadingFrameWord, WritingUsedIndex, RingingPoll, marks_at, next_place, first_place, fill_place, ids_place, items_place, none_place, words_place, tick_place, clear_place, is_open}
 use Rattle.call_grammar.specs.Permitted.{IsPermittedCall}
 use Rattle.link_endpoint.specs.Refinement.{mark_between, marks_between}
 use Rattle.lawful_history.specs.EventRecords.{mark_line}
@@ -59,37 +59,26 @@ after_reclaim P f false = f.reclaim_full
 -- A property of marks with a frame is a property of all marks of a step.
 marks_hold : (P : List Mark → Type 0) → Frameless P → (config : EndConfig) (place : Place) (value : ℕ) → ((pending : PendingOffer) → place ≡ WritingAvailIndex pending → P (Accept pending.frame ∷ [])) →
     ((number more entry address bytes : ℕ) (read : List ℕ) (words : ℕ) → place ≡ ReadingFrameWord number more entry address bytes read words → P (Deliver (frame_in bytes (read ++ value ∷ [])) ∷ [])) → P (marks_at config place value)
-marks_hold P f config Closed value accepts delivers = f.none
 marks_hold P f config (ReadingOtherState handshake) value accepts delivers = ticks P f value (move_of handshake value)
-marks_hold P f config (Clearing at more state) value accepts delivers = f.none
 marks_hold P f config (WritingState state) value accepts delivers = f.over
 marks_hold P f config Refusing value accepts delivers = f.over
 marks_hold P f config NotInRun value accepts delivers = f.down
 marks_hold P f config (ReadingUsedIndex pending freed) value accepts delivers = either P (is_used_index (freed % 65536) (high_half value) _) _ _ (either P (returned_by freed value == 0) _ _ (after_reclaim P f _) (f.reclaim (returned_by freed value))) (f.refused _)
 marks_hold P f config (ReadingUsedId pending freed more) value accepts delivers = either P (is_used_id (descriptor_of config freed) value) _ _ (either P (more == 0) _ _ (either P _ _ _ f.none f.full) f.none) (f.refused _)
-marks_hold P f config (WritingFrameWord pending at more) value accepts delivers = f.none
-marks_hold P f config (WritingDescAddressLow pending) value accepts delivers = f.none
-marks_hold P f config (WritingDescAddressHigh pending) value accepts delivers = f.none
-marks_hold P f config (WritingDescLength pending) value accepts delivers = f.none
-marks_hold P f config (WritingDescFlags pending) value accepts delivers = f.none
-marks_hold P f config (WritingAvailEntry pending) value accepts delivers = f.none
 marks_hold P f config (WritingAvailIndex pending) value accepts delivers = accepts pending refl
 marks_hold P f config (ReadingAvailEvent number) value accepts delivers = either P _ _ _ f.none f.over
 marks_hold P f config RingingOffer value accepts delivers = f.over
 marks_hold P f config (ReadingAvailIndex taken last) value accepts delivers =
     let none = either P last _ _ f.look_done (f.look 0) in
     either P (is_avail_index config.sizes (taken % 65536) (high_half value)) _ _ (either P (published_by taken value == 0) _ _ none (f.look (published_by taken value))) (f.refused _)
-marks_hold P f config (WritingAvailEvent taken) value accepts delivers = f.none
 marks_hold P f config (ReadingAvailEntry number more) value accepts delivers = either P _ _ _ f.none (f.refused _)
-marks_hold P f config (ReadingDescAddressLow number more entry) value accepts delivers = f.none
 marks_hold P f config (ReadingDescAddressHigh number more entry low) value accepts delivers = either P _ _ _ f.none (f.refused _)
 marks_hold P f config (ReadingDescLength number more entry address) value accepts delivers = either P _ _ _ f.none (f.refused _)
 marks_hold P f config (ReadingDescFlags number more entry address bytes) value accepts delivers = either P _ _ _ f.none (f.refused _)
 marks_hold P f config (ReadingFrameWord number more entry address bytes read words) value accepts delivers = either P (words == 0) _ _ (delivers number more entry address bytes read words refl) f.none
-marks_hold P f config (WritingUsedId number more entry) value accepts delivers = f.none
-marks_hold P f config (WritingUsedLength number more) value accepts delivers = f.none
 marks_hold P f config (WritingUsedIndex number more) value accepts delivers = f.returns
 marks_hold P f config RingingPoll value accepts delivers = f.finished
+marks_hold P f config _ value accepts delivers = f.none
 
 -- No frame is accepted.
 abbrev NoAccept : List Mark → Type 0
@@ -193,12 +182,8 @@ at_length config number more entry address value true is = (length_of_test confi
 at_length config number more entry address value false is = tt
 
 pub next_frames : (config : EndConfig) (place : Place) (value : ℕ) → HasFrames place → HasFrames (next_place config place value)
-next_frames config Closed value has = tt
 next_frames config (ReadingOtherState handshake) value has = moves config (move_of handshake value)
 next_frames config (Clearing at more state) value has = clears (at + 1) more state
-next_frames config (WritingState state) value has = tt
-next_frames config Refusing value has = tt
-next_frames config NotInRun value has = tt
 next_frames config (ReadingUsedIndex pending freed) value has = on _ (ids_place config pending freed (returned_by freed value)) Refusing (ids config pending freed (returned_by freed value) has) tt
 next_frames config (ReadingUsedId pending freed more) value has = on _ (ids_place config pending (freed + 1) more) Refusing (ids config pending (freed + 1) more has) tt
 next_frames config (WritingFrameWord pending at more) value has = fills pending (at + 1) more has
@@ -209,22 +194,17 @@ next_frames config (WritingDescFlags pending) value has = has
 next_frames config (WritingAvailEntry pending) value has = has
 next_frames config (WritingAvailIndex pending) value has = on (has_events config.sizes) (ReadingAvailEvent pending.number) RingingOffer tt tt
 next_frames config (ReadingAvailEvent number) value has = on _ RingingOffer Closed tt tt
-next_frames config RingingOffer value has = tt
 next_frames config (ReadingAvailIndex taken last) value has =
     let found = published_by taken value in
     on _ (if found == 0 then none_place taken last else items_place taken found) Refusing
     (on _ (none_place taken last) (items_place taken found) (on last Closed (WritingAvailEvent taken) tt tt) (takes taken found)) tt
-next_frames config (WritingAvailEvent taken) value has = tt
 next_frames config (ReadingAvailEntry number more) value has = on _ (ReadingDescAddressLow number more _) Refusing tt tt
-next_frames config (ReadingDescAddressLow number more entry) value has = tt
 next_frames config (ReadingDescAddressHigh number more entry low) value has = on _ (ReadingDescLength number more entry _) Refusing tt tt
 next_frames config (ReadingDescLength number more entry address) value has = at_length config number more entry address value (is_desc_length config.sizes address value) refl
 next_frames config (ReadingDescFlags number more entry address bytes) value has = on _ (words_place number more entry address bytes [] (words_for bytes)) Refusing (reads number more entry address bytes [] (words_for bytes) has) tt
 next_frames config (ReadingFrameWord number more entry address bytes read words) value has = reads number more entry address bytes (read ++ value ∷ []) words has
-next_frames config (WritingUsedId number more entry) value has = tt
-next_frames config (WritingUsedLength number more) value has = tt
 next_frames config (WritingUsedIndex number more) value has = takes (number + 1) more
-next_frames config RingingPoll value has = tt
+next_frames config _ value has = tt
 
 -- A frame read from its words has a byte.
 some_bytes : (bytes : ℕ) (read : List ℕ) (value : ℕ) → SHORTEST_FRAME ≤ bytes → length (frame_in bytes (read ++ value ∷ [])) ≢ 0

@@ -3,7 +3,7 @@ use Rattle.std.proofs.Common.{◌≡◌, ℕ, ◌+◌, ◌<◌, true, List, [], 
 use Rattle.std.specs.Prelude.{map}
 use Rattle.std.proofs.lemmas.List.{take_more, map-append}
 use Rattle.split_ring.specs.declared.steps.Note.{Note}
-use Rattle.call_grammar.specs.Steps.{Mark, Saw, Reclaim, Full, Accept, Look, Deliver, Return, Done, Down, Refuse, Over}
+use Rattle.call_grammar.specs.Steps.{Mark, Accept, Deliver}
 use Rattle.call_grammar.specs.Ends.{End, end_after}
 use Rattle.call_grammar.specs.Calls.{EndConfig}
 use Rattle.call_grammar.specs.Places as places
@@ -26,15 +26,7 @@ marks_counted auto (Deliver frame ∷ marks) =
     marks_counted (counted auto (Deliver frame)) marks ∙
     ap (λ (n : ℕ). record auto { frames = left_after auto.frames marks; delivered = n }) (let one : ℕ = length (delivered_by marks) in omega arith)
 marks_counted auto (Accept frame ∷ marks) = marks_counted (counted auto (Accept frame)) marks
-marks_counted auto (Saw value ∷ marks) = marks_counted auto marks
-marks_counted auto (Reclaim count ∷ marks) = marks_counted auto marks
-marks_counted auto (Full ∷ marks) = marks_counted auto marks
-marks_counted auto (Look count ∷ marks) = marks_counted auto marks
-marks_counted auto (Return ∷ marks) = marks_counted auto marks
-marks_counted auto (Done ∷ marks) = marks_counted auto marks
-marks_counted auto (Down ∷ marks) = marks_counted auto marks
-marks_counted auto (Refuse refused ∷ marks) = marks_counted auto marks
-marks_counted auto (Over ∷ marks) = marks_counted auto marks
+marks_counted auto (_ ∷ marks) = marks_counted auto marks
 
 -- A plan that counted these marks is that of an automatic end that counted them.
 pub plan_counted : (plan new : Plan) (auto : Auto) (marks : List Mark) → Counts plan marks new → IsPlanOf plan auto → IsPlanOf new (counted_all auto marks)
@@ -59,14 +51,9 @@ goes_open places.Refusing is = absurd (cc)
 goes_open _ is = refl
 
 open_at : (at : ends.Place) (e : Engine) (config : EndConfig) (end : End) (place : Place) → IsAt at e config end place → is_open_at at ≡ is_open place
-open_at endpoint_places.Closed e config end place is = ap is_open (sym is.0)
-open_at endpoint_places.ReadingOtherState e config end place is = ap is_open (sym is.0)
-open_at (endpoint_places.Clearing at state) e config end place is = ap is_open (sym is.0)
-open_at (endpoint_places.WritingState state) e config end place is = ap is_open (sym is.0)
-open_at endpoint_places.Refusing e config end place is = ap is_open (sym is.0)
-open_at endpoint_places.NotInRun e config end place is = ap is_open (sym is.0)
 open_at endpoint_places.Offering e config end place is = goes_open place is.0
 open_at endpoint_places.Polling e config end place is = goes_open place is.0
+open_at _ e config end place is = ap is_open (sym is.0)
 
 -- An endpoint is busy if a call is open.
 pub busy_is : (e : Engine) (config : EndConfig) (end : End) (place : Place) → RefinesAt e config end place → is_busy e ≡ is_open place

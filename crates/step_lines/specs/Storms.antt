@@ -1,8 +1,8 @@
 -- A storm in a world.
 use Rattle.std.specs.Prelude.{◌≡◌, ℕ, ◌*◌, ◌<◌, []}
-use Rattle.section_map.specs.Geometry.{Shape, IsShape}
+use Rattle.section_map.specs.Geometry.{IsShape}
 use Rattle.section_map.specs.MayWrite.{InSection}
-use Rattle.split_ring.specs.Layout.{Sizes, IsQueue}
+use Rattle.split_ring.specs.Layout.{IsQueue}
 use Rattle.split_ring.specs.declared.steps.Access.{Access}
 use Rattle.split_ring.specs.declared.steps.Access.TheVariants as access
 use Rattle.scenario_text.specs.Scenario.{World}

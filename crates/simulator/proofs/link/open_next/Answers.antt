@@ -1,7 +1,7 @@
 use Rattle.std.proofs.Common.{refl, sym, ◌∙◌, rules}
 use Rattle.simulator.proofs.Openings.{stays_open}
 use Rattle.simulator.proofs.ChosenCallOpens.{waiting_begun}
-use Rattle.simulator.proofs.PlacesOfCalls.{shut_place}
+use Rattle.call_grammar.proofs.ReplaysAreCalls.{shut_place}
 use Rattle.simulator.proofs.link.open_next.Goals as goal
 
 pub returns-then-busy-clause-opened : goal.returns-then-busy-clause-opened

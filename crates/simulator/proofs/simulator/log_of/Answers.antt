@@ -12,4 +12,4 @@ two_flags flag a b first second (suc (suc p)) two = absurd (omega arith)
 pub returns : goal.returns
 returns c =
     let world = world_of c.args.scenario.now in
-    c.new.ensures world (two_flags (is_link world) c.is_end.result c.is_end-2.result c.is_end.ensures c.is_end-2.ensures)
+    c.new.ensures world (two_flags (is_link world) c.is_link.result c.is_link-2.result c.is_link.ensures c.is_link-2.ensures)

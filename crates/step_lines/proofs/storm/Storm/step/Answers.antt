@@ -1,4 +1,3 @@
-use Rattle.std.proofs.Common.{refl}
 use Rattle.step_lines.proofs.DrawnAccess.{draws}
 use Rattle.step_lines.proofs.storm.Storm.step.Goals as goal
 

@@ -138,8 +138,8 @@ static int check_handles(void) {
     WANT(ivshm_end_next(&none, &access) == IVSHM_NO_END && ivshm_end_took(&none, 0, &notes) == IVSHM_NO_END);
     WANT(ivshm_end_took_reads(&none, frame, 4, &notes) == IVSHM_NO_END && ivshm_end_words(&none, frame, 4) == IVSHM_NO_END);
     WANT(ivshm_end_took_writes(&none, 1) == IVSHM_NO_END && ivshm_end_took_bursts(&none) == IVSHM_NO_END);
-    WANT(ivshm_end_took_field(&none, 0, bursts) == IVSHM_NO_END && ivshm_end_took_frame(&none, frame, 12, &made) == IVSHM_NO_END);
-    WANT(ivshm_end_publish(&none, &published, frame, 14) == IVSHM_NO_END);
+    WANT(ivshm_end_took_field(&none, 0, bursts) == IVSHM_NO_END && ivshm_end_took_frame(&none, frame, 12, &made, &access) == IVSHM_NO_END);
+    WANT(ivshm_end_publish(&none, &published, frame, 14, &access) == IVSHM_NO_END && ivshm_end_step(&none, 0, &notes, &access) == IVSHM_NO_END);
     WANT(ivshm_end_bursts(&none, bursts, frame, 14) == IVSHM_NO_END && bursts[0].word == 7);
     WANT(ivshm_end_tail(&none, bursts, frame, 14) == IVSHM_NO_END && bursts[0].word == 7);
     WANT(ivshm_end_view(&none, &view) == IVSHM_NO_END && ivshm_end_frame(&none, frame, 14, &length) == IVSHM_NO_END);
@@ -202,8 +202,8 @@ static int check_tail(ivshm_end *a, ivshm_end *b, const uint8_t *frame) {
     return 0;
 }
 
-/* And once more: the frame is published at once. The other takes the item by its fields and its
- * words, and returns it. */
+/* And once more: the frame is published at once, with the doorbell. The other takes the item by its
+ * fields and its words, returns it and rings. */
 static int check_item(ivshm_end *a, ivshm_end *b, const uint8_t *frame) {
     static uint8_t room[20];
     ivshm_publication published;
@@ -211,30 +211,32 @@ static int check_item(ivshm_end *a, ivshm_end *b, const uint8_t *frame) {
     ivshm_notes notes;
     ivshm_burst next;
     ivshm_frame_return made;
-    WANT(ivshm_end_publish(a, &published, room, 20) == IVSHM_NO_CALL && ivshm_end_offer_again(a) == IVSHM_DONE);
-    while (ivshm_end_publish(a, &published, room, 19) == IVSHM_OTHER_ACCESS)
-        WANT(ivshm_end_next(a, &access) == IVSHM_DONE && ivshm_end_took(a, words[access.word], &notes) == IVSHM_DONE);
-    WANT(ivshm_end_publish(a, &published, room, 19) == IVSHM_SHORT_ROOM && ivshm_end_publish(a, &published, room, 20) == IVSHM_DONE);
-    WANT(published.bursts[0].count == 10 && ivshm_end_publish(a, &published, room, 20) == IVSHM_OTHER_ACCESS);
+    WANT(ivshm_end_publish(a, &published, room, 20, &access) == IVSHM_NO_CALL && ivshm_end_offer_again(a) == IVSHM_DONE);
+    WANT(ivshm_end_next(a, &access) == IVSHM_DONE && access.kind == IVSHM_READ);
+    while (ivshm_end_publish(a, &published, room, 19, &access) == IVSHM_OTHER_ACCESS)
+        WANT(ivshm_end_step(a, words[access.word], &notes, &access) == IVSHM_DONE);
+    WANT(access.kind == IVSHM_WRITE && access.count == 10 && ivshm_end_publish(a, &published, room, 19, &access) == IVSHM_SHORT_ROOM);
+    WANT(ivshm_end_publish(a, &published, room, 20, &access) == IVSHM_DONE && access.kind == IVSHM_RING);
+    WANT(published.bursts[0].count == 10 && ivshm_end_publish(a, &published, room, 20, &access) == IVSHM_NO_CALL);
     words[published.bursts[0].word + 9] = 0;
     memcpy(words + published.bursts[0].word, frame, 38);
     memcpy(words + published.bursts[1].word, room, 16);
     memcpy(words + published.bursts[2].word, room + 16, 4);
     words[published.index] = published.accepted;
-    WANT(run(a, 0) == 0);
     WANT(ivshm_end_took_field(b, 0, &next) == IVSHM_NO_CALL && ivshm_end_begin(b, IVSHM_POLL) == IVSHM_DONE);
     WANT(ivshm_end_next(b, &access) == IVSHM_DONE && ivshm_end_took_field(b, words[access.word], &next) == IVSHM_OTHER_ACCESS);
     WANT(ivshm_end_took(b, words[access.word], &notes) == IVSHM_DONE && ivshm_end_next(b, &access) == IVSHM_DONE);
     next = (ivshm_burst){access.word, 0};
     for (int i = 0; i < 5; i++) WANT(next.count == 0 && ivshm_end_took_field(b, words[next.word], &next) == IVSHM_DONE);
     const uint8_t *read = (const uint8_t *)(words + next.word);
-    WANT(next.count == 10 && ivshm_end_took_frame(b, read, 36, &made) == IVSHM_OTHER_ACCESS);
-    WANT(ivshm_end_took_frame(b, read, 40, &made) == IVSHM_DONE && made.length == 38);
+    WANT(next.count == 10 && ivshm_end_took_frame(b, read, 36, &made, &access) == IVSHM_OTHER_ACCESS);
+    WANT(ivshm_end_took_frame(b, read, 40, &made, &access) == IVSHM_DONE && made.length == 38 && access.kind == IVSHM_RING);
     for (int i = 0; i < 38; i++) WANT(frame[i] == read[i]);
     words[made.element] = made.id;
     words[made.element + 1] = 1;
     words[made.index] = made.returned;
-    WANT(run(b, 1) == 0 && ivshm_end_took_field(b, 0, &next) == IVSHM_NO_CALL);
+    notes.count = 7;
+    WANT(ivshm_end_step(b, 0, &notes, &access) == IVSHM_NO_CALL && notes.count == 7 && ivshm_end_took_field(b, 0, &next) == IVSHM_NO_CALL);
     return 0;
 }
 

@@ -1,7 +1,7 @@
 /* In place of the library, for speed.c: an end that returns its accesses from a list and completes
  * each step, without state, checks and frames. The lists are those of a Tick, of an offer that
  * finds one frame returned, and of a poll of 8 frames. The program measures the interface itself,
- * two calls for each step, without the library's work in them: cc -O2 -o empty speed.c empty.c */
+ * one call for each step, without the library's work in it: cc -O2 -o empty speed.c empty.c */
 #include <stdlib.h>
 #include <string.h>
 
@@ -135,6 +135,12 @@ uint32_t ivshm_end_took(ivshm_end *end, uint32_t value, ivshm_notes *notes) {
     return go_on(end->at, 1, notes);
 }
 
+uint32_t ivshm_end_step(ivshm_end *end, uint32_t value, ivshm_notes *notes, ivshm_access *next) {
+    (void)value;
+    uint32_t answer = go_on(end->at, 1, notes);
+    return answer == IVSHM_DONE ? ivshm_end_next(end, next) : answer;
+}
+
 uint32_t ivshm_end_took_reads(ivshm_end *end, const uint8_t *words, size_t size, ivshm_notes *notes) {
     (void)words;
     return go_on(end->at, (uint32_t)(size / 4), notes);
@@ -161,12 +167,20 @@ uint32_t ivshm_end_took_field(ivshm_end *end, uint32_t value, ivshm_burst *next)
     return IVSHM_DONE;
 }
 
-uint32_t ivshm_end_took_frame(ivshm_end *end, const uint8_t *words, size_t size, ivshm_frame_return *made) {
+/* Returns the access after a frame. A doorbell is completed. */
+static ivshm_access after_frame(struct empty *e) {
+    ivshm_access next = e->now->access[e->at];
+    if (next.kind == IVSHM_RING) e->at++;
+    return next;
+}
+
+uint32_t ivshm_end_took_frame(ivshm_end *end, const uint8_t *words, size_t size, ivshm_frame_return *made, ivshm_access *next) {
     struct empty *e = end->at;
     (void)words;
     const ivshm_access *element = &e->now->access[e->at + size / 4];
     *made = (ivshm_frame_return){.length = (uint32_t)e->length, .element = element->word, .index = element[2].word};
     e->at += (uint32_t)(size / 4) + 3;
+    *next = after_frame(e);
     return IVSHM_DONE;
 }
 
@@ -185,13 +199,14 @@ uint32_t ivshm_end_bursts(ivshm_end *end, ivshm_burst bursts[3], uint8_t *room, 
 
 uint32_t ivshm_end_tail(ivshm_end *end, ivshm_burst bursts[3], uint8_t *room, size_t size) { return ivshm_end_bursts(end, bursts, room, size); }
 
-uint32_t ivshm_end_publish(ivshm_end *end, ivshm_publication *made, uint8_t *room, size_t size) {
+uint32_t ivshm_end_publish(ivshm_end *end, ivshm_publication *made, uint8_t *room, size_t size, ivshm_access *next) {
     struct empty *e = end->at;
     uint32_t answer = ivshm_end_tail(end, made->bursts, room, size);
     if (answer != IVSHM_DONE) return answer;
     e->at += made->bursts[0].count + 6;
     made->index = e->now->access[e->at - 1].word;
     made->accepted = 0;
+    *next = after_frame(e);
     return IVSHM_DONE;
 }
 

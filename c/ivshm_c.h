@@ -421,6 +421,12 @@ typedef struct ivshm_notes {
  * access it is 0, and ignored. Returns IVSHM_DONE, IVSHM_NO_END or IVSHM_NO_CALL. */
 uint32_t ivshm_end_took(ivshm_end *end, uint32_t value, ivshm_notes *notes);
 
+/* Completes the access and returns the one after it: the same as ivshm_end_took and then
+ * ivshm_end_next, by one call. Returns what ivshm_end_next returns then: IVSHM_DONE, or
+ * IVSHM_NO_CALL, and *next doesn't change, if the call is over. IVSHM_NO_END or IVSHM_NO_CALL, and
+ * *notes doesn't change either, if there was no access. */
+uint32_t ivshm_end_step(ivshm_end *end, uint32_t value, ivshm_notes *notes, ivshm_access *next);
+
 /* BURSTS. If the access has a count, the next accesses are reads, or writes, of `word` and the
  * words after it. All are relaxed, and none before the last has a note. They are the words of a
  * frame, of a descriptor, of a used element, or those that a Tick clears. Complete all of them
@@ -492,11 +498,13 @@ typedef struct ivshm_publication {
 
 /* Completes the writes of an offer before its index, and that of its index. `bursts` and `room` are
  * those of ivshm_end_tail. Make these writes now, the index last. The note, which isn't reported,
- * is IVSHM_ACCEPT.
+ * is IVSHM_ACCEPT. *next is the access after these writes. If it is IVSHM_RING it is completed too:
+ * ring now, and the call is over. Its note, which isn't reported, is IVSHM_OVER. Otherwise the call
+ * is open still, and *next is to be made and completed.
  *
- * Returns IVSHM_DONE. Otherwise the end, *made and the room don't change: IVSHM_NO_END,
+ * Returns IVSHM_DONE. Otherwise the end, *made, *next and the room don't change: IVSHM_NO_END,
  * IVSHM_NO_CALL, IVSHM_OTHER_ACCESS (no word of a frame is next), IVSHM_SHORT_ROOM (size < 20). */
-uint32_t ivshm_end_publish(ivshm_end *end, ivshm_publication *made, uint8_t *room, size_t size);
+uint32_t ivshm_end_publish(ivshm_end *end, ivshm_publication *made, uint8_t *room, size_t size, ivshm_access *next);
 
 /* AN ITEM OF A POLL. In a poll each frame is an item: the reads of its entry and of the four words
  * of its descriptor, each relaxed and by itself, then the words of the frame, and the writes that
@@ -525,11 +533,13 @@ typedef struct ivshm_frame_return {
 /* Completes the reads of all words of a frame, passed as to ivshm_end_took_reads, and the three
  * writes that return the frame. Make these writes now, in this order. The notes, which aren't
  * reported, are IVSHM_DELIVER after the reads and IVSHM_RETURN after the used index. The frame is
- * the first made->length bytes of `words`.
+ * the first made->length bytes of `words`. *next is the access after these writes. If it is
+ * IVSHM_RING it is completed too: ring now, and the call is over. Its note, which isn't reported,
+ * is IVSHM_FINISH. Otherwise the call is open still, and *next is to be made and completed.
  *
- * Returns IVSHM_DONE. Otherwise the end and *made don't change: IVSHM_NO_END, IVSHM_NO_CALL,
+ * Returns IVSHM_DONE. Otherwise the end, *made and *next don't change: IVSHM_NO_END, IVSHM_NO_CALL,
  * IVSHM_OTHER_ACCESS (the first word of a frame isn't next, or these aren't all its words). */
-uint32_t ivshm_end_took_frame(ivshm_end *end, const uint8_t *words, size_t size, ivshm_frame_return *made);
+uint32_t ivshm_end_took_frame(ivshm_end *end, const uint8_t *words, size_t size, ivshm_frame_return *made, ivshm_access *next);
 
 /* The states, as in the State Table. */
 enum {

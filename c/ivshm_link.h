@@ -80,7 +80,7 @@ typedef struct ivshm_link_setup {
  * and doorbells, and no refusals by field. */
 typedef struct ivshm_link_counts {
     uint64_t accesses;        /* words, States and doorbells */
-    uint64_t steps;           /* calls of ivshm_end_next */
+    uint64_t steps;           /* turns of the loop: an access, a burst, an item, or the reads and writes of an offer */
     uint64_t sessions;        /* times that the end came to RUN */
     uint64_t accepted;        /* frames that were published */
     uint64_t accepted_bytes;
@@ -117,33 +117,60 @@ typedef struct ivshm_link {
     uint32_t whole;           /* 1: the room has the whole frame that was read last */
     const uint8_t *frame;     /* the frame of the open offer */
     size_t length;
+    ivshm_access first;       /* the first access of each offer in RUN, once it is known */
 } ivshm_link;
 
 static inline void ivshm_link_fence(void) { __atomic_thread_fence(__ATOMIC_SEQ_CST); }
 
-static inline uint32_t ivshm_link_load(const uint32_t *word, const ivshm_access *access) {
+/* On x86 each load is an acquire and each store a release, so the order needs no test. */
+#if defined __x86_64__ || defined __i386__
+#define IVSHM_LINK_TSO 1
+#else
+#define IVSHM_LINK_TSO 0
+#endif
+
+/* A load and a store in this order. */
+static inline uint32_t ivshm_link_load_in(const uint32_t *word, uint32_t order) {
 #ifdef IVSHM_LINK_SEQ_CST
-    (void)access;
+    (void)order;
     return __atomic_load_n(word, __ATOMIC_SEQ_CST);
 #else
-    uint32_t value;
-    if (access->fence_before) ivshm_link_fence();
-    if (access->order == IVSHM_ACQUIRE) value = __atomic_load_n(word, __ATOMIC_ACQUIRE);
-    else value = __atomic_load_n(word, __ATOMIC_RELAXED);
-    if (access->fence_after) ivshm_link_fence();
-    return value;
+    return IVSHM_LINK_TSO || order == IVSHM_ACQUIRE ? __atomic_load_n(word, __ATOMIC_ACQUIRE) : __atomic_load_n(word, __ATOMIC_RELAXED);
 #endif
 }
 
-static inline void ivshm_link_store(uint32_t *word, const ivshm_access *access) {
+static inline void ivshm_link_store_in(uint32_t *word, uint32_t value, uint32_t order) {
 #ifdef IVSHM_LINK_SEQ_CST
-    __atomic_store_n(word, access->value, __ATOMIC_SEQ_CST);
+    (void)order;
+    __atomic_store_n(word, value, __ATOMIC_SEQ_CST);
 #else
-    if (access->fence_before) ivshm_link_fence();
-    if (access->order == IVSHM_RELEASE) __atomic_store_n(word, access->value, __ATOMIC_RELEASE);
-    else __atomic_store_n(word, access->value, __ATOMIC_RELAXED);
-    if (access->fence_after) ivshm_link_fence();
+    if (IVSHM_LINK_TSO || order == IVSHM_RELEASE) __atomic_store_n(word, value, __ATOMIC_RELEASE);
+    else __atomic_store_n(word, value, __ATOMIC_RELAXED);
 #endif
+}
+
+/* The same with the fences of the access, which sequentially consistent accesses don't need. */
+static inline void ivshm_link_fence_if(uint32_t wanted) {
+#ifdef IVSHM_LINK_SEQ_CST
+    (void)wanted;
+#else
+    if (wanted) ivshm_link_fence();
+#endif
+}
+
+static inline uint32_t ivshm_link_load(const uint32_t *word, const ivshm_access *access) {
+    uint32_t value;
+    if (!(access->fence_before | access->fence_after)) return ivshm_link_load_in(word, access->order);
+    ivshm_link_fence_if(access->fence_before);
+    value = ivshm_link_load_in(word, access->order);
+    ivshm_link_fence_if(access->fence_after);
+    return value;
+}
+
+static inline void ivshm_link_store(uint32_t *word, const ivshm_access *access) {
+    ivshm_link_fence_if(access->fence_before);
+    ivshm_link_store_in(word, access->value, access->order);
+    ivshm_link_fence_if(access->fence_after);
 }
 
 /* Two words in one access. It is aligned to 8 bytes, so neither word is torn. */
@@ -201,6 +228,9 @@ static inline int ivshm_link_has(const ivshm_link *link, uint32_t first, uint32_
     return at < link->layout.words && count <= link->layout.words - at;
 }
 
+/* Whether one word is. */
+static inline int ivshm_link_has_word(const ivshm_link *link, uint32_t first, uint32_t word) { return word - first < link->layout.words; }
+
 /* Reports the words of a burst, which were read into `values`, or written. */
 static inline void ivshm_link_report(ivshm_link *link, uint32_t kind, const ivshm_burst *burst, const uint32_t *values) {
     ivshm_access one;
@@ -213,35 +243,47 @@ static inline void ivshm_link_report(ivshm_link *link, uint32_t kind, const ivsh
     }
 }
 
+/* Writes the State register. It is no word of the region: fences order it with the words before
+ * and after. */
+static inline void ivshm_link_set_state(ivshm_link *link, uint32_t state) {
+    ivshm_link_fence();
+    link->setup.write_state(link->setup.context, state);
+    ivshm_link_fence();
+    link->counts.sessions += state == IVSHM_RUN;
+    link->state = state;
+}
+
+/* Rings, after all stores before. */
+static inline void ivshm_link_ring(ivshm_link *link, uint32_t peer, uint32_t vector) {
+    ivshm_link_fence();
+    link->counts.rings++;
+    if (link->setup.ring) link->setup.ring(link->setup.context, peer, vector);
+}
+
+/* Makes a read by itself, and returns the value. */
+static inline uint32_t ivshm_link_read(ivshm_link *link, const ivshm_access *access) {
+    const ivshm_link_setup *setup = &link->setup;
+    if (ivshm_link_has_word(link, link->other, access->word)) return ivshm_link_load(&setup->other_section[access->word - link->other], access);
+    if (access->word == 1 - setup->me) return ivshm_link_load(setup->other_state, access);
+    link->counts.stray++;
+    return 0;
+}
+
 /* Makes an access by itself, and returns the value read. */
 static inline uint32_t ivshm_link_single(ivshm_link *link, const ivshm_access *access) {
     const ivshm_link_setup *setup = &link->setup;
-    switch (access->kind) {
-    case IVSHM_NOTHING:
-        return 0;
-    case IVSHM_READ:
-        if (access->word == 1 - setup->me) return ivshm_link_load(setup->other_state, access);
-        if (!ivshm_link_has(link, link->other, access->word, 1)) break;
-        return ivshm_link_load(&setup->other_section[access->word - link->other], access);
-    case IVSHM_WRITE:
-        if (!ivshm_link_has(link, link->own, access->word, 1)) break;
-        ivshm_link_store(&setup->own_section[access->word - link->own], access);
-        return 0;
-    case IVSHM_STATE:
-        /* the register is no word of the region: fences order it with the words before and after */
-        ivshm_link_fence();
-        setup->write_state(setup->context, access->value);
-        ivshm_link_fence();
-        link->counts.sessions += access->value == IVSHM_RUN;
-        link->state = access->value;
-        return 0;
-    case IVSHM_RING:
-        ivshm_link_fence();
-        link->counts.rings++;
-        if (setup->ring) setup->ring(setup->context, access->word, access->value);
-        return 0;
+    if (access->kind == IVSHM_READ) {
+        return ivshm_link_read(link, access);
+    } else if (access->kind == IVSHM_RING) {
+        ivshm_link_ring(link, access->word, access->value);
+    } else if (access->kind == IVSHM_WRITE) {
+        if (ivshm_link_has_word(link, link->own, access->word)) ivshm_link_store(&setup->own_section[access->word - link->own], access);
+        else link->counts.stray++;
+    } else if (access->kind == IVSHM_STATE) {
+        ivshm_link_set_state(link, access->value);
+    } else if (access->kind != IVSHM_NOTHING) {
+        link->counts.stray++;
     }
-    link->counts.stray++;
     return 0;
 }
 
@@ -278,19 +320,19 @@ static inline uint32_t ivshm_link_read_burst(ivshm_link *link, const ivshm_burst
     return burst->count;
 }
 
-/* Makes a burst, if the access begins one, and returns the number of its words, or 0. */
+/* Makes the burst that the access begins, or a part of it, and returns the number of its words. 0:
+ * its first word is to be made by itself. */
 static inline uint32_t ivshm_link_burst(ivshm_link *link, const ivshm_access *access, ivshm_notes *notes) {
     ivshm_burst burst;
-    notes->count = 0;
-#ifdef IVSHM_LINK_SINGLE
     link->whole = 0;
+#ifdef IVSHM_LINK_SINGLE
+    (void)access, (void)notes;
     return 0;
 #endif
-    if (access->count > 0) link->whole = 0;
     burst.word = access->word;
     burst.count = access->count < link->burst ? access->count : link->burst;
     if (burst.count < 2) {
-        if (access->kind == IVSHM_READ && access->count > 0) link->left = access->count - 1;
+        if (access->kind == IVSHM_READ) link->left = access->count - 1;
         return 0;
     }
     if (access->kind == IVSHM_READ) return ivshm_link_read_burst(link, &burst, access->count, notes);
@@ -313,6 +355,13 @@ static inline void ivshm_link_delivered(ivshm_link *link, const ivshm_note *note
     if (setup->deliver) setup->deliver(setup->context, (const uint8_t *)setup->room, length);
 }
 
+/* Counts the frame that is offered as published. */
+static inline void ivshm_link_accepted(ivshm_link *link) {
+    link->outcome = IVSHM_ACCEPTED;
+    link->counts.accepted++;
+    link->counts.accepted_bytes += link->length;
+}
+
 /* Handles a note. */
 static inline void ivshm_link_heed(ivshm_link *link, const ivshm_note *note) {
     ivshm_link_setup *setup = &link->setup;
@@ -321,9 +370,7 @@ static inline void ivshm_link_heed(ivshm_link *link, const ivshm_note *note) {
         ivshm_link_delivered(link, note);
         return;
     case IVSHM_ACCEPT:
-        link->outcome = IVSHM_ACCEPTED;
-        link->counts.accepted++;
-        link->counts.accepted_bytes += link->length;
+        ivshm_link_accepted(link);
         break;
     case IVSHM_FULL:
         link->outcome = IVSHM_WAS_FULL;
@@ -345,158 +392,223 @@ static inline void ivshm_link_heed(ivshm_link *link, const ivshm_note *note) {
     if (setup->noted) setup->noted(setup->context, note, link->frame, link->length);
 }
 
-/* Writes a word of the own section, and reports it. */
-static inline void ivshm_link_write(ivshm_link *link, uint32_t word, uint32_t value, uint32_t order) {
-    ivshm_access access;
-    memset(&access, 0, sizeof access);
-    access.kind = IVSHM_WRITE;
-    access.word = word;
-    access.value = value;
-    access.order = order;
-    if (!ivshm_link_has(link, link->own, word, 1)) {
-        link->counts.stray++;
-        return;
-    }
-    ivshm_link_store(&link->setup.own_section[word - link->own], &access);
-    link->counts.accesses++;
-    if (link->setup.accessed) link->setup.accessed(link->setup.context, &access, 0);
-}
-
-/* Reads a field of an item, and reports it. */
-static inline uint32_t ivshm_link_read_field(ivshm_link *link, uint32_t word) {
-    ivshm_access access;
-    uint32_t value;
-    memset(&access, 0, sizeof access);
-    access.kind = IVSHM_READ;
-    access.word = word;
-    access.order = IVSHM_RELAXED;
-    if (!ivshm_link_has(link, link->other, word, 1)) {
-        link->counts.stray++;
-        return 0;
-    }
-    value = ivshm_link_load(&link->setup.other_section[word - link->other], &access);
-    link->counts.accesses++;
-    if (link->setup.accessed) link->setup.accessed(link->setup.context, &access, value);
-    return value;
-}
-
-/* Notes a step of a poll. */
-static inline void ivshm_link_note(ivshm_link *link, uint32_t kind, size_t length) {
+/* Reports a note that the library implies. */
+static inline void ivshm_link_note(ivshm_link *link, uint32_t kind, const uint8_t *frame, size_t length) {
     ivshm_note note;
     note.kind = kind;
     note.field = 0;
     note.value = 0;
-    if (link->setup.noted) link->setup.noted(link->setup.context, &note, (const uint8_t *)link->setup.room, length);
+    link->setup.noted(link->setup.context, &note, frame, length);
 }
 
-/* Reads the words of a frame, delivers it and returns it. Returns 0 if nothing was made. */
-static inline uint32_t ivshm_link_take_frame(ivshm_link *link, const ivshm_burst *words) {
+/* Reports an access of one word. `read` is the value of a read. */
+static inline void ivshm_link_report_word(ivshm_link *link, uint32_t kind, uint32_t word, uint32_t written, uint32_t order, uint32_t read) {
+    ivshm_access access;
+    memset(&access, 0, sizeof access);
+    access.kind = kind;
+    access.word = word;
+    access.value = written;
+    access.order = order;
+    link->setup.accessed(link->setup.context, &access, read);
+}
+
+/* Reads a field of an item, and reports the read if it is `recorded`. */
+static inline uint32_t ivshm_link_read_field(ivshm_link *link, uint32_t word, int recorded) {
+    uint32_t value;
+    if (!ivshm_link_has_word(link, link->other, word)) {
+        link->counts.stray++;
+        return 0;
+    }
+    value = ivshm_link_load_in(&link->setup.other_section[word - link->other], IVSHM_RELAXED);
+    link->counts.accesses++;
+    if (recorded) ivshm_link_report_word(link, IVSHM_READ, word, 0, IVSHM_RELAXED, value);
+    return value;
+}
+
+/* Rings if the access after a frame is the doorbell, whose step the library has completed. Then the
+ * call is over: IVSHM_NO_CALL. Otherwise IVSHM_DONE: the access is next. */
+static inline uint32_t ivshm_link_ring_after(ivshm_link *link, const ivshm_access *access, uint32_t note) {
+    if (access->kind != IVSHM_RING) return IVSHM_DONE;
+    link->counts.accesses++;
+    ivshm_link_ring(link, access->word, access->value);
+    if (link->setup.accessed) link->setup.accessed(link->setup.context, access, 0);
+    if (link->setup.noted) ivshm_link_note(link, note, link->frame, link->length);
+    return IVSHM_NO_CALL;
+}
+
+/* Makes the writes that return a frame. */
+static inline void ivshm_link_return(ivshm_link *link, const ivshm_frame_return *made) {
+    uint32_t *own = link->setup.own_section;
+    ivshm_burst element;
+    element.word = made->element;
+    element.count = 2;
+    if (!ivshm_link_has(link, link->own, element.word, 2) || !ivshm_link_has_word(link, link->own, made->index)) {
+        link->counts.stray++;
+        return;
+    }
+    ivshm_link_store_in(&own[element.word - link->own], made->id, IVSHM_RELAXED);
+    ivshm_link_store_in(&own[element.word - link->own + 1], 1, IVSHM_RELAXED);
+    ivshm_link_store_in(&own[made->index - link->own], made->returned, IVSHM_RELEASE);
+    link->counts.accesses += 3;
+    if (!link->setup.accessed) return;
+    ivshm_link_report(link, IVSHM_WRITE, &element, NULL);
+    ivshm_link_report_word(link, IVSHM_WRITE, made->index, made->returned, IVSHM_RELEASE, 0);
+}
+
+/* Reads the words of a frame, delivers it and returns it, and has the access after it in *next.
+ * Returns 0 if nothing was made. */
+static inline uint32_t ivshm_link_take_frame(ivshm_link *link, const ivshm_burst *words, ivshm_access *next) {
     const ivshm_link_setup *setup = &link->setup;
+    const uint8_t *frame = (const uint8_t *)setup->room;
     ivshm_frame_return made;
     if (words->count > link->burst || !ivshm_link_has(link, link->other, words->word, words->count)) return 0;
     ivshm_link_copy_out(setup->room, &setup->other_section[words->word - link->other], words->count);
     if (setup->accessed) ivshm_link_report(link, IVSHM_READ, words, setup->room);
-    if (ivshm_end_took_frame(&link->end, (const uint8_t *)setup->room, 4 * (size_t)words->count, &made) != IVSHM_DONE) return 0;
+    if (ivshm_end_took_frame(&link->end, frame, 4 * (size_t)words->count, &made, next) != IVSHM_DONE) return 0;
     link->counts.accesses += words->count;
     link->counts.delivered++;
     link->counts.delivered_bytes += made.length;
-    ivshm_link_note(link, IVSHM_DELIVER, made.length);
-    if (setup->deliver) setup->deliver(setup->context, (const uint8_t *)setup->room, made.length);
-    ivshm_link_write(link, made.element, made.id, IVSHM_RELAXED);
-    ivshm_link_write(link, made.element + 1, 1, IVSHM_RELAXED);
-    ivshm_link_write(link, made.index, made.returned, IVSHM_RELEASE);
-    ivshm_link_note(link, IVSHM_RETURN, 0);
+    if (setup->noted) ivshm_link_note(link, IVSHM_DELIVER, frame, made.length);
+    if (setup->deliver) setup->deliver(setup->context, frame, made.length);
+    ivshm_link_return(link, &made);
+    if (setup->noted) ivshm_link_note(link, IVSHM_RETURN, frame, 0);
     return 1;
 }
 
-/* Takes an item of a poll from the read of `word` on, one of its fields. Returns 1 if its frame was
- * delivered and returned, or 0 if the call goes on within the item, or after a refusal. */
-static inline uint32_t ivshm_link_take_item(ivshm_link *link, uint32_t word) {
-    ivshm_burst next;
-    ivshm_notes notes;
-    for (;;) {
-        uint32_t value = ivshm_link_read_field(link, word);
-        if (ivshm_end_took_field(&link->end, value, &next) != IVSHM_DONE) {
-            if (ivshm_end_took(&link->end, value, &notes) != IVSHM_DONE) return 0;
-            for (uint32_t i = 0; i < notes.count; i++) ivshm_link_heed(link, &notes.note[i]);
-            return 0;
-        }
-        if (next.count > 0) return ivshm_link_take_frame(link, &next);
-        word = next.word;
-    }
-}
-
-/* Whether the access reads a field of an item: in a poll, the relaxed reads of one word. */
-static inline int ivshm_link_begins_item(const ivshm_link *link, const ivshm_access *access) {
-#ifdef IVSHM_LINK_SINGLE
-    (void)link, (void)access;
-    return 0;
-#else
-    return access->kind == IVSHM_READ && access->order == IVSHM_RELAXED && access->count == 0 && !link->frame;
-#endif
-}
-
-/* Makes the writes of an offer up to its index. Returns 0 if no word of a frame is next. */
-static inline uint32_t ivshm_link_publish(ivshm_link *link) {
+/* Makes the writes of an offer up to its index, and has the access after it in *next. Returns 0 if
+ * no word of a frame is next. */
+static inline uint32_t ivshm_link_publish(ivshm_link *link, ivshm_access *next) {
     uint8_t tail[20];
     ivshm_publication made;
-    ivshm_note note;
     uint32_t *own = link->setup.own_section;
     const ivshm_burst *bursts = made.bursts;
-    memset(&note, 0, sizeof note);
-    note.kind = IVSHM_ACCEPT;
-    if (ivshm_end_publish(&link->end, &made, tail, sizeof tail) != IVSHM_DONE) return 0;
-    for (int i = 0; i < 3; i++) {
-        if (ivshm_link_has(link, link->own, bursts[i].word, bursts[i].count)) continue;
+    if (ivshm_end_publish(&link->end, &made, tail, sizeof tail, next) != IVSHM_DONE) return 0;
+    if (!ivshm_link_has(link, link->own, bursts[0].word, bursts[0].count) || !ivshm_link_has(link, link->own, bursts[1].word, 4) ||
+        !ivshm_link_has_word(link, link->own, bursts[2].word) || !ivshm_link_has_word(link, link->own, made.index)) {
         link->counts.stray++;
         return 1;
     }
     ivshm_link_copy_frame(link, own + (bursts[0].word - link->own), bursts[0].count);
     ivshm_link_copy_in(own + (bursts[1].word - link->own), tail, 4);
     ivshm_link_copy_in(own + (bursts[2].word - link->own), tail + 16, 1);
-    link->counts.accesses += bursts[0].count + 5;
-    if (link->setup.accessed)
+    ivshm_link_store_in(own + (made.index - link->own), made.accepted, IVSHM_RELEASE);
+    link->counts.accesses += bursts[0].count + 6;
+    if (link->setup.accessed) {
         for (int i = 0; i < 3; i++) ivshm_link_report(link, IVSHM_WRITE, &bursts[i], NULL);
-    ivshm_link_write(link, made.index, made.accepted, IVSHM_RELEASE);
-    ivshm_link_heed(link, &note);
+        ivshm_link_report_word(link, IVSHM_WRITE, made.index, made.accepted, IVSHM_RELEASE, 0);
+    }
+    ivshm_link_accepted(link);
+    if (link->setup.noted) ivshm_link_note(link, IVSHM_ACCEPT, link->frame, link->length);
     return 1;
 }
 
-/* Whether the access begins the writes of a frame that is offered. */
-static inline int ivshm_link_begins_frame(const ivshm_link *link, const ivshm_access *access) {
-#ifdef IVSHM_LINK_SINGLE
-    (void)link, (void)access;
-    return 0;
-#else
-    return access->kind == IVSHM_WRITE && access->count > 0 && access->word - link->own >= link->layout.data_area / 4 && link->frame;
-#endif
+/* Makes the access by itself, or the burst that begins with it. *next is the next access if the
+ * answer is IVSHM_DONE; otherwise the call is over. Sets *returns if the step returned a frame. */
+static inline uint32_t ivshm_link_step(ivshm_link *link, ivshm_access *next, uint32_t *returns) {
+    ivshm_notes notes;
+    uint32_t answer, made;
+    notes.count = 0;
+    made = next->count > 0 ? ivshm_link_burst(link, next, &notes) : 0;
+    if (made > 0) {
+        link->counts.accesses += made;
+        answer = ivshm_end_next(&link->end, next);
+    } else {
+        uint32_t value = ivshm_link_single(link, next);
+        link->counts.accesses += next->kind != IVSHM_NOTHING;
+        if (link->setup.accessed) link->setup.accessed(link->setup.context, next, value);
+        answer = ivshm_end_step(&link->end, value, &notes, next);
+    }
+    for (uint32_t i = 0; i < notes.count; i++) ivshm_link_heed(link, &notes.note[i]);
+    *returns = notes.count > 0 && notes.note[0].kind == IVSHM_RETURN;
+    return answer;
 }
 
-/* Makes the steps of the open call, until it is over or until the poll has delivered `budget`
- * frames and returned the last of them. IVSHM_DONE: the call is over. IVSHM_CALL_OPEN: it isn't. */
-static inline uint32_t ivshm_link_run(ivshm_link *link, uint32_t budget) {
-    ivshm_access access;
-    ivshm_notes notes;
-    uint64_t last = link->counts.delivered + budget;
-    while (ivshm_end_next(&link->end, &access) == IVSHM_DONE) {
-        uint32_t made, value;
-        link->counts.steps++;
-        if (ivshm_link_begins_item(link, &access)) {
-            if (ivshm_link_take_item(link, access.word) && link->counts.delivered == last) return IVSHM_CALL_OPEN;
-            continue;
+/* Takes an item of a poll from the read of next->word on, one of its fields. Otherwise the same. */
+static inline uint32_t ivshm_link_take_item(ivshm_link *link, ivshm_access *next, uint32_t *returns) {
+    const int recorded = link->setup.accessed != NULL;
+    ivshm_burst read;
+    for (read.word = next->word;;) {
+        uint32_t value = ivshm_link_read_field(link, read.word, recorded);
+        if (ivshm_end_took_field(&link->end, value, &read) != IVSHM_DONE) {
+            ivshm_notes notes;
+            uint32_t answer;
+            notes.count = 0;
+            answer = ivshm_end_step(&link->end, value, &notes, next);
+            for (uint32_t i = 0; i < notes.count; i++) ivshm_link_heed(link, &notes.note[i]);
+            return answer;
         }
-        if (ivshm_link_begins_frame(link, &access) && ivshm_link_publish(link)) continue;
-        made = ivshm_link_burst(link, &access, &notes);
-        link->counts.accesses += made > 0 ? made : access.kind != IVSHM_NOTHING;
-        if (made == 0) {
-            value = ivshm_link_single(link, &access);
-            if (link->setup.accessed) link->setup.accessed(link->setup.context, &access, value);
-            if (ivshm_end_took(&link->end, value, &notes) != IVSHM_DONE) break;
-        }
+        if (read.count == 0) continue;
+        *returns = ivshm_link_take_frame(link, &read, next);
+        return *returns ? ivshm_link_ring_after(link, next, IVSHM_FINISH) : ivshm_end_next(&link->end, next);
+    }
+}
+
+/* Makes the reads of an offer by single steps: the used index, and the ids of the frames that came
+ * back, or the other's event. *next is the access after them if the answer is IVSHM_DONE. */
+static inline uint32_t ivshm_link_read_used(ivshm_link *link, ivshm_access *next) {
+    uint32_t answer;
+    do {
+        ivshm_notes notes;
+        uint32_t value = ivshm_link_read(link, next);
+        link->counts.accesses++;
+        if (link->setup.accessed) link->setup.accessed(link->setup.context, next, value);
+        notes.count = 0;
+        answer = ivshm_end_step(&link->end, value, &notes, next);
         for (uint32_t i = 0; i < notes.count; i++) ivshm_link_heed(link, &notes.note[i]);
-        if (notes.count > 0 && notes.note[0].kind == IVSHM_RETURN && link->counts.delivered == last) return IVSHM_CALL_OPEN;
+    } while (answer == IVSHM_DONE && next->kind == IVSHM_READ);
+    return answer;
+}
+
+/* Makes the next steps of an offer: its reads, and all writes up to its index, or else one access
+ * or burst. */
+static inline uint32_t ivshm_link_go_on_offer(ivshm_link *link, ivshm_access *next, uint32_t *returns) {
+    if (next->kind == IVSHM_READ) {
+        uint32_t answer = ivshm_link_read_used(link, next);
+        if (answer != IVSHM_DONE) return answer;
+    }
+    if (next->kind == IVSHM_WRITE && next->count > 0 && ivshm_link_publish(link, next)) return ivshm_link_ring_after(link, next, IVSHM_OVER);
+    return ivshm_link_step(link, next, returns);
+}
+
+/* Makes the next steps of the open call: in a poll an item, from the read of one of its fields on,
+ * or else one access or burst. */
+static inline uint32_t ivshm_link_go_on(ivshm_link *link, ivshm_access *next, uint32_t *returns) {
+#ifndef IVSHM_LINK_SINGLE
+    if (link->frame) return ivshm_link_go_on_offer(link, next, returns);
+    if (next->kind == IVSHM_READ && next->order == IVSHM_RELAXED && next->count == 0) return ivshm_link_take_item(link, next, returns);
+#endif
+    return ivshm_link_step(link, next, returns);
+}
+
+/* Makes the steps of the open call from the access *next on, if `answer` is IVSHM_DONE, until it is
+ * over or until the poll has delivered `budget` frames and returned the last of them. IVSHM_DONE:
+ * the call is over. IVSHM_CALL_OPEN: it isn't. */
+static inline uint32_t ivshm_link_run_from(ivshm_link *link, uint32_t answer, ivshm_access *next, uint32_t budget) {
+    uint64_t last = link->counts.delivered + budget;
+    while (answer == IVSHM_DONE) {
+        uint32_t returns = 0;
+        link->counts.steps++;
+        answer = ivshm_link_go_on(link, next, &returns);
+        if (returns && answer == IVSHM_DONE && link->counts.delivered == last) return IVSHM_CALL_OPEN;
     }
     return IVSHM_DONE;
+}
+
+/* Makes the steps of the open call from its next access on. */
+static inline uint32_t ivshm_link_run(ivshm_link *link, uint32_t budget) {
+    ivshm_access next;
+    uint32_t answer = ivshm_end_next(&link->end, &next);
+    return ivshm_link_run_from(link, answer, &next, budget);
+}
+
+/* Makes the steps of the open offer. In RUN each offer begins with the same access, the read of the
+ * used index, so the library is asked for it once. */
+static inline uint32_t ivshm_link_run_offer(ivshm_link *link) {
+    ivshm_access next;
+    if (link->state != IVSHM_RUN) return ivshm_link_run(link, IVSHM_LINK_ALL);
+    if (link->first.kind == IVSHM_NOTHING && ivshm_end_next(&link->end, &link->first) != IVSHM_DONE) return IVSHM_DONE;
+    next = link->first;
+    return ivshm_link_run_from(link, IVSHM_DONE, &next, IVSHM_LINK_ALL);
 }
 
 /* Begins a call and makes its steps. */
@@ -550,7 +662,7 @@ static inline uint32_t ivshm_link_send(ivshm_link *link, const uint8_t *frame, s
     link->frame = frame;
     link->length = length;
     link->outcome = IVSHM_OPEN;
-    answer = ivshm_link_run(link, IVSHM_LINK_ALL);
+    answer = ivshm_link_run_offer(link);
     *outcome = link->outcome;
     link->frame = NULL;
     return answer;

@@ -86,6 +86,7 @@ static void mix_notes(const ivshm_notes *notes) {
 static bool step_item(ivshm_end *end, const ivshm_access *access) {
     const uint32_t *from = now->words + access->word % WORDS;
     ivshm_frame_return made;
+    ivshm_access after;
     ivshm_burst next;
     if (access->count == 0) {
         if (ivshm_end_took_field(end, *from, &next) != IVSHM_DONE) return false;
@@ -93,11 +94,12 @@ static bool step_item(ivshm_end *end, const ivshm_access *access) {
         mix(next.count);
         return true;
     }
-    if (ivshm_end_took_frame(end, (const uint8_t *)from, 4 * (size_t)access->count, &made) != IVSHM_DONE) return false;
+    if (ivshm_end_took_frame(end, (const uint8_t *)from, 4 * (size_t)access->count, &made, &after) != IVSHM_DONE) return false;
     now->words[made.element % WORDS] = made.id;
     now->words[(made.element + 1) % WORDS] = 1;
     now->words[made.index % WORDS] = made.returned;
     mix(made.length);
+    mix(after.word);
     return true;
 }
 
@@ -136,9 +138,11 @@ static bool step_offer(ivshm_end *end) {
     }
     if (run % 4 == 0) {
         ivshm_publication made;
-        if (ivshm_end_publish(end, &made, room, sizeof room) != IVSHM_DONE) return false;
+        ivshm_access next;
+        if (ivshm_end_publish(end, &made, room, sizeof room, &next) != IVSHM_DONE) return false;
         now->words[made.index % WORDS] = made.accepted;
         mix(made.accepted);
+        mix(next.word);
         return true;
     }
     mix(ivshm_end_took_bursts(end));

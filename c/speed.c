@@ -1,8 +1,8 @@
 /* speed OUT MTU SIZE ROUNDS: the cost of the library, with both ends in one thread. In a round each
- * end offers 8 frames of SIZE bytes and polls. The program prints the calls of ivshm_end_next for a
- * frame, and frames a second. Built with WAY 0 (single steps) it also prints the time of an access,
- * and the floor of that time. For the floor a loop repeats the accesses of a round from a list,
- * without an end.
+ * end offers 8 frames of SIZE bytes and polls. The program prints the turns of the driver's loop
+ * for a frame, and frames a second. Built with WAY 0 (single steps) it also prints the time of an
+ * access, and the floor of that time. For the floor a loop repeats the accesses of a round from a
+ * list, without an end.
  */
 #include "region.h"
 
@@ -106,7 +106,7 @@ int main(int argc, char **argv) {
     for (uint64_t i = 0; i < rounds; i++) round_of(&a, &b, size);
     double frames = 2.0 * BATCH * (double)rounds, seconds = spent() - start;
     steps = a.link.counts.steps + b.link.counts.steps - steps;
-    printf("%zu bytes, way %d: %.1f calls a frame, %.0f frames a second\n", size, WAY, (double)steps / frames, frames / seconds);
+    printf("%zu bytes, way %d: %.1f turns a frame, %.0f frames a second\n", size, WAY, (double)steps / frames, frames / seconds);
     if (WAY == 0) print_floor(seconds, rounds, size);
     return 0;
 }

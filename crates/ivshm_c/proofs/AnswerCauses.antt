@@ -7,9 +7,8 @@ use Rattle.split_ring.specs.Layout.{Sizes, IsQueue}
 use Rattle.ivshm_c.specs.declared.device.Found.{Found}
 use Rattle.ivshm_c.specs.declared.device.Layout.{Layout}
 use Rattle.ivshm_c.specs.declared.end_state.EndState.{EndState}
-use Rattle.ivshm_c.specs.declared.status.Status.{Status}
-use Rattle.ivshm_c.specs.declared.status.Status.TheVariants.{Done, NoCall, HasEnd, ShortRoom, OtherAccess}
-use Rattle.split_ring.specs.declared.steps.Access as steps
+use Rattle.c_status.specs.declared.status.Status.{Status}
+use Rattle.c_status.specs.declared.status.Status.TheVariants.{Done, NoCall, HasEnd, ShortRoom, OtherAccess}
 use Rattle.call_grammar.specs.Ends.{End}
 use Rattle.call_grammar.specs.Calls.{EndConfig}
 use Rattle.call_grammar.specs.Places as places
@@ -17,18 +16,17 @@ use Rattle.tx_engine.specs.declared.ahead.Bursts.{Bursts}
 use Rattle.tx_engine.specs.declared.ahead.Publication.{Publication}
 use Rattle.split_ring.specs.declared.steps.Note.TheVariants as note
 use Rattle.link_endpoint.specs.Publishing.{Publishes}
-use Rattle.ivshm_c.specs.Items.{FramePublished, PublishesFrame}
+use Rattle.ivshm_c.specs.Items.{FramePublished, PublishesFrame, GoesOn}
 use Rattle.tx_engine.specs.Ahead.{words_of, listed, last_words, WritesAll}
 use Rattle.link_endpoint.specs.Refinement.{RefinesAt}
-use Rattle.link_endpoint.specs.declared.order.Ordering.{Ordering}
-use Rattle.link_endpoint.specs.Engine.{is_busy, offered, reads_ahead, writes_ahead, bursts_of}
+use Rattle.link_endpoint.specs.Engine.{is_busy, offered, bursts_of}
 use Rattle.ivshm_c.specs.declared.crossing.Access.{Access}
 use Rattle.ivshm_c.specs.declared.crossing.Bursts as crossed
 use Rattle.ivshm_c.specs.declared.crossing.Publication as crossed_publication
-use Rattle.ivshm_c.specs.Crossing.{access_crossed, bursts_crossed, publication_crossed}
-use Rattle.ivshm_c.specs.EndStates.{IsNext, IsAhead, AreBursts, AreBurstTail}
+use Rattle.ivshm_c.specs.Crossing.{bursts_crossed, publication_crossed}
+use Rattle.ivshm_c.specs.EndStates.{AreBursts, AreBurstTail}
 use Rattle.ivshm_c.specs.Sizes.{shape_found, sizes_found, layout_of, LaysOut, laid_out}
-use Rattle.ivshm_c.specs.Answers.{Follows, IsNew, MayMake, RefusesNew, MakesAnswered, GivesNext, GivesBursts, GivesTail, Where, room_answer, bursts_answer, took_tail_answer, tail_answer, made, has_end, refused}
+use Rattle.ivshm_c.specs.Answers.{Follows, IsNew, MayMake, RefusesNew, MakesAnswered, GivesBursts, GivesTail, Where, room_answer, bursts_answer, took_tail_answer, tail_answer, made, has_end, refused}
 
 -- The words of the sizes that were found.
 pub words_are_those : (found : Found) (peers mtu : ℕ) (before after : Layout) (shape : Shape) (queue : Sizes) → shape ≡ shape_found found peers → IsShape shape
@@ -36,15 +34,6 @@ pub words_are_those : (found : Found) (peers mtu : ℕ) (before after : Layout) 
 words_are_those found peers mtu before after shape queue s shaped q queued is =
     subst (LaysOut found peers mtu before Done) (sym (is ∙ ap (λ (x : Shape). layout_of x queue) s ∙ ap (layout_of (shape_found found peers)) q))
     (laid_out (subst IsShape s shaped) (subst IsQueue q queued))
-
--- The access of an open call is written, with the burst that it begins.
-pub next_is_reported : (port : EndState) (before after : Access) (next : steps.Access) (order : Ordering) → is_busy port.endpoint ≡ true → IsNext port.endpoint next → IsAhead port.endpoint order →
-    after ≡ access_crossed next (reads_ahead port.endpoint) (writes_ahead port.endpoint) order → GivesNext port before after
-next_is_reported port before after next order busy is_next ahead crossed =
-    subst (λ b. Where (if b then Done else NoCall)
-    ((next : steps.Access) × (order : Ordering) × IsNext port.endpoint next × IsAhead port.endpoint order ×
-    (after ≡ access_crossed next (reads_ahead port.endpoint) (writes_ahead port.endpoint) order))
-    (after ≡ before)) (sym busy) (next, order, is_next, ahead, crossed)
 
 -- The words of the bursts before the index are written if they fit, and the bytes after them in
 -- `room` stay.
@@ -89,27 +78,27 @@ tail_is_reported port before after room front bursts busy some fits sized crosse
     (drop 20 filled ≡ drop 20 room))
     ((after ≡ before) × (filled ≡ room))) (sym done) (bursts, some, crossed_is, written, rest_is)
 
--- A frame is published, with the words after it at the front of `room`.
-pub frame_is_published : (old new : EndState) (before after : crossed_publication.Publication) (room front : List ℕ) (published : Publication) → is_busy old.endpoint ≡ true → nat_lt (length room) 20 ≡ false → length front ≡ 20 →
-    after ≡ publication_crossed published → Publishes old.endpoint front published new.endpoint → Follows (note.Accept ∷ []) old new → PublishesFrame before after room (front ++ drop 20 room) old new
-frame_is_published old new before after room front published busy fits sized crossed_is steps follows =
+-- A frame is published, with the words after it at the front of `room`, and the end goes on.
+pub frame_is_published : (old mid new : EndState) (before after : crossed_publication.Publication) (room front : List ℕ) (was next : Access) (published : Publication) → is_busy old.endpoint ≡ true → nat_lt (length room) 20 ≡ false → length front ≡ 20 →
+    after ≡ publication_crossed published → Publishes old.endpoint front published mid.endpoint → Follows (note.Accept ∷ []) old mid → GoesOn next mid new → PublishesFrame before after room (front ++ drop 20 room) was next old new
+frame_is_published old mid new before after room front was next published busy fits sized crossed_is steps follows goes_on =
     let filled = front ++ drop 20 room in
     let done : tail_answer (length room) old ≡ Done =
     ap (λ b. if b then took_tail_answer (bursts_of old.endpoint) (length room) else NoCall) busy ∙ ap (λ s. took_tail_answer s (length room)) steps.bursts
     ∙ ap (λ b. if b then ShortRoom else Done) fits in
     let front_is : take 20 filled ≡ front = ap (λ k. take k filled) (sym sized) ∙ take-append_seam front (drop 20 room) in
     let rest_is : drop 20 filled ≡ drop 20 room = ap (λ k. drop k filled) (sym sized) ∙ drop-append_seam front (drop 20 room) in
-    subst (λ status. Where status (FramePublished after room filled old new) ((new ≡ old) × (after ≡ before) × (filled ≡ room))) (sym done)
-    (record { made = published; crossed_is = crossed_is; steps = subst (λ b. Publishes old.endpoint b published new.endpoint) (sym front_is) steps; rest = rest_is; follows = follows })
+    subst (λ status. Where status (FramePublished after room filled next old new) ((new ≡ old) × (after ≡ before) × (filled ≡ room) × (next ≡ was))) (sym done)
+    (record { made = published; published = mid; crossed_is = crossed_is; steps = subst (λ b. Publishes old.endpoint b published mid.endpoint) (sym front_is) steps; rest = rest_is; follows = follows; goes_on = goes_on })
 
 -- No frame is published: the room stays.
-pub frame_is_left : (old new : EndState) (before : crossed_publication.Publication) (room front : List ℕ) → is_busy old.endpoint ≡ true → bursts_of old.endpoint ≡ None → new ≡ old → front ≡ take 20 room →
-    PublishesFrame before before room (front ++ drop 20 room) old new
-frame_is_left old new before room front busy none same front_is =
+pub frame_is_left : (old new : EndState) (before : crossed_publication.Publication) (room front : List ℕ) (was : Access) → is_busy old.endpoint ≡ true → bursts_of old.endpoint ≡ None → new ≡ old → front ≡ take 20 room →
+    PublishesFrame before before room (front ++ drop 20 room) was was old new
+frame_is_left old new before room front was busy none same front_is =
     let other : tail_answer (length room) old ≡ OtherAccess =
     ap (λ b. if b then took_tail_answer (bursts_of old.endpoint) (length room) else NoCall) busy ∙ ap (λ s. took_tail_answer s (length room)) none in
     let whole : front ++ drop 20 room ≡ room = ap (λ f. f ++ drop 20 room) front_is ∙ take-append-drop 20 room in
-    subst (λ status. Where status (FramePublished before room (front ++ drop 20 room) old new) ((new ≡ old) × (before ≡ before) × (front ++ drop 20 room ≡ room))) (sym other) (same, refl, whole)
+    subst (λ status. Where status (FramePublished before room (front ++ drop 20 room) was old new) ((new ≡ old) × (before ≡ before) × (front ++ drop 20 room ≡ room) × (was ≡ was))) (sym other) (same, refl, whole, refl)
 
 module _ (found : Found) (version peers me mtu vector : ℕ) (old new : Option EndState) where
   -- A handle with an end keeps it.

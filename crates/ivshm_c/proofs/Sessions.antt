@@ -1,18 +1,13 @@
 -- The steps that make the phase of an end READY.
-use Rattle.std.proofs.Common.{ℕ, zero, suc, ◌≡◌, ◌≢◌, List, refl, sym, ap, ◌∙◌}
-use Rattle.link_handshake.specs.declared.Phase.{Phase}
+use Rattle.std.proofs.Common.{ℕ, zero, suc, ◌≡◌, ◌≢◌, refl, sym, ap, ◌∙◌}
 use Rattle.link_handshake.specs.declared.Phase.TheVariants.{Ready}
 use Rattle.link_handshake.specs.HandshakeState.{HandshakeState}
 use Rattle.link_handshake.specs.PhaseTable.{phase_of_state}
 use Rattle.split_ring.specs.declared.steps.Access.{Access}
 use Rattle.split_ring.specs.declared.steps.Access.TheVariants as access
-use Rattle.split_ring.specs.declared.steps.Note.{Note}
 use Rattle.call_grammar.specs.Steps.{Step}
 use Rattle.call_grammar.specs.Ends.{End, end_after, PhaseFollowsState}
-use Rattle.call_grammar.specs.Calls.{EndConfig}
-use Rattle.call_grammar.specs.Places.{Place, access_at, step_at}
-use Rattle.link_endpoint.specs.Engine.{Engine}
-use Rattle.link_endpoint.specs.Refinement.{RefinesAt, Takes}
+use Rattle.call_grammar.specs.Places.{access_at, step_at}
 use Rattle.ivshm_c.specs.Sessions.{SessionsFollowState}
 
 ready_is_two : (state : ℕ) → phase_of_state state ≡ Ready → access.State state ≡ access.State 2

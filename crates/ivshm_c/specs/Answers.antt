@@ -15,8 +15,8 @@ use Rattle.ivshm_c.specs.declared.crossing.Bursts as crossed
 use Rattle.ivshm_c.specs.declared.device.Found.{Found}
 use Rattle.ivshm_c.specs.declared.end_state.EndState.{EndState}
 use Rattle.ivshm_c.specs.declared.end_state.Outcome.TheVariants.{Never, Open}
-use Rattle.ivshm_c.specs.declared.status.Status.{Status}
-use Rattle.ivshm_c.specs.declared.status.Status.TheVariants.{Done, NoEnd, HasEnd, CallOpen, NoCall, NoMemory, BadCall, ShortFrame, LongFrame, ShortRoom, BadPeer, OtherAccess, BadCount, BadVersion, BadVector}
+use Rattle.c_status.specs.declared.status.Status.{Status}
+use Rattle.c_status.specs.declared.status.Status.TheVariants.{Done, NoEnd, HasEnd, CallOpen, NoCall, NoMemory, BadCall, ShortFrame, LongFrame, ShortRoom, BadPeer, OtherAccess, BadCount, BadVersion, BadVector}
 use Rattle.ivshm_c.specs.Counts.{no_counts, counts_after}
 use Rattle.ivshm_c.specs.Crossing.{call_numbered, access_crossed, bursts_crossed, notes_crossed}
 use Rattle.ivshm_c.specs.EndStates.{Begins, Offers, IsNext, IsAhead, AreWritten, AreBursts, AreBurstTail, ReadsAtOnce, ReadsWhole, WritesAtOnce, Steps, IsStarted, Restarts, outcome_after, outcome_cut}
@@ -134,12 +134,15 @@ OffersAnswered frame old new = Where (offer_answer frame old) (Offers frame old.
 abbrev pub OffersAgain : EndState → EndState → Type 0
 OffersAgain old new = OffersAnswered (offered old.endpoint) old new
 
--- The next access of the open call is written.
+-- The next access of the open call, by its numbers.
+abbrev pub IsNextAccess : EndState → Access → Type 0
+IsNextAccess port access =
+    (next : steps.Access) × (order : Ordering) × IsNext port.endpoint next × IsAhead port.endpoint order ×
+    (access ≡ access_crossed next (reads_ahead port.endpoint) (writes_ahead port.endpoint) order)
+
+-- That access is written.
 abbrev pub GivesNext : EndState → Access → Access → Type 0
-GivesNext port before after = Where (step_answer port)
-    ((next : steps.Access) × (order : Ordering) × IsNext port.endpoint next × IsAhead port.endpoint order ×
-    (after ≡ access_crossed next (reads_ahead port.endpoint) (writes_ahead port.endpoint) order))
-    (after ≡ before)
+GivesNext port before after = Where (step_answer port) (IsNextAccess port after) (after ≡ before)
 
 -- A step of the open call is completed, with its notes.
 abbrev pub TakesAnswered : ℕ → Notes → Notes → EndState → EndState → Type 0

@@ -1,4 +1,3 @@
-pub mod Statuses
 pub mod Crossing
 pub mod Counts
 pub mod Sessions

@@ -10,15 +10,18 @@ use Rattle.section_map.specs.declared.sizes.GeometryFault.{GeometryFault}
 use Rattle.split_ring.specs.Layout.{Sizes, IsQueue, size_of, slot_of, limit_of, data_area_start, data_area_len, word_offset, AvailIndex, AvailEntry, UsedEvent, UsedIndex, UsedId, AvailEvent}
 use Rattle.split_ring.specs.Faults.{IsQueueFault}
 use Rattle.split_ring.specs.declared.faults.QueueFault.{QueueFault}
+use Rattle.split_ring.specs.declared.faults.QueueFault.TheVariants as queue
 use Rattle.pci_space.specs.declared.found.Found as walked
 use Rattle.pci_space.specs.declared.found.MsixFound.{MsixFound}
 use Rattle.pci_space.specs.declared.found.CapabilityFault.{CapabilityFault}
+use Rattle.pci_space.specs.declared.found.CapabilityFault.TheVariants as capability
 use Rattle.ivshm_c.specs.declared.device.Found.{Found}
 use Rattle.ivshm_c.specs.declared.device.Layout.{Layout}
 use Rattle.ivshm_c.specs.declared.device.Limits.{Limits}
-use Rattle.ivshm_c.specs.declared.status.Status.{Status}
-use Rattle.ivshm_c.specs.declared.status.Status.TheVariants.{Done}
-use Rattle.ivshm_c.specs.Statuses.{geometry_status, queue_status, capability_status}
+use Rattle.c_status.specs.declared.status.Status.{Status}
+use Rattle.c_status.specs.declared.status.Status.TheVariants.{Done}
+use Rattle.c_status.specs.declared.status.Status.TheVariants as status_of
+use Rattle.c_status.specs.Statuses.{geometry_status}
 
 abbrev pub no_msix : MsixFound
 no_msix = record { vectors = 0; table = 0; pending = 0 }
@@ -41,6 +44,15 @@ found_crossed found = let msix = unwrap_or found.msix no_msix in record {
   pending_offset = msix.pending - msix.pending % 8;
 }
 
+-- The answer for each reason for which a walk finds no device.
+abbrev pub capability_status : CapabilityFault → Status
+capability_status (capability.NotThisDevice vendor device) = status_of.OtherDevice
+capability_status (capability.BadClass class) = status_of.BadClass
+capability_status (capability.OutOfSpace at) = status_of.OutOfSpace
+capability_status (capability.Loop at) = status_of.Loop
+capability_status (capability.BadVendorLength bytes) = status_of.BadVendorLength
+capability_status capability.NoVendor = status_of.NoVendor
+
 -- The answer of a walk, and the program's result structure after it.
 abbrev pub walk_status : Result walked.Found CapabilityFault → Status
 walk_status (Ok found) = Done
@@ -56,6 +68,12 @@ shape_found found peers = shape_of peers found.table found.common found.out
 
 abbrev pub sizes_found : Found → (version mtu : ℕ) → Sizes
 sizes_found found version mtu = record { version = version; out = found.out; mtu = mtu }
+
+-- The answer for each reason for which a section has no queue.
+abbrev pub queue_status : QueueFault → Status
+queue_status (queue.BadMtu mtu) = status_of.BadMtu
+queue_status (queue.TooSmall bytes) = status_of.SmallOut
+queue_status (queue.NoSlot slot room) = status_of.NoSlot
 
 -- The first test that the sizes of a region, or else its queues, fail.
 pub data IsSizeFault (found : Found) (version peers mtu : ℕ) (status : Status) : Type 0 where

@@ -1,10 +1,10 @@
 //! The calls of an end with their answers. Each call tests the arguments of the C program.
-ghost use Rattle.std.specs.Prelude.{◌≡◌, ◌*◌, ◌%◌, ◌<◌, ◌≤◌, length, Some, IfOk, IfErr};
+ghost use Rattle.std.specs.Prelude.{◌≡◌, ◌*◌, ◌%◌, ◌<◌, ◌≤◌, true, length, Some, IfOk, IfErr};
 ghost use Rattle.tx_engine.specs.Ahead.{words_of};
-ghost use Rattle.link_endpoint.specs.Engine.{delivered, offered};
-ghost use Rattle.ivshm_c.specs.Answers.{begin_answer, offer_answer, step_answer, count_answer, bytes_answer, reads_answer, words_answer, writes_answer, bursts_answer, tail_answer, took_bursts_answer, frame_answer, BeginsAnswered, OffersAnswered, GivesNext, TakesAnswered, TakesWords, GivesWords, TakesWrites, GivesBursts, GivesTail, TakesBursts, CopiesFrame, IsNew, MayMake, RefusesNew};
-ghost use Rattle.ivshm_c.specs.Statuses.{number_of};
-ghost use Rattle.ivshm_c.specs.Items.{idle_answer, TakesField, TakesFrame, PublishesFrame};
+ghost use Rattle.link_endpoint.specs.Engine.{is_busy, delivered, offered};
+ghost use Rattle.ivshm_c.specs.Answers.{begin_answer, offer_answer, step_answer, count_answer, bytes_answer, reads_answer, words_answer, writes_answer, bursts_answer, tail_answer, took_bursts_answer, frame_answer, BeginsAnswered, OffersAnswered, IsNextAccess, GivesNext, TakesAnswered, TakesWords, GivesWords, TakesWrites, GivesBursts, GivesTail, TakesBursts, CopiesFrame, IsNew, MayMake, RefusesNew};
+ghost use Rattle.c_status.specs.Statuses.{number_of};
+ghost use Rattle.ivshm_c.specs.Items.{idle_answer, TakesField, TakesFrame, PublishesFrame, GoesOn, Rung};
 
 use crate::crossing::{
     access_crossed, bursts_crossed, call_numbered, frame_return_crossed, notes_crossed,
@@ -12,8 +12,8 @@ use crate::crossing::{
 };
 use crate::device::{Found, sized};
 use crate::end_state::EndState;
-use crate::status::Status;
 use crate::{Access, Burst, Bursts, FrameReturn, Notes, Publication};
+use c_status::Status;
 use link_endpoint::Endpoint;
 use split_ring::steps;
 use std::alloc::Global;
@@ -105,6 +105,7 @@ pub(crate) fn offered_again(port: &mut EndState) -> Status
 }
 
 /// Writes the next access of the open call into `access`.
+#[inline(always)]
 pub(crate) fn next(port: &EndState, access: &mut Access) -> Status
     ensures answer { result ≡ step_answer port.now }
     ensures access { GivesNext port.now access.old access.new }
@@ -112,17 +113,27 @@ pub(crate) fn next(port: &EndState, access: &mut Access) -> Status
     if !port.endpoint.busy() {
         return Status::NoCall;
     }
+    *access = next_access(port);
+    Status::Done
+}
+
+/// Returns the next access of the open call.
+#[inline(always)]
+fn next_access(port: &EndState) -> Access
+    requires open { is_busy port.now.endpoint ≡ true }
+    ensures access { IsNextAccess port.now result }
+{
     let end = &port.endpoint;
-    *access = access_crossed(
+    access_crossed(
         end.next(),
         end.reads_ahead(),
         end.writes_ahead(),
         end.order(),
-    );
-    Status::Done
+    )
 }
 
 /// Completes the step of that access.
+#[inline(always)]
 pub(crate) fn took(port: &mut EndState, value: u32, notes: &mut Notes) -> Status
     ensures answer { result ≡ step_answer port.old }
     ensures step { TakesAnswered value notes.old notes.new port.old port.new }
@@ -134,6 +145,24 @@ pub(crate) fn took(port: &mut EndState, value: u32, notes: &mut Notes) -> Status
     port.took(value, &mut reported);
     *notes = notes_crossed(reported.as_slice());
     Status::Done
+}
+
+/// Completes the step of that access, and writes the access after it into `access`. Returns the
+/// answer of `next` then.
+pub(crate) fn stepped(
+    port: &mut EndState,
+    value: u32,
+    notes: &mut Notes,
+    access: &mut Access,
+) -> Status
+    ensures answer { result ≡ step_answer port.new }
+    ensures step { TakesAnswered value notes.old notes.new port.old port.new }
+    ensures access { GivesNext port.new access.old access.new }
+{
+    match took(port, value, notes) {
+        Status::Done => next(port, access),
+        status => status,
+    }
 }
 
 /// Returns the answer of a call that takes nothing.
@@ -163,26 +192,62 @@ pub(crate) fn took_field(port: &mut EndState, value: u32, next: &mut Burst) -> S
     }
 }
 
+/// Returns the next access of the open call. Completes the step if the access is a doorbell, which
+/// the caller makes now.
+#[inline(always)]
+fn gone_on(port: &mut EndState) -> Access
+    requires open { is_busy port.old.endpoint ≡ true }
+    ensures { GoesOn result port.old port.new }
+{
+    let access = next_access(port);
+    if access.kind == 4 {
+        rung(port);
+    }
+    access
+}
+
+/// Completes the step of a doorbell. It isn't inlined, since the callers are shorter so.
+#[inline(never)]
+fn rung(port: &mut EndState)
+    requires open { is_busy port.old.endpoint ≡ true }
+    ensures { Rung port.old port.new }
+{
+    let mut over = steps::Notes::new();
+    port.took(0, &mut over);
+}
+
 /// Completes the reads of a whole frame and the writes that return it, and writes these into
-/// `made`.
-pub(crate) fn took_frame(port: &mut EndState, words: &[u8], made: &mut FrameReturn) -> Status
-    ensures { TakesFrame words.now made.old made.new (number_of result) port.old port.new }
+/// `made`, and the access after them into `access`. Completes the access too if it is a doorbell.
+pub(crate) fn took_frame(
+    port: &mut EndState,
+    words: &[u8],
+    made: &mut FrameReturn,
+    access: &mut Access,
+) -> Status
+    ensures { TakesFrame words.now made.old made.new access.old access.new (number_of result) port.old port.new }
 {
     match port.endpoint.took_frame(words) {
         Some(returned) => {
-            *made = frame_return_crossed(returned);
             port.counts.deliver();
+            *access = gone_on(port);
+            *made = frame_return_crossed(returned);
             Status::Done
         }
         None => idle(port),
     }
 }
 
-/// Completes all that an offer writes up to its index, and writes these writes into `made`. Writes
-/// only the words after the frame into the front of `room`.
-pub(crate) fn publish(port: &mut EndState, made: &mut Publication, room: &mut [u8]) -> Status
+/// Completes all that an offer writes up to its index, and writes these writes into `made`, and the
+/// access after them into `access`. Completes the access too if it is a doorbell. Writes only the
+/// words after the frame into the front of `room`.
+pub(crate) fn publish(
+    port: &mut EndState,
+    made: &mut Publication,
+    room: &mut [u8],
+    access: &mut Access,
+) -> Status
     ensures answer { result ≡ tail_answer (length room.old) port.old }
-    ensures step { PublishesFrame made.old made.new room.old room.new port.old port.new }
+    ensures step { PublishesFrame made.old made.new room.old room.new access.old access.new port.old port.new }
 {
     if !port.endpoint.busy() {
         return Status::NoCall;
@@ -196,6 +261,7 @@ pub(crate) fn publish(port: &mut EndState, made: &mut Publication, room: &mut [u
     }
     match port.publish(&mut room[..20]) {
         Some(published) => {
+            *access = gone_on(port);
             *made = publication_crossed(published);
             Status::Done
         }

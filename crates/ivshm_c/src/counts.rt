@@ -47,6 +47,7 @@ impl Counts {
     }
 
     /// Counts a step with these notes that led from the phase `old` to the phase `new`.
+    #[inline(always)]
     pub(crate) fn step(&mut self, old: Phase, new: Phase, notes: &Notes)
         ensures { self.new ≡ counts_after old new notes.now.items self.old }
     {
@@ -79,6 +80,7 @@ impl Counts {
         }
     }
 
+    #[inline(always)]
     fn note_all(&mut self, notes: &Notes)
         ensures { self.new ≡ noted_all notes.now.items self.old }
     {

@@ -261,6 +261,7 @@ pub(crate) fn note_crossed(note: steps::Note) -> Note
     }
 }
 
+#[inline(always)]
 pub(crate) fn notes_crossed(notes: &[steps::Note]) -> Notes
     ensures { result ≡ notes_crossed notes.now }
 {

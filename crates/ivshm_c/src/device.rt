@@ -2,12 +2,12 @@
 ghost use Rattle.std.specs.Prelude.{◌≡◌, ◌+◌, ◌*◌, IfOk, IfErr, unwrap_or};
 ghost use Rattle.section_map.specs.Geometry.{IsShape};
 ghost use Rattle.split_ring.specs.Layout.{IsQueue, IsVersion};
-ghost use Rattle.ivshm_c.specs.Sizes.{no_msix, found_crossed, shape_found, sizes_found, IsSizeFault, layout_of, longest_delivery};
+ghost use Rattle.ivshm_c.specs.Sizes.{no_msix, found_crossed, capability_status, queue_status, shape_found, sizes_found, IsSizeFault, layout_of, longest_delivery};
 
-use crate::status::{Status, geometry_status, queue_status};
-use pci_space::MsixFound;
+use c_status::{Status, geometry_status};
+use pci_space::{CapabilityFault, MsixFound};
 use section_map::Geometry;
-use split_ring::{LONGEST_FRAME, Queue};
+use split_ring::{LONGEST_FRAME, Queue, QueueFault};
 
 /// The result of a walk over a device's configuration space. Sizes are in bytes.
 ///
@@ -106,6 +106,31 @@ pub(crate) fn found_crossed(found: &pci_space::Found) -> Found
         vectors_offset: msix.table - msix.table % 8,
         pending_bar: msix.pending % 8,
         pending_offset: msix.pending - msix.pending % 8,
+    }
+}
+
+/// Returns the status of a walk that finds no device.
+pub(crate) fn capability_status(fault: &CapabilityFault) -> Status
+    ensures { result ≡ capability_status fault.now }
+{
+    match fault {
+        CapabilityFault::NotThisDevice { .. } => Status::OtherDevice,
+        CapabilityFault::BadClass(_) => Status::BadClass,
+        CapabilityFault::OutOfSpace(_) => Status::OutOfSpace,
+        CapabilityFault::Loop(_) => Status::Loop,
+        CapabilityFault::BadVendorLength(_) => Status::BadVendorLength,
+        CapabilityFault::NoVendor => Status::NoVendor,
+    }
+}
+
+/// Returns the status of a section that has no queue.
+fn queue_status(fault: &QueueFault) -> Status
+    ensures { result ≡ queue_status fault.now }
+{
+    match fault {
+        QueueFault::BadMtu(_) => Status::BadMtu,
+        QueueFault::TooSmall(_) => Status::SmallOut,
+        QueueFault::NoSlot { .. } => Status::NoSlot,
     }
 }
 

@@ -91,6 +91,7 @@ impl EndState {
     }
 
     /// Completes the step of the next access, and puts its notes into an empty list.
+    #[inline(always)]
     pub(crate) fn took(&mut self, value: u32, notes: &mut Notes)
         requires open { is_busy self.old.endpoint ≡ true }
         requires empty { notes.old.items ≡ [] }
@@ -122,6 +123,7 @@ impl EndState {
     }
 
     /// Follows the notes of a step that the endpoint has made from the phase `before`.
+    #[inline(always)]
     fn record(&mut self, before: Phase, notes: &Notes)
         ensures endpoint { self.new.endpoint ≡ self.old.endpoint }
         ensures outcome { self.new.outcome ≡ outcome_after notes.now.items self.old.outcome }
@@ -157,6 +159,7 @@ impl EndState {
         requires { length tail.old ≡ 20 }
         ensures steps { IfSome result (λ made. Publishes self.old.endpoint tail.new made self.new.endpoint ×
             Follows (Note.Accept ∷ []) self.old self.new) }
+        ensures open { IfSome result (λ made. is_busy self.new.endpoint ≡ true) }
         ensures sized { length tail.new ≡ length tail.old }
         ensures other { result ≡ None → bursts_of self.old.endpoint ≡ None }
         ensures unchanged { result ≡ None → (self.new ≡ self.old) × (tail.new ≡ tail.old) }

@@ -1,21 +1,21 @@
 //! The exports of an end.
 ghost use Rattle.std.specs.Prelude.{◌≡◌, ◌+◌, ◌≤◌, length, None, IfSome};
 ghost use Rattle.raw_box.specs.Handle.{Leads};
-ghost use Rattle.ivshm_c.specs.Statuses.{number_of};
-ghost use Rattle.ivshm_c.specs.declared.status.Status.{Status as Answer};
+ghost use Rattle.c_status.specs.Statuses.{number_of};
+ghost use Rattle.c_status.specs.declared.status.Status.{Status as Answer};
 ghost use Rattle.link_endpoint.specs.Engine.{delivered};
 ghost use Rattle.ivshm_c.specs.Crossing.{view_of};
 ghost use Rattle.ivshm_c.specs.Answers.{answer_at, begin_answer, offer_answer, again_answer, step_answer, reads_answer, words_answer, writes_answer, bursts_answer, tail_answer, took_bursts_answer, frame_answer, done_answer, BeginsAnswered, OffersAnswered, OffersAgain, GivesNext, TakesAnswered, TakesWords, GivesWords, TakesWrites, GivesBursts, GivesTail, TakesBursts, CopiesFrame, Renews, MakesAnswered};
 ghost use Rattle.ivshm_c.specs.Items.{TakesField, TakesFrame, PublishesFrame};
 
 use crate::calls::{
-    begun, bursts, framed, made, next, offered, offered_again, publish, tail, took, took_bursts,
-    took_field, took_frame, took_reads, took_writes, words,
+    begun, bursts, framed, made, next, offered, offered_again, publish, stepped, tail, took,
+    took_bursts, took_field, took_frame, took_reads, took_writes, words,
 };
 use crate::crossing::view_of;
 use crate::device::Found;
-use crate::status::Status;
 use crate::{Access, Burst, Bursts, Counts, End, FrameReturn, Notes, Publication, View};
+use c_status::Status;
 use std::alloc::Global;
 
 /// Makes the end of peer `me` of a region of these sizes with `peers` peers, for frames of this
@@ -175,6 +175,31 @@ pub extern "C" fn ivshm_end_took(alloc: Global, end: &mut End, value: u32, notes
     status.number()
 }
 
+/// Completes the step of the access that is next, and writes the access after it into `access`: the
+/// same as `ivshm_end_took` and then `ivshm_end_next`, whose answer it returns.
+// claim answer, step, access, untouched: A step is completed as by `ivshm_end_took`, and the access
+//    written is the next one of the end afterwards. The answer says whether the call is open then.
+#[unsafe(no_mangle)]
+pub extern "C" fn ivshm_end_step(
+    alloc: Global,
+    end: &mut End,
+    value: u32,
+    notes: &mut Notes,
+    access: &mut Access,
+) -> u32
+    ensures answer { result ≡ number_of (answer_at end.new.port step_answer) }
+    ensures step { Leads end.old.port (TakesAnswered value notes.old notes.new) end.new.port }
+    ensures access { IfSome end.new.port (λ port. GivesNext port access.old access.new) }
+    ensures untouched { end.old.port ≡ None → (notes.new ≡ notes.old) × (access.new ≡ access.old) }
+{
+    let Some(mut port) = end.take(alloc) else {
+        return Status::NoEnd.number();
+    };
+    let status = stepped(&mut port, value, notes, access);
+    end.put(port);
+    status.number()
+}
+
 /// Completes the read of a field of an item in a poll, if the value passes its check. Writes the
 /// next access, a relaxed read, into `next`: its word, and the number of words of the burst that it
 /// begins, or 0.
@@ -201,25 +226,29 @@ pub extern "C" fn ivshm_end_took_field(
 }
 
 /// Completes the reads of a whole frame in a poll, whose words are `words`, and the writes that
-/// return it. Writes these writes into `made`.
+/// return it. Writes these writes into `made`, and the access after them into `access`. If that is
+/// the doorbell, its step is completed too.
 // claim step, empty, untouched: All words of a frame, and the writes that return the frame, are
-//    completed as by single steps, and the writes are the accesses of these steps. If these aren't
-//    all words of a frame, the answer says so, and nothing changes.
+//    completed as by single steps, and the writes are the accesses of these steps. The access after
+//    them is written. Exactly a doorbell is completed too, as by a single step; otherwise the call
+//    is open still. If these aren't all words of a frame, the answer says so, and nothing changes.
 #[unsafe(no_mangle)]
 pub extern "C" fn ivshm_end_took_frame(
     alloc: Global,
     end: &mut End,
     words: &[u8],
     made: &mut FrameReturn,
+    access: &mut Access,
 ) -> u32
-    ensures step { Leads end.old.port (TakesFrame words.now made.old made.new result) end.new.port }
+    ensures step { Leads end.old.port
+        (TakesFrame words.now made.old made.new access.old access.new result) end.new.port }
     ensures empty { end.old.port ≡ None → result ≡ number_of Answer.NoEnd }
-    ensures untouched { end.old.port ≡ None → made.new ≡ made.old }
+    ensures untouched { end.old.port ≡ None → (made.new ≡ made.old) × (access.new ≡ access.old) }
 {
     let Some(mut port) = end.take(alloc) else {
         return Status::NoEnd.number();
     };
-    let status = took_frame(&mut port, words, made);
+    let status = took_frame(&mut port, words, made, access);
     end.put(port);
     status.number()
 }
@@ -350,28 +379,33 @@ pub extern "C" fn ivshm_end_took_bursts(alloc: Global, end: &mut End) -> u32
     status.number()
 }
 
-/// Completes all that an offer writes up to its index, and writes these writes into `made`. Writes
-/// only the words of the descriptor and of the available entry into the front of `room`, in 20
-/// bytes, as `ivshm_end_tail` does.
+/// Completes all that an offer writes up to its index, and writes these writes into `made`, and the
+/// access after them into `access`. If that is the doorbell, its step is completed too. Writes only
+/// the words of the descriptor and of the available entry into the front of `room`, in 20 bytes, as
+/// `ivshm_end_tail` does.
 // claim answer, step, untouched: All that an offer writes up to its index is completed as by single
 //    steps, exactly if a word of its frame is next and the room has 20 bytes. The writes are the
-//    accesses of these steps; the rest of the room stays. Otherwise the answer says why, and
-//    nothing changes.
+//    accesses of these steps; the rest of the room stays. The access after them is written. Exactly
+//    a doorbell is completed too, as by a single step; otherwise the call is open still. If nothing
+//    is published, the answer says why, and nothing changes.
 #[unsafe(no_mangle)]
 pub extern "C" fn ivshm_end_publish(
     alloc: Global,
     end: &mut End,
     made: &mut Publication,
     room: &mut [u8],
+    access: &mut Access,
 ) -> u32
     ensures answer { result ≡ number_of (answer_at end.old.port (tail_answer (length room.old))) }
-    ensures step { Leads end.old.port (PublishesFrame made.old made.new room.old room.new) end.new.port }
-    ensures untouched { end.old.port ≡ None → (made.new ≡ made.old) × (room.new ≡ room.old) }
+    ensures step { Leads end.old.port
+        (PublishesFrame made.old made.new room.old room.new access.old access.new) end.new.port }
+    ensures untouched { end.old.port ≡ None →
+        (made.new ≡ made.old) × (room.new ≡ room.old) × (access.new ≡ access.old) }
 {
     let Some(mut port) = end.take(alloc) else {
         return Status::NoEnd.number();
     };
-    let status = publish(&mut port, made, room);
+    let status = publish(&mut port, made, room, access);
     end.put(port);
     status.number()
 }

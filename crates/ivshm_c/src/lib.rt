@@ -19,7 +19,6 @@ mod end_state;
 mod exports;
 mod held;
 mod laws;
-mod status;
 mod tables;
 
 pub use counts::Counts;
@@ -30,5 +29,7 @@ pub use device::{Found, Layout, Limits};
 pub use held::End;
 pub use laws::sessions_follow_state;
 
+#[cfg(test)]
+mod acts;
 #[cfg(test)]
 mod tests;

@@ -4,13 +4,13 @@ ghost use Rattle.std.specs.Prelude.{◌≡◌, Result, Ok, Err};
 ghost use Rattle.pci_space.specs.Walk.{IsWalk};
 ghost use Rattle.pci_space.specs.declared.found.Found.{Found as Walked};
 ghost use Rattle.pci_space.specs.declared.found.CapabilityFault.{CapabilityFault as WalkFault};
-ghost use Rattle.ivshm_c.specs.declared.status.Status.{Status as Answer};
-ghost use Rattle.ivshm_c.specs.Statuses.{number_of};
+ghost use Rattle.c_status.specs.declared.status.Status.{Status as Answer};
+ghost use Rattle.c_status.specs.Statuses.{number_of};
 ghost use Rattle.ivshm_c.specs.Sizes.{walk_status, found_after, LaysOut, limits};
 ghost use Rattle.ivshm_c.specs.Versions.{abi_version, library_version};
 
-use crate::device::{Found, Layout, Limits, found_crossed, layout_of, sized};
-use crate::status::{Status, capability_status};
+use crate::device::{Found, Layout, Limits, capability_status, found_crossed, layout_of, sized};
+use c_status::Status;
 use pci_space::walk;
 use section_map::LARGEST_REGION;
 use split_ring::{LEAST_MTU, LONGEST_FRAME, MOST_MTU, SHORTEST_FRAME};

@@ -1,432 +1,12 @@
 //! Each export once, with numbers from the layout of a section and from the device's specification.
-use crate::exports::{
-    ivshm_end_begin, ivshm_end_bursts, ivshm_end_counts, ivshm_end_frame, ivshm_end_free,
-    ivshm_end_new, ivshm_end_new_version, ivshm_end_next, ivshm_end_offer, ivshm_end_offer_again,
-    ivshm_end_publish, ivshm_end_reset, ivshm_end_tail, ivshm_end_took, ivshm_end_took_bursts,
-    ivshm_end_took_field, ivshm_end_took_frame, ivshm_end_took_reads, ivshm_end_took_writes,
-    ivshm_end_view, ivshm_end_words,
+use crate::acts::{
+    Act, Call, FOUND, OLD_ACCESS, OLD_BURSTS, OLD_COUNTS, OLD_PUBLICATION, OLD_RETURN, OLD_ROOM,
+    makes_all,
 };
 use crate::tables::{
     ivshm_abi_version, ivshm_layout, ivshm_library_version, ivshm_limits, ivshm_walk,
 };
-use crate::{
-    Access, Burst, Bursts, Counts, End, Found, FrameReturn, Layout, Limits, Note, Notes,
-    Publication, View,
-};
-use std::alloc::Global;
-use std::process::Abort;
-
-const FOUND: Found = Found {
-    common: 0,
-    out: 16_384,
-    base: 0,
-    table: 4096,
-    protocol: 1,
-    one_shot: 0,
-    has_base: 0,
-    vectors: 2,
-    vectors_bar: 1,
-    vectors_offset: 0,
-    pending_bar: 1,
-    pending_offset: 2048,
-};
-
-// The target of each export is filled with 9s before the call.
-
-const OLD_NOTE: Note = Note {
-    kind: 9,
-    field: 9,
-    value: 9,
-};
-
-const OLD_NOTES: Notes = Notes {
-    count: 9,
-    first: OLD_NOTE,
-    second: OLD_NOTE,
-};
-
-const OLD_ACCESS: Access = Access {
-    kind: 9,
-    word: 9,
-    value: 9,
-    count: 9,
-    order: 9,
-    fence_before: 9,
-    fence_after: 9,
-};
-
-const OLD_VIEW: View = View {
-    refused_value: 9,
-    delivered: 9,
-    refused_field: 9,
-    state: 9,
-    busy: 9,
-    outcome: 9,
-    longest: 9,
-};
-
-const OLD_COUNTS: Counts = Counts {
-    sessions: 9,
-    accepted: 9,
-    full: 9,
-    down: 9,
-    delivered: 9,
-    refused: 9,
-};
-
-const OLD_BURST: Burst = Burst { word: 9, count: 9 };
-
-const OLD_BURSTS: Bursts = Bursts {
-    frame: OLD_BURST,
-    descriptor: OLD_BURST,
-    entry: OLD_BURST,
-};
-
-const OLD_ROOM: [u8; 40] = [9; 40];
-
-const OLD_PUBLICATION: Publication = Publication {
-    bursts: OLD_BURSTS,
-    index: 9,
-    accepted: 9,
-};
-
-const OLD_RETURN: FrameReturn = FrameReturn {
-    length: 9,
-    element: 9,
-    id: 9,
-    index: 9,
-    returned: 9,
-};
-
-/// A call of an export that writes nothing, or whose notes don't count. The region has two peers,
-/// and the link an MTU of 256 and vector 1.
-#[derive(Clone, Copy)]
-enum Call {
-    /// Makes the end of this peer.
-    New(u32),
-    /// Makes the end of this peer in a link of this version.
-    NewVersion(u32, u32),
-    Begin(u32),
-    Offer(&'static [u8]),
-    OfferAgain,
-    /// Completes a step with this value.
-    Took(u32),
-    TookReads(&'static [u8]),
-    TookWrites(u32),
-    TookBursts,
-    Reset,
-    Free,
-}
-
-/// Makes the call. Returns its answer.
-fn answer(alloc: Global, end: &mut End, call: Call) -> u32 {
-    let mut notes = OLD_NOTES;
-    match call {
-        Call::New(me) => ivshm_end_new(alloc, end, &FOUND, 2, me, 256, 1),
-        Call::NewVersion(me, version) => {
-            ivshm_end_new_version(alloc, end, &FOUND, 2, me, 256, 1, version)
-        }
-        Call::Begin(number) => ivshm_end_begin(alloc, end, number),
-        Call::Offer(frame) => ivshm_end_offer(alloc, end, frame),
-        Call::OfferAgain => ivshm_end_offer_again(alloc, end),
-        Call::Took(value) => ivshm_end_took(alloc, end, value, &mut notes),
-        Call::TookReads(words) => ivshm_end_took_reads(alloc, end, words, &mut notes),
-        Call::TookWrites(count) => ivshm_end_took_writes(alloc, end, count),
-        Call::TookBursts => ivshm_end_took_bursts(alloc, end),
-        Call::Reset => ivshm_end_reset(alloc, end),
-        Call::Free => ivshm_end_free(alloc, end),
-    }
-}
-
-/// One act on a handle, or what its end reports.
-#[derive(Clone, Copy)]
-enum Act {
-    /// Makes a call, with this answer.
-    Makes(Call, u32),
-    /// Brings a new end into RUN.
-    Runs,
-    /// Completes this many steps, each with the value 0.
-    Steps(u32),
-    /// Completes a step with this value. It has this number of notes.
-    Notes(u32, u32),
-    /// The next access.
-    Next(Access),
-    /// The next access, a write of this State.
-    NextState(u32),
-    /// Writes the next words into a room of 1s, which has these bytes then, with this answer.
-    Words(&'static [u8], u32),
-    /// Writes the bursts of an offer and their words into the front of a room. A row has the room's
-    /// length, the answer, the bursts, and the 40 bytes that hold the room afterwards.
-    Bursts(usize, u32, Bursts, &'static [u8; 40]),
-    /// The same with the words after the frame.
-    Tail(usize, u32, Bursts, &'static [u8; 40]),
-    /// Completes the writes of an offer up to its index: the length of the room, the answer, and
-    /// what the writes and the 40 bytes that hold the room are then.
-    Publish(usize, u32, Publication, &'static [u8; 40]),
-    /// Completes the read of a field with this value: the answer, and the word and the count of the
-    /// next read then.
-    Field(u32, u32, u32, u32),
-    /// Completes these words of a frame: the answer, and the writes that return it then.
-    Frame(&'static [u8], u32, FrameReturn),
-    /// The outcome of the last offer, and the longest frame that may be offered.
-    View(u32, u32),
-    /// Writes the counts, which are these then, with this answer.
-    Counts(u32, Counts),
-    /// Writes the frame delivered last into a room of four bytes. It has no bytes.
-    NoFrame,
-}
-
-/// Brings a new end into RUN, by the States that its ticks read.
-const RUNS: [Call; 11] = [
-    Call::Took(0),
-    Call::Begin(0),
-    Call::Took(1),
-    Call::Took(0),
-    Call::Begin(0),
-    Call::Took(1),
-    Call::TookWrites(4_096),
-    Call::Took(0),
-    Call::Begin(0),
-    Call::Took(2),
-    Call::Took(0),
-];
-
-/// Makes these calls. Returns whether each is answered with 0.
-#[must_use]
-fn are_done(alloc: Global, end: &mut End, calls: &[Call]) -> bool {
-    for call in calls {
-        if answer(alloc, end, *call) != 0 {
-            return false;
-        }
-    }
-    true
-}
-
-/// Completes this many steps with the value 0. Returns whether each is answered with 0.
-#[must_use]
-fn steps(alloc: Global, end: &mut End, count: u32) -> bool {
-    for _ in 0..count {
-        if answer(alloc, end, Call::Took(0)) != 0 {
-            return false;
-        }
-    }
-    true
-}
-
-/// Completes a step with this value. Returns whether it has this number of notes.
-#[must_use]
-fn has_notes(alloc: Global, end: &mut End, value: u32, count: u32) -> bool {
-    let mut notes = OLD_NOTES;
-    ivshm_end_took(alloc, end, value, &mut notes) == 0 && notes.count == count
-}
-
-/// Whether the next access is this one.
-#[must_use]
-fn is_next(alloc: Global, end: &mut End, access: &Access) -> bool {
-    let mut next = OLD_ACCESS;
-    let answer = ivshm_end_next(alloc, end, &mut next);
-    answer == 0 && numbers(&next) == numbers(access)
-}
-
-/// Returns the fields of an access.
-fn numbers(access: &Access) -> [u32; 7] {
-    [
-        access.kind,
-        access.word,
-        access.value,
-        access.count,
-        access.order,
-        access.fence_before,
-        access.fence_after,
-    ]
-}
-
-/// Returns the write of a State, as an access.
-fn state(value: u32) -> Access {
-    Access {
-        kind: 3,
-        word: 0,
-        value,
-        count: 0,
-        order: 2,
-        fence_before: 0,
-        fence_after: 1,
-    }
-}
-
-/// Writes the next words into a room of 1s. Returns whether it has these bytes then, and the answer
-/// is this one.
-#[must_use]
-fn are_words(alloc: Global, end: &mut End, bytes: &[u8], due: u32) -> bool {
-    let mut room = [1; 8];
-    if bytes.len() > 8 {
-        return false;
-    }
-    let into = &mut room[..bytes.len()];
-    ivshm_end_words(alloc, end, into) == due && &*into == bytes
-}
-
-/// Returns the first words and the lengths of bursts.
-fn places(bursts: &Bursts) -> [u32; 6] {
-    [
-        bursts.frame.word,
-        bursts.frame.count,
-        bursts.descriptor.word,
-        bursts.descriptor.count,
-        bursts.entry.word,
-        bursts.entry.count,
-    ]
-}
-
-/// Writes the bursts of an offer into a room of this length. Returns whether all is as the act
-/// says.
-#[must_use]
-fn are_bursts(
-    alloc: Global,
-    end: &mut End,
-    size: usize,
-    due: u32,
-    bursts: &Bursts,
-    bytes: &[u8; 40],
-) -> bool {
-    let mut room = OLD_ROOM;
-    let mut into = OLD_BURSTS;
-    if size > 40 {
-        return false;
-    }
-    let answer = ivshm_end_bursts(alloc, end, &mut into, &mut room[..size]);
-    answer == due && places(&into) == places(bursts) && room == *bytes
-}
-
-/// Does the same with the words after the frame.
-#[must_use]
-fn is_tail(
-    alloc: Global,
-    end: &mut End,
-    size: usize,
-    due: u32,
-    bursts: &Bursts,
-    bytes: &[u8; 40],
-) -> bool {
-    let mut room = OLD_ROOM;
-    let mut into = OLD_BURSTS;
-    if size > 40 {
-        return false;
-    }
-    let answer = ivshm_end_tail(alloc, end, &mut into, &mut room[..size]);
-    answer == due && places(&into) == places(bursts) && room == *bytes
-}
-
-/// Completes the writes of an offer up to its index. Returns whether all is as the act says.
-#[must_use]
-fn is_published(
-    alloc: Global,
-    end: &mut End,
-    size: usize,
-    due: u32,
-    made: &Publication,
-    bytes: &[u8; 40],
-) -> bool {
-    let mut room = OLD_ROOM;
-    let mut into = OLD_PUBLICATION;
-    if size > 40 {
-        return false;
-    }
-    let answer = ivshm_end_publish(alloc, end, &mut into, &mut room[..size]);
-    let index = into.index == made.index && into.accepted == made.accepted;
-    answer == due && index && places(&into.bursts) == places(&made.bursts) && room == *bytes
-}
-
-/// Completes the read of a field with this value. Returns whether the answer and the next read are
-/// these.
-#[must_use]
-fn is_field(alloc: Global, end: &mut End, value: u32, due: u32, next: [u32; 2]) -> bool {
-    let mut into = OLD_BURST;
-    let answer = ivshm_end_took_field(alloc, end, value, &mut into);
-    answer == due && [into.word, into.count] == next
-}
-
-/// Returns the fields of the writes that return a frame.
-fn writes(made: &FrameReturn) -> [u32; 5] {
-    [
-        made.length,
-        made.element,
-        made.id,
-        made.index,
-        made.returned,
-    ]
-}
-
-/// Completes these words of a frame. Returns whether the answer and the writes are these.
-#[must_use]
-fn is_frame(alloc: Global, end: &mut End, words: &[u8], due: u32, made: &FrameReturn) -> bool {
-    let mut into = OLD_RETURN;
-    ivshm_end_took_frame(alloc, end, words, &mut into) == due && writes(&into) == writes(made)
-}
-
-/// Whether the last offer has this outcome, and this is the longest frame that may be offered.
-#[must_use]
-fn is_viewed(alloc: Global, end: &mut End, outcome: u32, longest: u32) -> bool {
-    let mut view = OLD_VIEW;
-    let answer = ivshm_end_view(alloc, end, &mut view);
-    answer == 0 && view.outcome == outcome && view.longest == longest
-}
-
-/// Returns the fields of counts.
-fn fields(counts: &Counts) -> [u64; 6] {
-    [
-        counts.sessions,
-        counts.accepted,
-        counts.full,
-        counts.down,
-        counts.delivered,
-        counts.refused,
-    ]
-}
-
-/// Writes the counts. Returns whether they are these then, and the answer is this one.
-#[must_use]
-fn are_counts(alloc: Global, end: &mut End, due: u32, counts: &Counts) -> bool {
-    let mut into = OLD_COUNTS;
-    ivshm_end_counts(alloc, end, &mut into) == due && fields(&into) == fields(counts)
-}
-
-/// Whether the frame delivered last has no bytes.
-#[must_use]
-fn has_no_frame(alloc: Global, end: &mut End) -> bool {
-    let mut room = [1; 4];
-    let mut size = 9;
-    ivshm_end_frame(alloc, end, &mut room, &mut size) == 0 && size == 0
-}
-
-/// Makes an act. Returns whether all is as the act says.
-#[must_use]
-fn makes(alloc: Global, end: &mut End, act: &Act) -> bool {
-    match act {
-        Act::Makes(call, due) => answer(alloc, end, *call) == *due,
-        Act::Runs => are_done(alloc, end, &RUNS),
-        Act::Steps(count) => steps(alloc, end, *count),
-        Act::Notes(value, count) => has_notes(alloc, end, *value, *count),
-        Act::Next(access) => is_next(alloc, end, access),
-        Act::NextState(value) => is_next(alloc, end, &state(*value)),
-        Act::Words(bytes, due) => are_words(alloc, end, bytes, *due),
-        Act::Bursts(size, due, bursts, bytes) => are_bursts(alloc, end, *size, *due, bursts, bytes),
-        Act::Tail(size, due, bursts, bytes) => is_tail(alloc, end, *size, *due, bursts, bytes),
-        Act::Publish(size, due, made, bytes) => is_published(alloc, end, *size, *due, made, bytes),
-        Act::Field(value, due, word, count) => is_field(alloc, end, *value, *due, [*word, *count]),
-        Act::Frame(words, due, made) => is_frame(alloc, end, words, *due, made),
-        Act::View(outcome, longest) => is_viewed(alloc, end, *outcome, *longest),
-        Act::Counts(due, counts) => are_counts(alloc, end, *due, counts),
-        Act::NoFrame => has_no_frame(alloc, end),
-    }
-}
-
-/// Makes these acts on a handle.
-fn makes_all(rt: &impl Abort, alloc: Global, end: &mut End, acts: &[Act]) {
-    for (at, act) in acts.iter().enumerate() {
-        assert!(rt; makes(alloc, end, act), "act {at}");
-    }
-}
+use crate::{Access, Burst, Bursts, Counts, End, FrameReturn, Layout, Limits, Publication};
 
 /// The read of the other's State, by peer 0.
 const STATE_READ: Access = Access {
@@ -466,6 +46,38 @@ const FIRST_STEPS: [Act; 12] = [
 fn first_steps(rt: HostRuntime) {
     let mut end = End::empty(rt.alloc());
     makes_all(&rt, rt.alloc(), &mut end, &FIRST_STEPS);
+}
+
+/// The write of State 1.
+const STATE_1: Access = Access {
+    kind: 3,
+    word: 0,
+    value: 1,
+    count: 0,
+    order: 2,
+    fence_before: 0,
+    fence_after: 1,
+};
+
+const BY_ONE_CALL: [Act; 9] = [
+    Act::Step(0, 1, 9, OLD_ACCESS),
+    Act::Makes(Call::New(0), 0),
+    Act::Step(0, 4, 1, OLD_ACCESS),
+    Act::Step(0, 4, 9, OLD_ACCESS),
+    Act::Makes(Call::Begin(0), 0),
+    Act::Step(0, 0, 1, STATE_1),
+    Act::Step(0, 4, 1, OLD_ACCESS),
+    Act::Makes(Call::Free, 0),
+    Act::Step(0, 1, 9, OLD_ACCESS),
+];
+
+/// A new end and its first tick by one call for each step, which writes the next access too. At the
+/// end of a call there is none. No end and no call have their answers.
+// claim ivshm_c.ivshm_end_step.answer
+#[test]
+fn steps_by_one_call(rt: HostRuntime) {
+    let mut end = End::empty(rt.alloc());
+    makes_all(&rt, rt.alloc(), &mut end, &BY_ONE_CALL);
 }
 
 const VERSIONS: [Act; 6] = [
@@ -670,25 +282,25 @@ const PUBLISHED: Counts = Counts {
 };
 
 const UP_TO_THE_INDEX: [Act; 15] = [
-    Act::Publish(24, 1, OLD_PUBLICATION, &OLD_ROOM),
+    Act::Publish(24, 1, OLD_PUBLICATION, &OLD_ROOM, OLD_ACCESS),
     Act::Makes(Call::New(0), 0),
     Act::Runs,
-    Act::Publish(24, 4, OLD_PUBLICATION, &OLD_ROOM),
+    Act::Publish(24, 4, OLD_PUBLICATION, &OLD_ROOM, OLD_ACCESS),
     Act::Makes(Call::Offer(&[7; 14]), 0),
-    Act::Publish(24, 26, OLD_PUBLICATION, &OLD_ROOM),
-    Act::Publish(19, 26, OLD_PUBLICATION, &OLD_ROOM),
+    Act::Publish(24, 26, OLD_PUBLICATION, &OLD_ROOM, OLD_ACCESS),
+    Act::Publish(19, 26, OLD_PUBLICATION, &OLD_ROOM, OLD_ACCESS),
     Act::Makes(Call::Took(0), 0),
-    Act::Publish(19, 9, OLD_PUBLICATION, &OLD_ROOM),
-    Act::Publish(24, 0, PUBLICATION, &TAIL),
+    Act::Publish(19, 9, OLD_PUBLICATION, &OLD_ROOM, OLD_ACCESS),
+    Act::Publish(24, 0, PUBLICATION, &TAIL, DOORBELL),
     Act::View(2, 274),
     Act::Counts(0, PUBLISHED),
-    Act::Next(DOORBELL),
-    Act::Publish(24, 26, OLD_PUBLICATION, &OLD_ROOM),
+    Act::Publish(24, 4, OLD_PUBLICATION, &OLD_ROOM, OLD_ACCESS),
+    Act::Makes(Call::Begin(1), 0),
     Act::Makes(Call::Free, 0),
 ];
 
-/// The same offer is published by one call, and its doorbell is next. No end, no call, another
-/// access and a room that is too short have their answers.
+/// The same offer is published by one call, which completes its doorbell too. No end, no call,
+/// another access and a room that is too short have their answers.
 // claim ivshm_c.ivshm_end_publish.answer
 #[test]
 fn an_offer_up_to_its_index(rt: HostRuntime) {
@@ -705,6 +317,17 @@ const RETURNED: FrameReturn = FrameReturn {
     returned: 65_536,
 };
 
+/// The read of the available entry of the second frame.
+const SECOND_ENTRY: Access = Access {
+    kind: 1,
+    word: 5_377,
+    value: 0,
+    count: 0,
+    order: 0,
+    fence_before: 0,
+    fence_after: 0,
+};
+
 const DELIVERED: Counts = Counts {
     sessions: 1,
     accepted: 0,
@@ -716,12 +339,12 @@ const DELIVERED: Counts = Counts {
 
 const ITEMS: [Act; 28] = [
     Act::Field(0, 1, 9, 9),
-    Act::Frame(&[7; 16], 1, OLD_RETURN),
+    Act::Frame(&[7; 16], 1, OLD_RETURN, OLD_ACCESS),
     Act::Makes(Call::New(0), 0),
     Act::Field(0, 26, 9, 9),
     Act::Runs,
     Act::Field(0, 4, 9, 9),
-    Act::Frame(&[7; 16], 4, OLD_RETURN),
+    Act::Frame(&[7; 16], 4, OLD_RETURN, OLD_ACCESS),
     Act::Makes(Call::Begin(1), 0),
     Act::Field(0, 26, 9, 9),
     Act::Makes(Call::Took(65_536 * 2), 0),
@@ -729,12 +352,12 @@ const ITEMS: [Act; 28] = [
     Act::Field(0, 0, 5_120, 0),
     Act::Field(1_792, 0, 5_121, 0),
     Act::Field(0, 0, 5_122, 0),
-    Act::Frame(&[7; 16], 26, OLD_RETURN),
+    Act::Frame(&[7; 16], 26, OLD_RETURN, OLD_ACCESS),
     Act::Field(14, 0, 5_123, 0),
     Act::Field(0, 0, 5_568, 4),
     Act::Field(0, 26, 9, 9),
-    Act::Frame(&[7; 12], 26, OLD_RETURN),
-    Act::Frame(&[7; 16], 0, RETURNED),
+    Act::Frame(&[7; 12], 26, OLD_RETURN, OLD_ACCESS),
+    Act::Frame(&[7; 16], 0, RETURNED, SECOND_ENTRY),
     Act::Field(0, 0, 5_120, 0),
     Act::Field(1_792, 0, 5_121, 0),
     Act::Field(1, 26, 9, 9),
@@ -754,6 +377,61 @@ const ITEMS: [Act; 28] = [
 fn items_of_a_poll(rt: HostRuntime) {
     let mut end = End::empty(rt.alloc());
     makes_all(&rt, rt.alloc(), &mut end, &ITEMS);
+}
+
+/// The read of the other's event in a link of version 2.
+const EVENT: Access = Access {
+    kind: 1,
+    word: 5_553,
+    value: 0,
+    count: 0,
+    order: 0,
+    fence_before: 1,
+    fence_after: 0,
+};
+
+const NOT_RUNG: [Act; 7] = [
+    Act::Makes(Call::NewVersion(0, 2), 0),
+    Act::Runs,
+    Act::Makes(Call::Offer(&[7; 14]), 0),
+    Act::Makes(Call::Took(0), 0),
+    Act::Publish(24, 0, PUBLICATION, &TAIL, EVENT),
+    Act::Next(EVENT),
+    Act::Makes(Call::Free, 0),
+];
+
+/// In a link of version 2 no doorbell comes after the index: the read of the other's event is next.
+// claim ivshm_c.ivshm_end_publish.answer
+#[test]
+fn an_offer_up_to_its_event(rt: HostRuntime) {
+    let mut end = End::empty(rt.alloc());
+    makes_all(&rt, rt.alloc(), &mut end, &NOT_RUNG);
+}
+
+const LAST_ITEM: [Act; 14] = [
+    Act::Makes(Call::New(0), 0),
+    Act::Runs,
+    Act::Makes(Call::Begin(1), 0),
+    Act::Makes(Call::Took(65_536), 0),
+    Act::Field(0, 0, 5_120, 0),
+    Act::Field(1_792, 0, 5_121, 0),
+    Act::Field(0, 0, 5_122, 0),
+    Act::Field(14, 0, 5_123, 0),
+    Act::Field(0, 0, 5_568, 4),
+    Act::Frame(&[7; 16], 0, RETURNED, DOORBELL),
+    Act::Step(0, 4, 9, OLD_ACCESS),
+    Act::Frame(&[7; 16], 4, OLD_RETURN, OLD_ACCESS),
+    Act::Makes(Call::Begin(0), 0),
+    Act::Makes(Call::Free, 0),
+];
+
+/// The last frame of a poll is returned by one call, which completes the doorbell too: no call is
+/// open then.
+// claim ivshm_c.ivshm_end_took_frame.step
+#[test]
+fn the_last_item_of_a_poll(rt: HostRuntime) {
+    let mut end = End::empty(rt.alloc());
+    makes_all(&rt, rt.alloc(), &mut end, &LAST_ITEM);
 }
 
 const OUTSIDE_RUN: [Act; 16] = [

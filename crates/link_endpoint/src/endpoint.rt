@@ -360,12 +360,13 @@ impl Endpoint {
     ///
     /// Returns `None` and changes nothing if these aren't all words of a frame whose first word is
     /// next.
-    // claim steps, other, phase, unchanged: All words of a frame and the writes that return the
-    //    frame are completed as by single steps, none of which changes the phase. These writes are
-    //    the accesses of the steps, and the index is released. Exactly other words, or another
-    //    access, change nothing.
+    // claim steps, open, other, phase, unchanged: All words of a frame and the writes that return
+    //    the frame are completed as by single steps, none of which changes the phase or ends the
+    //    call. These writes are the accesses of the steps, and the index is released. Exactly other
+    //    words, or another access, change nothing.
     pub fn took_frame(&mut self, words: &[u8]) -> Option<FrameReturn>
         ensures steps { IfSome result (λ made. ReadsAndReturns self.old words.now made self.new) }
+        ensures open { IfSome result (λ made. is_busy self.new ≡ true) }
         ensures other { result ≡ None → (frame_ahead self.old ≡ None) ⊎ (length words.now ≢ 4 * reads_ahead self.old) }
         ensures phase { self.new.phase ≡ self.old.phase }
         ensures unchanged { result ≡ None → self.new ≡ self.old }
@@ -561,13 +562,14 @@ impl Endpoint {
     /// Completes all writes of `bursts` and the write of the available index, which the caller
     /// makes now. Writes into `tail` what `tail_words` does. Equivalent to `took` for each of these
     /// steps. Returns `None` and changes nothing if no word of a frame is written next.
-    // claim steps, sized, other, phase, unchanged: All that an offer writes up to its index is
-    //    completed as by single steps, none of which changes the phase. These writes are the
-    //    accesses of the steps, and the index is released. Exactly if no word of a frame is next,
-    //    nothing changes.
+    // claim steps, open, sized, other, phase, unchanged: All that an offer writes up to its index
+    //    is completed as by single steps, none of which changes the phase or ends the call. These
+    //    writes are the accesses of the steps, and the index is released. Exactly if no word of a
+    //    frame is next, nothing changes.
     pub fn publish(&mut self, tail: &mut [u8]) -> Option<Publication>
         requires { length tail.old ≡ 20 }
         ensures steps { IfSome result (λ made. Publishes self.old tail.new made self.new) }
+        ensures open { IfSome result (λ made. is_busy self.new ≡ true) }
         ensures sized { length tail.new ≡ length tail.old }
         ensures other { result ≡ None → bursts_of self.old ≡ None }
         ensures phase { self.new.phase ≡ self.old.phase }
@@ -703,6 +705,7 @@ impl Endpoint {
     }
 
     /// Completes a step of the sender.
+    #[inline(always)]
     fn took_offer(&mut self, value: u32, notes: &mut Notes)
         requires place { self.old.place ≡ Place.Offering }
         requires empty { notes.old.items ≡ [] }
@@ -719,6 +722,7 @@ impl Endpoint {
     }
 
     /// Completes a step of the receiver.
+    #[inline(always)]
     fn took_poll(&mut self, value: u32, notes: &mut Notes)
         requires place { self.old.place ≡ Place.Polling }
         requires empty { notes.old.items ≡ [] }

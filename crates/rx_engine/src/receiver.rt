@@ -136,6 +136,7 @@ impl Rx {
     /// Returns the next access of the open poll.
     // claim access, reach: The next access is that of the receiver's place in the grammar, and is
     //    permitted.
+    #[inline(always)]
     #[tactic(auto, using(crate::proofs::ModularNumbers::ring_place))]
     pub fn next(&self) -> Access
         requires { is_busy self.now ≡ true }
@@ -201,6 +202,7 @@ impl Rx {
     }
 
     /// Equivalent to `took`, but puts the notes into the caller's list `notes`.
+    #[inline(always)]
     pub fn took_into(&mut self, value: u32, notes: &mut Notes)
         requires open { is_busy self.old ≡ true }
         requires empty { notes.old.items ≡ [] }

@@ -176,6 +176,7 @@ impl Tx {
     //    events the sender reads the other's event after the index.
     // claim reach, lawful: The next access writes the own section, reads the other's, sets State 0
     //    or rings the target, whatever was read before.
+    #[inline(always)]
     pub fn next(&self) -> Access
         requires { is_open self.now.place ≡ true }
         ensures access { (config : EndConfig) (end : End) (place : laws.Place) →
@@ -238,6 +239,7 @@ impl Tx {
     }
 
     /// Equivalent to `took`, but puts the notes into the caller's list `notes`.
+    #[inline(always)]
     pub fn took_into(&mut self, value: u32, notes: &mut Notes)
         requires open { is_open self.old.place ≡ true }
         requires empty { notes.old.items ≡ [] }

@@ -1,5 +1,5 @@
 use Rattle.std.proofs.Common.{sym, ◌∙◌}
-use Rattle.ivshm_c.specs.declared.status.Status.TheVariants.{Done, HasEnd}
+use Rattle.c_status.specs.declared.status.Status.TheVariants.{Done, HasEnd}
 use Rattle.ivshm_c.proofs.AnswerCauses.{holds_one, new_one, none_made}
 use Rattle.ivshm_c.proofs.exports.ivshm_end_new_version.Goals as goal
 

@@ -1,5 +1,5 @@
 use Rattle.ivshm_c.specs.Sizes.{refused}
-use Rattle.ivshm_c.specs.declared.status.Status.TheVariants.{Done}
+use Rattle.c_status.specs.declared.status.Status.TheVariants.{Done}
 use Rattle.ivshm_c.proofs.AnswerCauses.{words_are_those}
 use Rattle.ivshm_c.proofs.tables.ivshm_layout.Goals as goal
 

@@ -1,9 +1,10 @@
 -- The words of bytes.
-use Rattle.std.proofs.Common.{◌≡◌, ℕ, suc, ◌+◌, ◌-◌, ◌*◌, ◌/◌, ◌%◌, ◌<◌, ◌≤◌, List, [], ◌∷◌, ◌++◌, length, take, drop, slice_index, refl, ap, ◌∙◌, arith}
-use Rattle.std.proofs.lemmas.List.{drop-take, take-take}
+use Rattle.std.proofs.Common.{◌≡◌, ℕ, suc, ◌+◌, ◌-◌, ◌*◌, ◌/◌, ◌%◌, ◌<◌, ◌≤◌, List, [], ◌∷◌, ◌++◌, length, take, drop, min, slice_index, inl, inr, refl, ap, sym, ◌∙◌, arith}
+use Rattle.std.proofs.lemmas.Bool.{cases_lt}
+use Rattle.std.proofs.lemmas.List.{drop-take, take-take, take_all, length-take}
 use Rattle.std.specs.List.{flat_map}
 use Rattle.ivs_base.specs.Numbers.{word_of}
-use Rattle.call_grammar.specs.Words.{word_bytes}
+use Rattle.call_grammar.specs.Words.{words_for, word_bytes}
 
 -- Four bytes are the bytes of a word.
 four : (a b c d : ℕ) → a < 256 → b < 256 → c < 256 → d < 256 → a ∷ b ∷ c ∷ d ∷ [] ≡ word_bytes (a + 256 * b + 65536 * c + 16777216 * d)
@@ -36,3 +37,29 @@ front_word bytes n start within =
     let m = n - start in
     let whole : n ≡ start + m = omega arith in
     ap (λ k. take 4 (drop start (take k bytes))) whole ∙ ap (take 4) (drop-take start m bytes) ∙ take-take 4 m (drop start bytes) (omega arith)
+
+-- The first four of the first `m` bytes.
+four_of : (bytes : List ℕ) (m : ℕ) → take (min m 4) bytes ≡ take 4 (take m bytes)
+four_of bytes m =
+    elim (cases_lt m 4) [
+      | inl few ↦
+          let all : min m 4 ≡ m = omega arith in
+          ap (λ n. take n bytes) all ∙ sym (take_all 4 (take m bytes) (omega (arith, length-take m bytes)))
+      | inr many ↦
+          let four : min m 4 ≡ 4 = omega arith in
+          ap (λ n. take n bytes) four ∙ sym (take-take 4 m bytes many)
+    ]
+
+-- The bytes of word `at` of a frame, in bytes of which the first `size` are the frame. At the
+-- frame's end they are fewer than four.
+pub bytes_at : (bytes frame : List ℕ) (size at : ℕ) → take size bytes ≡ frame → at < words_for (length frame) →
+    take (min size (4 * at + 4) - 4 * at) (drop (4 * at) bytes) ≡ take 4 (drop (4 * at) frame)
+bytes_at bytes frame size at frame_is within =
+    let start = 4 * at in
+    let m = size - start in
+    let sized = length-take size bytes in
+    let begun : start ≤ size = omega (arith, ap length frame_is) in
+    let whole : start + m ≡ size = omega arith in
+    let part : min size (start + 4) - start ≡ min m 4 = omega arith in
+    ap (λ n. take n (drop start bytes)) part
+    ∙ (four_of (drop start bytes) m ∙ ap (take 4) (sym (drop-take start m bytes) ∙ ap (λ n. drop start (take n bytes)) whole ∙ ap (drop start) frame_is))

@@ -11,7 +11,6 @@ use Rattle.split_ring.specs.declared.steps.Note.TheVariants as note
 use Rattle.call_grammar.specs.Ends.{End}
 use Rattle.call_grammar.specs.Calls.{EndConfig}
 use Rattle.call_grammar.specs.Places as places
-use Rattle.call_grammar.specs.Permitted.{HasSections}
 use Rattle.call_grammar.specs.Bursts.{StepsThrough, WritesBurst, place_after}
 use Rattle.tx_engine.specs.Sender.{Sender}
 use Rattle.tx_engine.specs.Refinement as tx
@@ -32,7 +31,7 @@ use Rattle.link_endpoint.specs.Refusal.{IsAfterRefusal, StaysRefused}
 use Rattle.link_endpoint.proofs.EndByPlace.{at_place}
 use Rattle.link_endpoint.proofs.ReceiverSteps as receiving
 use Rattle.link_endpoint.proofs.SenderSteps as sending
-use Rattle.link_endpoint.proofs.EngineAfterStep.{KeepsNumbers, config_stays}
+use Rattle.link_endpoint.proofs.EngineAfterStep.{KeepsNumbers, StandsFor, seen_sent, kept_with, kept_received, kept_sent}
 
 -- These notes refuse nothing.
 pub none_refused : (notes : List Note) → (notes ≡ []) ⊎ (notes ≡ note.Deliver ∷ []) → refused_after notes None ≡ None
@@ -98,61 +97,31 @@ keeps_all old new (value ∷ other ∷ values) notes (between, first, rest) =
     record { sizes = more.sizes ∙ one.sizes; own = more.own ∙ one.own; other_start = more.other_start ∙ one.other_start; target = more.target ∙ one.target; vector = more.vector ∙ one.vector }
 
 -- The endpoint refines an end after these steps.
-pub record StandsFor (e : Engine) (config : EndConfig) : Type 0 where
-  pub end : End
-  pub place : places.Place
-  pub refines : RefinesAt e config end place
-
 pub stands_on : (old new : Engine) (values : List ℕ) (notes : List Note) (config : EndConfig) (end : End) (place : places.Place) → StepsThrough IsTaken old values notes new → RefinesAt old config end place → StandsFor new config
 stands_on old new [] notes config end place each refines = record { end = end; place = place; refines = subst (λ e. RefinesAt e config end place) (sym each.1) refines }
 stands_on old new (value ∷ []) notes config end place each refines = record { end = _; place = _; refines = each.takes.refines config end place refines }
 stands_on old new (value ∷ other ∷ values) notes config end place (between, first, rest) refines = stands_on between new (other ∷ values) notes config _ _ rest (first.takes.refines config end place refines)
 
--- The endpoint stays well formed if it refines an end after the receiver's steps.
-pub kept_received : (i : Inside) (next : Receiver) → IsWellFormed i → receiver.KeepsNumbers i.rx next → StandsFor (engine_of (record i { rx = next })) (engine_of i).config → IsWellFormed (record i { rx = next })
-kept_received i next kept keeps later = record {
-  sections = kept.sections;
-  own_room = kept.own_room;
-  their_room = kept.their_room;
-  sender = kept.sender;
-  receiver = record {
-    sizes = kept.receiver.sizes ∙ sym keeps.sizes;
-    own = kept.receiver.own ∙ sym keeps.own;
-    other_start = kept.receiver.other_start ∙ sym keeps.other_start;
-    target = kept.receiver.target ∙ sym keeps.target;
-    vector = kept.receiver.vector ∙ sym keeps.vector;
-  };
-  mark = kept.mark;
-  left = kept.left;
-  end = later.end;
-  at = later.place;
-  refines = later.refines;
-}
+-- The receiver's steps in a poll are steps of the endpoint, which stays well formed.
+pub polled_on : (i : Inside) (next : Receiver) (values : List ℕ) (notes : List Note) → IsWellFormed i → i.place ≡ Polling → StepsThrough rx.StaysOpen i.rx values notes next → refused_after notes None ≡ None →
+    StepsThrough IsTaken (engine_of i) values notes (engine_of (record i { rx = next }))
+polled_on i next values notes kept polls each none = polls_on (engine_of i) values notes next (engine_of i).config kept.end kept.at polls each kept.refines none
 
-pub kept_polled : (i : Inside) (next : Receiver) (values : List ℕ) (notes : List Note) → IsWellFormed i → receiver.KeepsNumbers i.rx next → StepsThrough IsTaken (engine_of i) values notes (engine_of (record i { rx = next })) → IsWellFormed (record i { rx = next })
-kept_polled i next values notes kept keeps each =
-    kept_received i next kept keeps (stands_on (engine_of i) (engine_of (record i { rx = next })) values notes (engine_of i).config kept.end kept.at each kept.refines)
+pub kept_polled : (i : Inside) (next : Receiver) (values : List ℕ) (notes : List Note) → IsWellFormed i → i.place ≡ Polling → StepsThrough rx.StaysOpen i.rx values notes next → refused_after notes None ≡ None → receiver.KeepsNumbers i.rx next →
+    IsWellFormed (record i { rx = next })
+kept_polled i next values notes kept polls each none keeps =
+    let later = stands_on (engine_of i) _ values notes (engine_of i).config kept.end kept.at (polled_on i next values notes kept polls each none) kept.refines in
+    kept_received i i.refused i.place next kept keeps kept.mark kept.left later
 
--- The endpoint stays well formed if it refines an end after the sender's steps.
-pub kept_sent : (i : Inside) (next : Sender) → IsWellFormed i → KeepsNumbers i.tx next → StandsFor (engine_of (record i { tx = next })) (engine_of i).config → IsWellFormed (record i { tx = next })
-kept_sent i next kept keeps later =
-    let new : Inside = record i { tx = next } in
-    record {
-      sections = subst HasSections (config_stays i next keeps) kept.sections;
-      own_room = rw keeps.sizes kept.own_room;
-      their_room = rw (keeps.sizes, keeps.other_start) kept.their_room;
-      sender = record { sizes = refl; own = kept.sender.own ∙ sym keeps.own; other_start = refl; target = kept.sender.target ∙ sym keeps.target; vector = refl };
-      receiver = subst (rx.IsMadeFor i.rx) (config_stays i next keeps) kept.receiver;
-      mark = kept.mark;
-      left = kept.left;
-      end = later.end;
-      at = later.place;
-      refines = subst (λ w. RefinesAt (engine_of new) w later.end later.place) (config_stays i next keeps) later.refines;
-    }
+-- The sender's steps in an offer are steps of the endpoint, which stays well formed.
+pub sent_on : (i : Inside) (next : Sender) (values : List ℕ) → IsWellFormed i → i.place ≡ Offering → StepsThrough tx.StaysOpen i.tx values [] next → StepsThrough IsTaken (engine_of i) values [] (engine_of (record i { tx = next }))
+sent_on i next values kept offers each =
+    subst (λ e. StepsThrough IsTaken (engine_of i) values [] e) (seen_sent i next i.refused i.place (keeps_all i.tx next values [] each)) (offers_on (engine_of i) values next (engine_of i).config kept.end kept.at offers each kept.refines)
 
-pub kept_offered : (i : Inside) (next : Sender) (values : List ℕ) (notes : List Note) → IsWellFormed i → KeepsNumbers i.tx next → StepsThrough IsTaken (engine_of i) values notes (engine_of (record i { tx = next })) → IsWellFormed (record i { tx = next })
-kept_offered i next values notes kept keeps each =
-    kept_sent i next kept keeps (stands_on (engine_of i) (engine_of (record i { tx = next })) values notes (engine_of i).config kept.end kept.at each kept.refines)
+pub kept_offered : (i : Inside) (next : Sender) (values : List ℕ) → IsWellFormed i → i.place ≡ Offering → StepsThrough tx.StaysOpen i.tx values [] next → IsWellFormed (record i { tx = next })
+kept_offered i next values kept offers each =
+    let later = stands_on (engine_of i) _ values [] (engine_of i).config kept.end kept.at (sent_on i next values kept offers each) kept.refines in
+    kept_sent i i.refused i.place next kept (keeps_all i.tx next values [] each) kept.mark kept.left later
 
 -- Writes of 0 to own words.
 
@@ -221,19 +190,8 @@ clears_some old at state count place values clears some within count_is word beh
 
 pub kept_placed : (i : Inside) (place : Place) (at then : ℕ) (values : List ℕ) (notes : List Note) → IsWellFormed i → i.place ≡ Clearing at then → StepsThrough IsTaken (engine_of i) values notes (engine_of (record i { place = place })) → IsWellFormed (record i { place = place })
 kept_placed i place at then values notes kept clears each =
-    let later = stands_on (engine_of i) (engine_of (record i { place = place })) values notes (engine_of i).config kept.end kept.at each kept.refines in
-    record {
-      sections = kept.sections;
-      own_room = kept.own_room;
-      their_room = kept.their_room;
-      sender = kept.sender;
-      receiver = kept.receiver;
-      mark = λ other. kept.mark (λ refuses. grind (arith, common_steps));
-      left = λ is. absurd (subst (λ p. IsAfterRefusal p i.handshake.phase) clears (kept.left is));
-      end = later.end;
-      at = later.place;
-      refines = later.refines;
-    }
+    kept_with i i.handshake i.refused place i.rx kept kept.receiver (λ other. kept.mark (λ refuses. grind (arith, common_steps))) (λ is. absurd (subst (λ p. IsAfterRefusal p i.handshake.phase) clears (kept.left is)))
+    (stands_on (engine_of i) (engine_of (record i { place = place })) values notes (engine_of i).config kept.end kept.at each kept.refines)
 
 -- A list of `count` values exists.
 pub some_values : (count : ℕ) → (values : List ℕ) × (length values ≡ count)

@@ -15,68 +15,12 @@ use Rattle.link_endpoint.specs.Refinement.{RefinesAt}
 use Rattle.link_endpoint.specs.Runs.{TakesStep, TakesSteps, end_after_all, EndpointsMakeCalls}
 use Rattle.link_endpoint.proofs.EndByPlace.{closed_at}
 
--- A step ignores a value that isn't the result of a read.
-step_given : (config : EndConfig) (place : places.Place) (value : ℕ) → places.step_at config place (value_given (places.access_at config place) value) ≡ places.step_at config place value
-step_given config places.Closed value = refl
-step_given config (places.ReadingOtherState handshake) value = refl
-step_given config (places.Clearing at more state) value = refl
-step_given config (places.WritingState state) value = refl
-step_given config places.Refusing value = refl
-step_given config places.NotInRun value = refl
-step_given config (places.ReadingUsedIndex pending freed) value = refl
-step_given config (places.ReadingUsedId pending freed more) value = refl
-step_given config (places.WritingFrameWord pending at more) value = refl
-step_given config (places.WritingDescAddressLow pending) value = refl
-step_given config (places.WritingDescAddressHigh pending) value = refl
-step_given config (places.WritingDescLength pending) value = refl
-step_given config (places.WritingDescFlags pending) value = refl
-step_given config (places.WritingAvailEntry pending) value = refl
-step_given config (places.WritingAvailIndex pending) value = refl
-step_given config (places.ReadingAvailEvent number) value = refl
-step_given config places.RingingOffer value = refl
-step_given config (places.ReadingAvailIndex taken last) value = refl
-step_given config (places.WritingAvailEvent taken) value = refl
-step_given config (places.ReadingAvailEntry number more) value = refl
-step_given config (places.ReadingDescAddressLow number more entry) value = refl
-step_given config (places.ReadingDescAddressHigh number more entry low) value = refl
-step_given config (places.ReadingDescLength number more entry address) value = refl
-step_given config (places.ReadingDescFlags number more entry address bytes) value = refl
-step_given config (places.ReadingFrameWord number more entry address bytes read words) value = refl
-step_given config (places.WritingUsedId number more entry) value = refl
-step_given config (places.WritingUsedLength number more) value = refl
-step_given config (places.WritingUsedIndex number more) value = refl
-step_given config places.RingingPoll value = refl
-
-next_given : (config : EndConfig) (place : places.Place) (value : ℕ) → places.next_place config place (value_given (places.access_at config place) value) ≡ places.next_place config place value
-next_given config places.Closed value = refl
-next_given config (places.ReadingOtherState handshake) value = refl
-next_given config (places.Clearing at more state) value = refl
-next_given config (places.WritingState state) value = refl
-next_given config places.Refusing value = refl
-next_given config places.NotInRun value = refl
-next_given config (places.ReadingUsedIndex pending freed) value = refl
-next_given config (places.ReadingUsedId pending freed more) value = refl
-next_given config (places.WritingFrameWord pending at more) value = refl
-next_given config (places.WritingDescAddressLow pending) value = refl
-next_given config (places.WritingDescAddressHigh pending) value = refl
-next_given config (places.WritingDescLength pending) value = refl
-next_given config (places.WritingDescFlags pending) value = refl
-next_given config (places.WritingAvailEntry pending) value = refl
-next_given config (places.WritingAvailIndex pending) value = refl
-next_given config (places.ReadingAvailEvent number) value = refl
-next_given config places.RingingOffer value = refl
-next_given config (places.ReadingAvailIndex taken last) value = refl
-next_given config (places.WritingAvailEvent taken) value = refl
-next_given config (places.ReadingAvailEntry number more) value = refl
-next_given config (places.ReadingDescAddressLow number more entry) value = refl
-next_given config (places.ReadingDescAddressHigh number more entry low) value = refl
-next_given config (places.ReadingDescLength number more entry address) value = refl
-next_given config (places.ReadingDescFlags number more entry address bytes) value = refl
-next_given config (places.ReadingFrameWord number more entry address bytes read words) value = refl
-next_given config (places.WritingUsedId number more entry) value = refl
-next_given config (places.WritingUsedLength number more) value = refl
-next_given config (places.WritingUsedIndex number more) value = refl
-next_given config places.RingingPoll value = refl
+-- A step and the place after it ignore a value that isn't the result of a read.
+ignored : (config : EndConfig) (place : places.Place) (value : ℕ) →
+    (places.step_at config place (value_given (places.access_at config place) value) ≡ places.step_at config place value) ×
+    (places.next_place config place (value_given (places.access_at config place) value) ≡ places.next_place config place value)
+ignored config places.Closed value = (refl, refl)
+ignored config _ value = (refl, refl)
 
 -- A busy endpoint is at a place of an open call.
 busy_open : (e : Engine) (config : EndConfig) (end : End) (place : places.Place) → RefinesAt e config end place → is_busy e ≡ places.is_open place
@@ -104,8 +48,8 @@ step_is old new step config end place refines takes =
       open_here = sym (busy_open old config end place refines) ∙ takes.busy;
       value = takes.handed;
       step_is = is;
-      value_is = ap (places.next_place config place) given ∙ next_given config place takes.handed;
-      same = ap (places.step_at config place) given ∙ step_given config place takes.handed;
+      value_is = ap (places.next_place config place) given ∙ (ignored config place takes.handed).1;
+      same = ap (places.step_at config place) given ∙ (ignored config place takes.handed).0;
       refines = subst (λ s. RefinesAt new config (end_after end s) (places.next_place config place takes.handed)) (sym is) (takes.takes.refines config end place refines);
     }
 

@@ -3,6 +3,7 @@ use Rattle.std.proofs.Common.{◌≡◌, ◌≢◌, ℕ, true, Option, List, ref
 use Rattle.std.proofs.lemmas.Grind.{common_steps}
 use Rattle.std.specs.Prelude.{is_some}
 use Rattle.split_ring.specs.declared.ranges.Refused.{Refused}
+use Rattle.link_handshake.specs.HandshakeState.{HandshakeState}
 use Rattle.tx_engine.specs.Sender.{Sender}
 use Rattle.rx_engine.specs.Receiver.{Receiver}
 use Rattle.rx_engine.specs.Receiver as receiver
@@ -35,14 +36,57 @@ pub seen_sent : (i : Inside) (next : Sender) (refused : Option Refused) (place :
     record (engine_of i) { refused = refused; place = place; sender = next } ≡ engine_of (record i { refused = refused; place = place; tx = next })
 seen_sent i next refused place keeps = ap (λ (w : EndConfig). let e : Engine = record { config = w; phase = i.handshake.phase; refused = refused; place = place; sender = next; receiver = i.rx } in e) (config_stays i next keeps)
 
--- The endpoint stays well formed if the sender's step is a step of the grammar.
-pub kept_sent : (i : Inside) (next : Sender) (refused : Option Refused) (place : Place) (value : ℕ) (notes : List Note) → IsWellFormed i → KeepsNumbers i.tx next →
-    (place ≢ Refusing → i.handshake.mark ≡ is_some refused) → (is_some refused ≡ true → IsAfterRefusal place i.handshake.phase) → Takes (engine_of i) value notes (engine_of (record i { refused = refused; place = place; tx = next })) →
-    IsWellFormed (record i { refused = refused; place = place; tx = next })
-kept_sent i next refused place value notes kept keeps mark left takes =
+-- The endpoint refines an end.
+pub record StandsFor (e : Engine) (config : EndConfig) : Type 0 where
+  pub end : End
+  pub place : places.Place
+  pub refines : RefinesAt e config end place
+
+-- It does after a step of the grammar.
+pub stands : (i : Inside) (new : Engine) (value : ℕ) (notes : List Note) → IsWellFormed i → Takes (engine_of i) value notes new → StandsFor new (engine_of i).config
+stands i new value notes kept takes = record {
+  end = end_after kept.end (places.step_at (engine_of i).config kept.at value);
+  place = places.next_place (engine_of i).config kept.at value;
+  refines = takes.refines (engine_of i).config kept.end kept.at kept.refines;
+}
+
+-- An endpoint with the same sender stays well formed if it refines an end.
+pub kept_with : (i : Inside) (handshake : HandshakeState) (refused : Option Refused) (place : Place) (next : Receiver) → IsWellFormed i → rx.IsMadeFor next (engine_of i).config →
+    (place ≢ Refusing → handshake.mark ≡ is_some refused) → (is_some refused ≡ true → IsAfterRefusal place handshake.phase) →
+    StandsFor (engine_of (record i { handshake = handshake; refused = refused; place = place; rx = next })) (engine_of i).config → IsWellFormed (record i { handshake = handshake; refused = refused; place = place; rx = next })
+kept_with i handshake refused place next kept made mark left later = record {
+  sections = kept.sections;
+  own_room = kept.own_room;
+  their_room = kept.their_room;
+  sender = kept.sender;
+  receiver = made;
+  mark = mark;
+  left = left;
+  end = later.end;
+  at = later.place;
+  refines = later.refines;
+}
+
+-- The same after steps of the receiver.
+pub kept_received : (i : Inside) (refused : Option Refused) (place : Place) (next : Receiver) → IsWellFormed i → receiver.KeepsNumbers i.rx next →
+    (place ≢ Refusing → i.handshake.mark ≡ is_some refused) → (is_some refused ≡ true → IsAfterRefusal place i.handshake.phase) →
+    StandsFor (engine_of (record i { refused = refused; place = place; rx = next })) (engine_of i).config → IsWellFormed (record i { refused = refused; place = place; rx = next })
+kept_received i refused place next kept keeps mark left later =
+    let made : rx.IsMadeFor next (engine_of i).config = record {
+      sizes = kept.receiver.sizes ∙ sym keeps.sizes;
+      own = kept.receiver.own ∙ sym keeps.own;
+      other_start = kept.receiver.other_start ∙ sym keeps.other_start;
+      target = kept.receiver.target ∙ sym keeps.target;
+      vector = kept.receiver.vector ∙ sym keeps.vector;
+    } in
+    kept_with i i.handshake refused place next kept made mark left later
+
+-- The same after steps of the sender, with the same receiver.
+pub kept_sent : (i : Inside) (refused : Option Refused) (place : Place) (next : Sender) → IsWellFormed i → KeepsNumbers i.tx next →
+    (place ≢ Refusing → i.handshake.mark ≡ is_some refused) → (is_some refused ≡ true → IsAfterRefusal place i.handshake.phase) →
+    StandsFor (engine_of (record i { refused = refused; place = place; tx = next })) (engine_of i).config → IsWellFormed (record i { refused = refused; place = place; tx = next })
+kept_sent i refused place next kept keeps mark left later =
     let new : Inside = record i { refused = refused; place = place; tx = next } in
-    let end : End = end_after kept.end (places.step_at (engine_of i).config kept.at value) in
-    let at : places.Place = places.next_place (engine_of i).config kept.at value in
     record {
       sections = subst HasSections (config_stays i next keeps) kept.sections;
       own_room = rw keeps.sizes kept.own_room;
@@ -51,29 +95,7 @@ kept_sent i next refused place value notes kept keeps mark left takes =
       receiver = subst (rx.IsMadeFor i.rx) (config_stays i next keeps) kept.receiver;
       mark = mark;
       left = left;
-      end = end;
-      at = at;
-      refines = subst (λ w. RefinesAt (engine_of new) w end at) (config_stays i next keeps) (takes.refines (engine_of i).config kept.end kept.at kept.refines);
+      end = later.end;
+      at = later.place;
+      refines = subst (λ w. RefinesAt (engine_of new) w later.end later.place) (config_stays i next keeps) later.refines;
     }
-
-pub kept_received : (i : Inside) (next : Receiver) (refused : Option Refused) (place : Place) (value : ℕ) (notes : List Note) → IsWellFormed i → receiver.KeepsNumbers i.rx next →
-    (place ≢ Refusing → i.handshake.mark ≡ is_some refused) → (is_some refused ≡ true → IsAfterRefusal place i.handshake.phase) → Takes (engine_of i) value notes (engine_of (record i { refused = refused; place = place; rx = next })) →
-    IsWellFormed (record i { refused = refused; place = place; rx = next })
-kept_received i next refused place value notes kept keeps mark left takes = record {
-  sections = kept.sections;
-  own_room = kept.own_room;
-  their_room = kept.their_room;
-  sender = kept.sender;
-  receiver = record {
-    sizes = kept.receiver.sizes ∙ sym keeps.sizes;
-    own = kept.receiver.own ∙ sym keeps.own;
-    other_start = kept.receiver.other_start ∙ sym keeps.other_start;
-    target = kept.receiver.target ∙ sym keeps.target;
-    vector = kept.receiver.vector ∙ sym keeps.vector;
-  };
-  mark = mark;
-  left = left;
-  end = end_after kept.end (places.step_at (engine_of i).config kept.at value);
-  at = places.next_place (engine_of i).config kept.at value;
-  refines = takes.refines (engine_of i).config kept.end kept.at kept.refines;
-}

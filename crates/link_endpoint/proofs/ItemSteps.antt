@@ -23,7 +23,8 @@ use Rattle.link_endpoint.specs.Items.{ReadsNext, RefusesNext, ReadsAndReturns}
 use Rattle.link_endpoint.proofs.EndByPlace.{at_place}
 use Rattle.link_endpoint.proofs.OfferAndPollSteps.{poll_at}
 use Rattle.link_endpoint.proofs.AccessOrders.{poll_order}
-use Rattle.link_endpoint.proofs.BurstsOfSteps.{StandsFor, polls_on, stands_on}
+use Rattle.link_endpoint.proofs.EngineAfterStep.{StandsFor}
+use Rattle.link_endpoint.proofs.BurstsOfSteps.{polls_on, stands_on}
 
 -- What holds of a result follows from what holds of it.
 pub if_some : {A : Type 0} (result : Option A) (Holds Follows : A → Type 0) → ((value : A) → Holds value → Follows value) → IfSome result Holds → IfSome result Follows

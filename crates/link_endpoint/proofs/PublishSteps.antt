@@ -24,8 +24,8 @@ use Rattle.link_endpoint.specs.Publishing.{Publishes}
 use Rattle.link_endpoint.proofs.EndByPlace.{at_place}
 use Rattle.link_endpoint.proofs.OfferAndPollSteps.{offer_at}
 use Rattle.link_endpoint.proofs.AccessOrders.{offer_order}
-use Rattle.link_endpoint.proofs.EngineAfterStep.{KeepsNumbers, seen_sent}
-use Rattle.link_endpoint.proofs.BurstsOfSteps.{StandsFor, offers_on, offers_noted, stands_on, kept_sent, keeps_one, keeps_all, some_values}
+use Rattle.link_endpoint.proofs.EngineAfterStep.{KeepsNumbers, StandsFor, seen_sent, kept_sent}
+use Rattle.link_endpoint.proofs.BurstsOfSteps.{offers_on, offers_noted, stands_on, keeps_one, keeps_all, some_values}
 
 pub publishes : (old : Engine) (tail : List ℕ) (made : Publication) (next : Sender) (config : EndConfig) (end : End) (place : places.Place) → old.place ≡ Offering →
     RefinesAt old config end place → sender.Publishes old.sender tail made next →
@@ -65,4 +65,4 @@ sent i next tail made kept offers all =
     let keeps = publishing_keeps i.tx next tail made all in
     let seen = seen_sent i next i.refused i.place keeps in
     let both = publishes (engine_of i) tail made next (engine_of i).config kept.end kept.at offers kept.refines all in
-    (subst (λ e. Publishes (engine_of i) tail made e) seen both.0, kept_sent i next kept keeps (subst (λ e. StandsFor e (engine_of i).config) seen both.1))
+    (subst (λ e. Publishes (engine_of i) tail made e) seen both.0, kept_sent i i.refused i.place next kept keeps kept.mark kept.left (subst (λ e. StandsFor e (engine_of i).config) seen both.1))

@@ -7,7 +7,7 @@ ghost use Rattle.call_grammar.specs.Places as places;
 ghost use Rattle.call_grammar.specs.Permitted.{IsPermittedAccess};
 ghost use Rattle.call_grammar.specs.Ticks.{other_state};
 ghost use Rattle.call_grammar.specs.Bursts.{StepsThrough, ReadsBurst, WritesBurst};
-ghost use Rattle.call_grammar.specs.Words.{word_bytes};
+ghost use Rattle.call_grammar.specs.Words.{word_bytes, words_for};
 ghost use Rattle.call_grammar.specs.StepBounds.{HasFewInFlight};
 ghost use Rattle.tx_engine.specs.Ahead.{words_of, listed, last_words, WritesAll};
 ghost use Rattle.link_endpoint.specs.Engine.{config_of, fresh_engine, engine_after_reset, is_busy, is_down, is_refusing, is_reading_state, is_tick, offered, delivered, call_of, begins_down, refused_after, reads_ahead, frame_ahead, writes_ahead, bursts_of};
@@ -360,12 +360,14 @@ impl Endpoint {
     ///
     /// Returns `None` and changes nothing if these aren't all words of a frame whose first word is
     /// next.
-    // claim steps, open, other, phase, unchanged: All words of a frame and the writes that return
-    //    the frame are completed as by single steps, none of which changes the phase or ends the
-    //    call. These writes are the accesses of the steps, and the index is released. Exactly other
-    //    words, or another access, change nothing.
+    // claim steps, sized, open, other, phase, unchanged: All words of a frame and the writes that
+    //    return the frame are completed as by single steps, none of which changes the phase or
+    //    ends the call. These writes are the accesses of the steps, and the index is released. The
+    //    length returned has that number of words. Exactly other words, or another access, change
+    //    nothing.
     pub fn took_frame(&mut self, words: &[u8]) -> Option<FrameReturn>
         ensures steps { IfSome result (λ made. ReadsAndReturns self.old words.now made self.new) }
+        ensures sized { IfSome result (λ made. length words.now ≡ 4 * words_for made.length) }
         ensures open { IfSome result (λ made. is_busy self.new ≡ true) }
         ensures other { result ≡ None → (frame_ahead self.old ≡ None) ⊎ (length words.now ≢ 4 * reads_ahead self.old) }
         ensures phase { self.new.phase ≡ self.old.phase }

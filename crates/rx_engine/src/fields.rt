@@ -1,10 +1,8 @@
 //! The steps of `Rx::took_field`, one function for each field of an item.
-ghost use Rattle.std.specs.Prelude.{◌≡◌, ◌+◌, ◌<◌, [], None, IfSome};
+ghost use Rattle.std.specs.Prelude.{◌≡◌, ◌+◌, ◌<◌};
 ghost use Rattle.split_ring.specs.Layout.{word_offset, DescAddress};
 ghost use Rattle.split_ring.specs.Ranges.{IsAvailEntry};
-ghost use Rattle.rx_engine.specs.Receiver.{reads_ahead, KeepsNumbers};
-ghost use Rattle.rx_engine.specs.Refinement.{StaysOpen};
-ghost use Rattle.rx_engine.specs.Items.{ReadsNext, RefusesNext};
+ghost use Rattle.rx_engine.specs.Items.{PassesRead};
 
 use crate::Rx;
 use crate::ahead::NextRead;
@@ -28,12 +26,7 @@ impl Rx {
     /// Completes the read of an item's available entry, if it passes its check.
     pub(crate) fn passed_entry(&mut self, more: u32, value: u32) -> Option<NextRead>
         requires place { self.old.place ≡ Place.ReadingAvailEntry more }
-        ensures step { IfSome result (λ next. StaysOpen self.old value [] self.new) }
-        ensures access { IfSome result (λ next. ReadsNext self.new next.word) }
-        ensures count { IfSome result (λ next. next.count ≡ reads_ahead self.new.place) }
-        ensures refused { result ≡ None → RefusesNext self.old value }
-        ensures unchanged { result ≡ None → self.new ≡ self.old }
-        ensures kept { KeepsNumbers self.old self.new }
+        ensures { PassesRead self.old value result self.new }
     {
         match self.queue.check_entry(entry_half(self.returned, value)) {
             Err(_) => None,
@@ -48,12 +41,7 @@ impl Rx {
     pub(crate) fn passed_low(&mut self, more: u32, entry: u32, value: u32) -> Option<NextRead>
         requires place { self.old.place ≡ Place.ReadingDescAddressLow more entry }
         requires entry { IsAvailEntry self.old.sizes entry }
-        ensures step { IfSome result (λ next. StaysOpen self.old value [] self.new) }
-        ensures access { IfSome result (λ next. ReadsNext self.new next.word) }
-        ensures count { IfSome result (λ next. next.count ≡ reads_ahead self.new.place) }
-        ensures refused { result ≡ None → RefusesNext self.old value }
-        ensures unchanged { result ≡ None → self.new ≡ self.old }
-        ensures kept { KeepsNumbers self.old self.new }
+        ensures { PassesRead self.old value result self.new }
     {
         self.go_on(Place::ReadingDescAddressHigh {
             more,
@@ -72,12 +60,7 @@ impl Rx {
         value: u32,
     ) -> Option<NextRead>
         requires place { self.old.place ≡ Place.ReadingDescAddressHigh more entry low }
-        ensures step { IfSome result (λ next. StaysOpen self.old value [] self.new) }
-        ensures access { IfSome result (λ next. ReadsNext self.new next.word) }
-        ensures count { IfSome result (λ next. next.count ≡ reads_ahead self.new.place) }
-        ensures refused { result ≡ None → RefusesNext self.old value }
-        ensures unchanged { result ≡ None → self.new ≡ self.old }
-        ensures kept { KeepsNumbers self.old self.new }
+        ensures { PassesRead self.old value result self.new }
     {
         let whole = u64::from(low) + (u64::from(value) << 32);
         match self.queue.check_address(whole) {
@@ -102,12 +85,7 @@ impl Rx {
         value: u32,
     ) -> Option<NextRead>
         requires place { self.old.place ≡ Place.ReadingDescLength more entry address }
-        ensures step { IfSome result (λ next. StaysOpen self.old value [] self.new) }
-        ensures access { IfSome result (λ next. ReadsNext self.new next.word) }
-        ensures count { IfSome result (λ next. next.count ≡ reads_ahead self.new.place) }
-        ensures refused { result ≡ None → RefusesNext self.old value }
-        ensures unchanged { result ≡ None → self.new ≡ self.old }
-        ensures kept { KeepsNumbers self.old self.new }
+        ensures { PassesRead self.old value result self.new }
     {
         let Ok(bytes) = self.queue.check_length(address, value) else {
             return None;
@@ -131,12 +109,7 @@ impl Rx {
         value: u32,
     ) -> Option<NextRead>
         requires place { self.old.place ≡ Place.ReadingDescFlags more entry address bytes }
-        ensures step { IfSome result (λ next. StaysOpen self.old value [] self.new) }
-        ensures access { IfSome result (λ next. ReadsNext self.new next.word) }
-        ensures count { IfSome result (λ next. next.count ≡ reads_ahead self.new.place) }
-        ensures refused { result ≡ None → RefusesNext self.old value }
-        ensures unchanged { result ≡ None → self.new ≡ self.old }
-        ensures kept { KeepsNumbers self.old self.new }
+        ensures { PassesRead self.old value result self.new }
     {
         match self.queue.check_flags(desc_flags(value)) {
             Err(_) => None,

@@ -24,7 +24,7 @@ use Rattle.sampling_port.specs.Schedule.{PortCall, Publish, Sample, Event, CallQ
 use Rattle.sampling_port.specs.EventRecords.{Line, lines_by, lines_of, access_lines, mark_lines, step_lines}
 use Rattle.sampling_port.specs.History.{PeerState, HistoryState, opening, opened_by, opened, met_by, poked_step, step_in, peer_state_in, entry_of, after_event, run, initial_state, history_state_after, history}
 use Rattle.sampling_port.specs.Simulator.{peer_state_of, WorldStateAfter, IsPermittedCall, IsPermittedEvent, RunsTo, Happens, AreAtStart, IsReady}
-use Rattle.sampling_port.proofs.PortInvariant.{port_kept}
+use Rattle.sampling_port.proofs.PortInvariant.{moved, port_kept}
 use Rattle.section_map.specs.Geometry.{Shape}
 use Rattle.split_ring.specs.declared.steps.Access.{Access}
 use Rattle.split_ring.specs.declared.steps.Access.TheVariants as access
@@ -103,28 +103,8 @@ asked_kept world me n peer_state call kept given =
     record { port = kept.port; shape = kept.shape; me_is = kept.me_is; most = kept.most; waiting = given-snoc (IsPermittedCall world) peer_state.waiting call kept.waiting given; few = omega arith }
 
 open_port : (world : World) (port : PortView) (call : PortCall) → IsPort port → port.shape ≡ world.geometry → port.most ≡ world.most → IsPermittedCall world call → port.published + 1 < 2 ^ 32 → IsPort (opening port call)
-open_port world port (Publish message) is shape most given number = record {
-  shaped = is.shaped;
-  few = is.few;
-  me = is.me;
-  size = is.size;
-  room = is.room;
-  lasts = is.lasts;
-  hand = omega (arith, given.1);
-  message = is.message;
-  place = (given.0, number);
-}
-open_port world port (Sample from) is shape most given number = record {
-  shaped = is.shaped;
-  few = is.few;
-  me = is.me;
-  size = is.size;
-  room = is.room;
-  lasts = is.lasts;
-  hand = is.hand;
-  message = is.message;
-  place = rw shape given;
-}
+open_port world port (Publish message) is shape most given number = moved port place.WritingLength message is (omega (arith, given.1)) (given.0, number)
+open_port world port (Sample from) is shape most given number = moved port (place.AtSequence from) port.hand is is.hand (rw shape given)
 
 pub opened_kept : (world : World) (me n : ℕ) (peer_state : PeerState) (b : Bool) (waiting : List PortCall) → is_busy peer_state.port ≡ b → peer_state.waiting ≡ waiting → n < 4000001 → Kept world me n peer_state → Kept world me n (opened_by peer_state b waiting)
 opened_kept world me n peer_state true waiting busy all small kept = kept

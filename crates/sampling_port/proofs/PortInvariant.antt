@@ -1,6 +1,6 @@
 -- The invariant of every port, step by step.
 use Rattle.std.proofs.Common.{◌≡◌, ℕ, zero, suc, ◌+◌, ◌*◌, ◌^◌, ◌<◌, ◌≤◌, Bool, true, false, List, [], ◌++◌, length, take, arith, refl, ◌∙◌, length-set}
-use Rattle.std.specs.Prelude.{if◌then◌else◌}
+use Rattle.std.specs.Prelude.{if◌then◌else◌, slice_set}
 use Rattle.std.proofs.lemmas.Bool.Decides.{nat_tests}
 use Rattle.std.proofs.lemmas.List.{length-take, length-append}
 use Rattle.call_grammar.specs.Words.{words_for, word_bytes}
@@ -9,19 +9,24 @@ use Rattle.sampling_port.specs.declared.place.Place.TheVariants as place
 use Rattle.sampling_port.specs.Calls.{is_length}
 use Rattle.sampling_port.specs.Views.{PortView, IsPort, IsPlace, writing_place, reading_place, closed, got, port_after}
 
--- A port at another place, with other bytes in hand.
-moved : (port : PortView) (at : Place) (hand : List ℕ) → IsPort port → length hand ≤ port.most → IsPlace (record port { place = at; hand = hand }) at → IsPort (record port { place = at; hand = hand })
-moved port at hand is few there = record {
+-- A port with these counts, place and bytes.
+changed : (port : PortView) (published : ℕ) (lasts : List ℕ) (at : Place) (hand message : List ℕ) → IsPort port → length lasts ≡ length port.lasts → length hand ≤ port.most → length message ≤ port.most →
+    IsPlace (record port { published = published; lasts = lasts; place = at; hand = hand; message = message }) at → IsPort (record port { published = published; lasts = lasts; place = at; hand = hand; message = message })
+changed port published lasts at hand message is count few short there = record {
   shaped = is.shaped;
   few = is.few;
   me = is.me;
   size = is.size;
   room = is.room;
-  lasts = is.lasts;
+  lasts = count ∙ is.lasts;
   hand = few;
-  message = is.message;
+  message = short;
   place = there;
 }
+
+-- A port at another place, with other bytes in hand.
+pub moved : (port : PortView) (at : Place) (hand : List ℕ) → IsPort port → length hand ≤ port.most → IsPlace (record port { place = at; hand = hand }) at → IsPort (record port { place = at; hand = hand })
+moved port at hand is few there = changed port _ _ at hand _ is refl few is.message there
 
 writing : (port : PortView) (at count : ℕ) → IsPort port → at + count ≡ words_for (length port.hand) → port.published + 1 < 2 ^ 32 → IsPort (record port { place = writing_place at count })
 writing port at zero is all number = moved port place.WritingSequence port.hand is is.hand number
@@ -52,17 +57,7 @@ length_kept port from sequence value true ok is there =
 length_kept port from sequence value false ok is there = closed_kept port is
 
 second_kept : (port : PortView) (from sequence : ℕ) (b : Bool) → IsPort port → IsPort (if b then got port from sequence else closed port)
-second_kept port from sequence true is = record {
-  shaped = is.shaped;
-  few = is.few;
-  me = is.me;
-  size = is.size;
-  room = is.room;
-  lasts = length-set port.lasts from sequence ∙ is.lasts;
-  hand = omega arith;
-  message = is.hand;
-  place = tt;
-}
+second_kept port from sequence true is = changed port _ (slice_set port.lasts from sequence) place.Closed [] port.hand is (length-set port.lasts from sequence) (omega arith) is.hand tt
 second_kept port from sequence false is = closed_kept port is
 
 four : (value : ℕ) → length (word_bytes value) ≡ 4
@@ -73,17 +68,7 @@ pub port_kept : (port : PortView) (p : Place) (value : ℕ) → port.place ≡ p
 port_kept port place.Closed value at is there = is
 port_kept port place.WritingLength value at is there = writing port 0 (words_for (length port.hand)) is (omega arith) there.1
 port_kept port (place.WritingWord more rest) value at is there = writing port (more + 1) rest is (omega (arith, there.0)) there.1
-port_kept port place.WritingSequence value at is there = record {
-  shaped = is.shaped;
-  few = is.few;
-  me = is.me;
-  size = is.size;
-  room = is.room;
-  lasts = is.lasts;
-  hand = omega arith;
-  message = is.message;
-  place = tt;
-}
+port_kept port place.WritingSequence value at is there = changed port (port.published + 1) _ place.Closed [] _ is refl (omega arith) is.message tt
 port_kept port (place.AtSequence from) value at is there = first_kept port from value _ _ is there
 port_kept port (place.AtLength from sequence) value at is there = length_kept port from sequence value _ refl is there
 port_kept port (place.AtWord from sequence bytes k more) value at is there =

@@ -16,6 +16,7 @@ use Rattle.frame_slots.specs.declared.slots.Slot as slots
 use Rattle.tx_engine.specs.declared.place.Place.TheVariants.{WritingAvailEntry, WritingAvailIndex}
 use Rattle.tx_engine.specs.Sender.{Sender, IsSender, IsPlace, entry_word_of}
 use Rattle.tx_engine.specs.Refinement.{IsAt, HasCopy, TakesStep, StaysOpen}
+use Rattle.tx_engine.proofs.InvariantByPlace.{placed}
 use Rattle.tx_engine.proofs.Accesses.{entry_is, entry_below, entry_word_is}
 use Rattle.tx_engine.proofs.AfterReads.{takes}
 
@@ -75,16 +76,5 @@ pub entry_left : (tx old : Sender) (slot : slots.Slot) (value at word : ℕ) →
 entry_left tx old slot value at word tx_is is here at_is word_is = record {
   takes = entry_taken tx old slot value at word [] tx_is is here at_is word_is refl;
   opened = refl;
-  sender = record {
-    queue = is.queue;
-    bounds = is.bounds;
-    own_room = is.own_room;
-    their_room = is.their_room;
-    entries = ap (λ n. 2 * n) (length-set tx.entries (at / 2) word) ∙ is.entries;
-    next = is.next;
-    in_flight = is.in_flight;
-    lengths = is.lengths;
-    flight = is.flight;
-    place = let has : IsPlace tx (WritingAvailEntry slot) = subst (IsPlace tx) here is.place in has.0;
-  };
+  sender = let has : IsPlace tx (WritingAvailEntry slot) = subst (IsPlace tx) here is.place in placed tx _ _ WritingAvailIndex is (length-set tx.entries (at / 2) word) has.0;
 }

@@ -93,66 +93,58 @@ abbrev Steps : (tx : Sender) (next : Place) (config : EndConfig) (end : End) (va
 Steps tx next config end value p =
     (marks_of tx.frame [] ≡ laws.marks_at config p value) × IsAt next (record tx { place = next }) config (end_after end (laws.step_at config p value)) (laws.next_place config p value)
 
--- The write of a word of the frame that isn't the last one.
-pub fills_on : (tx : Sender) (slot : slots.Slot) (at more value : ℕ) → IsSender tx → tx.place ≡ WritingFrameWord slot at (suc more) → TakesStep tx value [] (record tx { place = WritingFrameWord slot (at + 1) more })
-fills_on tx slot at more value is here = takes tx (record tx { place = WritingFrameWord slot (at + 1) more }) (WritingFrameWord slot at (suc more)) value [] here refl (λ config end place made h.
+-- The place of the grammar and the slot are the next ones at the end after a write of this word.
+abbrev GoesTo : (tx : Sender) (next : Place) (slot : slots.Slot) (to : PendingOffer → laws.Place) (config : EndConfig) (end : End) (word : ℕ) → Type 0
+GoesTo tx next slot to config end word =
+    (value : ℕ) → (to (pending_of config end tx.frame) ≡ to (pending_of config (wrote end word value) tx.frame)) × HasPlaced (record tx { place = next }) config (wrote end word value) slot
+
+-- The write of a word that holds no available entry, from the place `at` of the grammar to the
+-- place `to` of the same pending offer.
+goes : (tx : Sender) (here next : Place) (slot : slots.Slot) (at to : PendingOffer → laws.Place) (word : EndConfig → PendingOffer → ℕ) (value : ℕ) → IsSender tx → tx.place ≡ here →
+    ((config : EndConfig) (pending : PendingOffer) → IsQueue config.sizes → IsBeside config (word config pending)) →
+    ((config : EndConfig) (end : End) (place : laws.Place) → IsAt here tx config end place → (place ≡ at (pending_of config end tx.frame)) × HasPlaced tx config end slot) →
+    ((config : EndConfig) (end : End) → GoesTo tx next slot to config end (word config (pending_of config end tx.frame)) → Steps tx next config end value (at (pending_of config end tx.frame))) →
+    TakesStep tx value [] (record tx { place = next })
+goes tx here next slot at to word value is here_is beside seen steps = takes tx (record tx { place = next }) here value [] here_is refl (λ config end place made h.
     let queue = queue_of tx config is made in
     let pending = pending_of config end tx.frame in
-    let word = config.own + start_at config pending / 4 + at in
-    let beside = frame_beside config pending at queue in
-    subst (Steps tx (WritingFrameWord slot (at + 1) more) config end value) (sym h.0)
-    (refl, (ap (λ j. laws.WritingFrameWord j (at + 1) more) (same_pending config end tx.frame word _ queue beside), placed_after tx (WritingFrameWord slot (at + 1) more) config end slot word _ queue beside h.1)))
+    let other = beside config pending queue in
+    let was = seen config end place h in
+    subst (Steps tx next config end value) (sym was.0)
+    (steps config end (λ written. (ap to (same_pending config end tx.frame (word config pending) written queue other), placed_after tx next config end slot (word config pending) written queue other was.1))))
+
+-- The write of a word of the frame that isn't the last one.
+pub fills_on : (tx : Sender) (slot : slots.Slot) (at more value : ℕ) → IsSender tx → tx.place ≡ WritingFrameWord slot at (suc more) → TakesStep tx value [] (record tx { place = WritingFrameWord slot (at + 1) more })
+fills_on tx slot at more value is here =
+    goes tx (WritingFrameWord slot at (suc more)) (WritingFrameWord slot (at + 1) more) slot (λ pending. laws.WritingFrameWord pending at (suc more)) (λ pending. laws.WritingFrameWord pending (at + 1) more)
+    (λ config pending. config.own + start_at config pending / 4 + at) value is here (λ config pending queue. frame_beside config pending at queue) (λ config end place h. h) (λ config end after. (refl, after _))
 
 -- The write of the last word of the frame.
 pub fills_last : (tx : Sender) (slot : slots.Slot) (at value : ℕ) → IsSender tx → tx.place ≡ WritingFrameWord slot at 0 → TakesStep tx value [] (record tx { place = WritingDescAddressLow slot })
-fills_last tx slot at value is here = takes tx (record tx { place = WritingDescAddressLow slot }) (WritingFrameWord slot at 0) value [] here refl (λ config end place made h.
-    let queue = queue_of tx config is made in
-    let pending = pending_of config end tx.frame in
-    let word = config.own + start_at config pending / 4 + at in
-    let beside = frame_beside config pending at queue in
-    let next : laws.next_place config (laws.WritingFrameWord pending at 0) value ≡ laws.WritingDescAddressLow pending = refl in
-    subst (Steps tx (WritingDescAddressLow slot) config end value) (sym h.0)
-    (refl, (next ∙ ap laws.WritingDescAddressLow (same_pending config end tx.frame word _ queue beside), placed_after tx (WritingDescAddressLow slot) config end slot word _ queue beside h.1)))
+fills_last tx slot at value is here =
+    goes tx (WritingFrameWord slot at 0) (WritingDescAddressLow slot) slot (λ pending. laws.WritingFrameWord pending at 0) laws.WritingDescAddressLow
+    (λ config pending. config.own + start_at config pending / 4 + at) value is here (λ config pending queue. frame_beside config pending at queue) (λ config end place h. h) (λ config end after. (refl, after _))
 
 -- The writes of the four words of the descriptor.
 pub writes_low : (tx : Sender) (slot : slots.Slot) (value : ℕ) → IsSender tx → tx.place ≡ WritingDescAddressLow slot → TakesStep tx value [] (record tx { place = WritingDescAddressHigh slot })
-writes_low tx slot value is here = takes tx (record tx { place = WritingDescAddressHigh slot }) (WritingDescAddressLow slot) value [] here refl (λ config end place made h.
-    let queue = queue_of tx config is made in
-    let pending = pending_of config end tx.frame in
-    let word = config.own + word_offset config.sizes (DescAddress (descriptor_of config pending.number)) in
-    let same : word + 0 ≡ word = omega arith in
-    let beside : IsBeside config word = subst (IsBeside config) same (descriptor_beside config pending.number 0 queue (omega arith)) in
-    subst (Steps tx (WritingDescAddressHigh slot) config end value) (sym h.0)
-    (refl, (ap laws.WritingDescAddressHigh (same_pending config end tx.frame word _ queue beside), placed_after tx (WritingDescAddressHigh slot) config end slot word _ queue beside h.1)))
+writes_low tx slot value is here =
+    goes tx (WritingDescAddressLow slot) (WritingDescAddressHigh slot) slot laws.WritingDescAddressLow laws.WritingDescAddressHigh (λ config pending. config.own + word_offset config.sizes (DescAddress (descriptor_of config pending.number))) value is here
+    (λ config pending queue. subst (IsBeside config) (omega arith) (descriptor_beside config pending.number 0 queue (omega arith))) (λ config end place h. h) (λ config end after. (refl, after _))
 
 pub writes_high : (tx : Sender) (slot : slots.Slot) (value : ℕ) → IsSender tx → tx.place ≡ WritingDescAddressHigh slot → TakesStep tx value [] (record tx { place = WritingDescLength slot })
-writes_high tx slot value is here = takes tx (record tx { place = WritingDescLength slot }) (WritingDescAddressHigh slot) value [] here refl (λ config end place made h.
-    let queue = queue_of tx config is made in
-    let pending = pending_of config end tx.frame in
-    let word = config.own + word_offset config.sizes (DescAddress (descriptor_of config pending.number)) + 1 in
-    let beside = descriptor_beside config pending.number 1 queue (omega arith) in
-    subst (Steps tx (WritingDescLength slot) config end value) (sym h.0)
-    (refl, (ap laws.WritingDescLength (same_pending config end tx.frame word _ queue beside), placed_after tx (WritingDescLength slot) config end slot word _ queue beside h.1)))
+writes_high tx slot value is here =
+    goes tx (WritingDescAddressHigh slot) (WritingDescLength slot) slot laws.WritingDescAddressHigh laws.WritingDescLength (λ config pending. config.own + word_offset config.sizes (DescAddress (descriptor_of config pending.number)) + 1) value is here
+    (λ config pending queue. descriptor_beside config pending.number 1 queue (omega arith)) (λ config end place h. h) (λ config end after. (refl, after _))
 
 pub writes_length : (tx : Sender) (slot : slots.Slot) (value : ℕ) → IsSender tx → tx.place ≡ WritingDescLength slot → TakesStep tx value [] (record tx { place = WritingDescFlags slot })
-writes_length tx slot value is here = takes tx (record tx { place = WritingDescFlags slot }) (WritingDescLength slot) value [] here refl (λ config end place made h.
-    let queue = queue_of tx config is made in
-    let pending = pending_of config end tx.frame in
-    let word = config.own + word_offset config.sizes (DescLength (descriptor_of config pending.number)) in
-    let same : config.own + word_offset config.sizes (DescAddress (descriptor_of config pending.number)) + 2 ≡ word = omega arith in
-    let beside : IsBeside config word = subst (IsBeside config) same (descriptor_beside config pending.number 2 queue (omega arith)) in
-    subst (Steps tx (WritingDescFlags slot) config end value) (sym h.0)
-    (refl, (ap laws.WritingDescFlags (same_pending config end tx.frame word _ queue beside), placed_after tx (WritingDescFlags slot) config end slot word _ queue beside h.1)))
+writes_length tx slot value is here =
+    goes tx (WritingDescLength slot) (WritingDescFlags slot) slot laws.WritingDescLength laws.WritingDescFlags (λ config pending. config.own + word_offset config.sizes (DescLength (descriptor_of config pending.number))) value is here
+    (λ config pending queue. subst (IsBeside config) (omega arith) (descriptor_beside config pending.number 2 queue (omega arith))) (λ config end place h. h) (λ config end after. (refl, after _))
 
 pub writes_flags : (tx : Sender) (slot : slots.Slot) (value : ℕ) → IsSender tx → tx.place ≡ WritingDescFlags slot → TakesStep tx value [] (record tx { place = WritingAvailEntry slot })
-writes_flags tx slot value is here = takes tx (record tx { place = WritingAvailEntry slot }) (WritingDescFlags slot) value [] here refl (λ config end place made h.
-    let queue = queue_of tx config is made in
-    let pending = pending_of config end tx.frame in
-    let word = config.own + word_offset config.sizes (DescFlags (descriptor_of config pending.number)) in
-    let same : config.own + word_offset config.sizes (DescAddress (descriptor_of config pending.number)) + 3 ≡ word = omega arith in
-    let beside : IsBeside config word = subst (IsBeside config) same (descriptor_beside config pending.number 3 queue (omega arith)) in
-    subst (Steps tx (WritingAvailEntry slot) config end value) (sym h.0)
-    (refl, (ap laws.WritingAvailEntry (same_pending config end tx.frame word _ queue beside), placed_after tx (WritingAvailEntry slot) config end slot word _ queue beside h.1)))
+writes_flags tx slot value is here =
+    goes tx (WritingDescFlags slot) (WritingAvailEntry slot) slot laws.WritingDescFlags laws.WritingAvailEntry (λ config pending. config.own + word_offset config.sizes (DescFlags (descriptor_of config pending.number))) value is here
+    (λ config pending queue. subst (IsBeside config) (omega arith) (descriptor_beside config pending.number 3 queue (omega arith))) (λ config end place h. h) (λ config end after. (refl, after _))
 
 -- The write of the index, which accepts the frame.
 abbrev Accepts : (tx new : Sender) (config : EndConfig) (end : End) (value : ℕ) → laws.Place → Type 0

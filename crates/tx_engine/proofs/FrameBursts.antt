@@ -1,5 +1,5 @@
 -- Bursts of words of the offered frame.
-use Rattle.std.proofs.Common.{◌≡◌, ℕ, zero, suc, ◌+◌, ◌-◌, ◌*◌, ◌/◌, ◌%◌, ◌<◌, ◌≤◌, List, [], ◌∷◌, ◌++◌, length, take, drop, refl, sym, ap, ◌∙◌, arith, subst}
+use Rattle.std.proofs.Common.{◌≡◌, ℕ, zero, suc, ◌+◌, ◌-◌, ◌*◌, ◌/◌, ◌%◌, ◌<◌, ◌≤◌, true, List, [], ◌∷◌, ◌++◌, length, take, drop, refl, sym, ap, ◌∙◌, arith, subst}
 use Rattle.std.proofs.lemmas.Grind.{common_steps}
 use Rattle.std.proofs.lemmas.List.{length-take}
 use Rattle.ivs_base.specs.Numbers.{word_of}
@@ -19,7 +19,8 @@ use Rattle.tx_engine.specs.declared.place.Place.{Place}
 use Rattle.tx_engine.specs.declared.place.Place.TheVariants.{WritingFrameWord, WritingDescAddressLow, WritingDescAddressHigh, WritingDescLength, WritingDescFlags, WritingAvailEntry}
 use Rattle.tx_engine.specs.Sender.{Sender, IsSender, IsPlace, HasSlot, is_open}
 use Rattle.tx_engine.specs.Continuations.{descriptor_place_of}
-use Rattle.tx_engine.specs.Refinement.{RefinesAt, IsAt, StaysOpen}
+use Rattle.tx_engine.specs.Refinement.{RefinesAt, IsAt, TakesStep, StaysOpen}
+use Rattle.tx_engine.proofs.InvariantByPlace.{placed}
 use Rattle.tx_engine.proofs.Accesses.{at_here}
 use Rattle.tx_engine.proofs.AfterWrites.{fills_on, fills_last, writes_low, writes_high, writes_length, writes_flags}
 
@@ -28,33 +29,15 @@ abbrev pub fill_at : slots.Slot → (at count : ℕ) → Place
 fill_at slot at zero = WritingDescAddressLow slot
 fill_at slot at (suc more) = WritingFrameWord slot at more
 
--- A sender at another place.
-pub placed : (tx : Sender) (place : Place) → IsSender tx → IsPlace (record tx { place = place }) place → IsSender (record tx { place = place })
-placed tx place is holds = record {
-  queue = is.queue;
-  bounds = is.bounds;
-  own_room = is.own_room;
-  their_room = is.their_room;
-  entries = is.entries;
-  next = is.next;
-  in_flight = is.in_flight;
-  lengths = is.lengths;
-  flight = is.flight;
-  place = holds;
-}
+-- A step without a note to another place of the offer.
+stays : (tx : Sender) (place : Place) (value : ℕ) → IsSender tx → IsPlace (record tx { place = place }) place → is_open place ≡ true → TakesStep tx value [] (record tx { place = place }) →
+    StaysOpen tx value [] (record tx { place = place })
+stays tx place value is holds opened takes = record { takes = takes; opened = opened; sender = placed tx _ _ place is refl holds }
 
 fills_one : (tx : Sender) (slot : slots.Slot) (at more value : ℕ) → IsSender tx → HasSlot tx slot → at + more + 1 ≡ words_for (length tx.frame) → tx.place ≡ WritingFrameWord slot at more →
     StaysOpen tx value [] (record tx { place = fill_at slot (at + 1) more })
-fills_one tx slot at zero value is has count here = record {
-  takes = fills_last tx slot at value is here;
-  opened = refl;
-  sender = placed tx (WritingDescAddressLow slot) is has;
-}
-fills_one tx slot at (suc more) value is has count here = record {
-  takes = fills_on tx slot at more value is here;
-  opened = refl;
-  sender = placed tx (WritingFrameWord slot (at + 1) more) is (has, omega (arith, count));
-}
+fills_one tx slot at zero value is has count here = stays tx (WritingDescAddressLow slot) value is has refl (fills_last tx slot at value is here)
+fills_one tx slot at (suc more) value is has count here = stays tx (WritingFrameWord slot (at + 1) more) value is (has, omega (arith, count)) refl (fills_on tx slot at more value is here)
 
 pub fills : (tx new : Sender) (slot : slots.Slot) (at more : ℕ) (values : List ℕ) → IsSender tx → HasSlot tx slot → at + more + 1 ≡ words_for (length tx.frame) → tx.place ≡ WritingFrameWord slot at more →
     0 < length values → length values ≤ more + 1 → new ≡ record tx { place = fill_at slot (at + length values) (more + 1 - length values) } → StepsThrough StaysOpen tx values [] new
@@ -106,32 +89,16 @@ open_is tx config end place refines = open_seen tx.place tx config end place ref
 -- The writes of the descriptor.
 
 describes_low : (tx : Sender) (slot : slots.Slot) (value : ℕ) → IsSender tx → HasSlot tx slot → tx.place ≡ WritingDescAddressLow slot → StaysOpen tx value [] (record tx { place = WritingDescAddressHigh slot })
-describes_low tx slot value is has here = record {
-  takes = writes_low tx slot value is here;
-  opened = refl;
-  sender = placed tx (WritingDescAddressHigh slot) is has;
-}
+describes_low tx slot value is has here = stays tx (WritingDescAddressHigh slot) value is has refl (writes_low tx slot value is here)
 
 describes_high : (tx : Sender) (slot : slots.Slot) (value : ℕ) → IsSender tx → HasSlot tx slot → tx.place ≡ WritingDescAddressHigh slot → StaysOpen tx value [] (record tx { place = WritingDescLength slot })
-describes_high tx slot value is has here = record {
-  takes = writes_high tx slot value is here;
-  opened = refl;
-  sender = placed tx (WritingDescLength slot) is has;
-}
+describes_high tx slot value is has here = stays tx (WritingDescLength slot) value is has refl (writes_high tx slot value is here)
 
 describes_length : (tx : Sender) (slot : slots.Slot) (value : ℕ) → IsSender tx → HasSlot tx slot → tx.place ≡ WritingDescLength slot → StaysOpen tx value [] (record tx { place = WritingDescFlags slot })
-describes_length tx slot value is has here = record {
-  takes = writes_length tx slot value is here;
-  opened = refl;
-  sender = placed tx (WritingDescFlags slot) is has;
-}
+describes_length tx slot value is has here = stays tx (WritingDescFlags slot) value is has refl (writes_length tx slot value is here)
 
 describes_flags : (tx : Sender) (slot : slots.Slot) (value : ℕ) → IsSender tx → HasSlot tx slot → tx.place ≡ WritingDescFlags slot → StaysOpen tx value [] (record tx { place = WritingAvailEntry slot })
-describes_flags tx slot value is has here = record {
-  takes = writes_flags tx slot value is here;
-  opened = refl;
-  sender = placed tx (WritingAvailEntry slot) is has;
-}
+describes_flags tx slot value is has here = stays tx (WritingAvailEntry slot) value is has refl (writes_flags tx slot value is here)
 
 pub describes : (tx : Sender) (slot : slots.Slot) (count : ℕ) (values : List ℕ) → IsSender tx → HasSlot tx slot → tx.place ≡ WritingDescAddressLow slot → 0 < count → count ≤ 4 → length values ≡ count →
     StepsThrough StaysOpen tx values [] (record tx { place = descriptor_place_of slot count })

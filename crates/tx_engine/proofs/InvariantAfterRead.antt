@@ -19,6 +19,7 @@ use Rattle.tx_engine.specs.Sender.{Sender, IsSender, IsFrame, FlightRefinesSessi
 use Rattle.tx_engine.specs.Representation.{sender_of, IsWellFormed}
 use Rattle.tx_engine.specs.Continuations.{GoesOn}
 use Rattle.tx_engine.specs.Refinement.{IsFreshSession, IsMadeFor, RefinesAt}
+use Rattle.tx_engine.proofs.InvariantByPlace.{placed}
 use Rattle.tx_engine.proofs.Flights.{flight_freed, flight_placed, slot_holds}
 use Rattle.tx_engine.proofs.AfterReads.{with_turn, freed_one, oldest_length}
 use Rattle.tx_engine.proofs.Fields.{turn_is, place_holds, goes_on_from}
@@ -28,18 +29,7 @@ abbrev pub closed : Sender → Sender
 closed tx = record tx { place = Closed }
 
 pub closed_is : (tx : Sender) → IsSender tx → IsSender (closed tx)
-closed_is tx is = record {
-  queue = is.queue;
-  bounds = is.bounds;
-  own_room = is.own_room;
-  their_room = is.their_room;
-  entries = is.entries;
-  next = is.next;
-  in_flight = is.in_flight;
-  lengths = is.lengths;
-  flight = is.flight;
-  place = tt;
-}
+closed_is tx is = placed tx _ _ Closed is refl tt
 
 -- One frame less is in flight.
 pub freed_is_sender : (tx : Sender) → IsSender tx → 0 < tx.in_flight → IsSender (closed (freed_one tx))
@@ -94,18 +84,7 @@ goes_on_kept tx (suc more) place turn lengths is frame within on =
     let here : place ≡ ReadingUsedId more = h.0 ∙ ap ReadingUsedId (omega arith) in
     subst (λ p. IsSender (with_turn tx turn lengths p)) (sym here)
     (subst (λ t. IsSender (with_turn tx t lengths (ReadingUsedId more))) (sym h.1)
-    (subst (λ l. IsSender (with_turn tx (allocator_of tx) l (ReadingUsedId more))) (sym h.2) (record {
-      queue = is.queue;
-      bounds = is.bounds;
-      own_room = is.own_room;
-      their_room = is.their_room;
-      entries = is.entries;
-      next = is.next;
-      in_flight = is.in_flight;
-      lengths = is.lengths;
-      flight = is.flight;
-      place = (omega (arith, within), frame);
-    })))
+    (subst (λ l. IsSender (with_turn tx (allocator_of tx) l (ReadingUsedId more))) (sym h.2) (placed (closed tx) _ _ (ReadingUsedId more) is refl (omega (arith, within), frame))))
 
 -- The slots keep the sizes of the queue.
 sizes_stay : (old : Allocator) (lengths : List ℕ) (bytes ids : ℕ) (place : Place) (turn : Allocator) (kept : List ℕ) → GoesOn old lengths bytes ids place turn kept → turn.sizes ≡ old.sizes

@@ -1,6 +1,6 @@
 pub mod ModularCounts
+pub mod InvariantByPlace
 pub mod Flights
-pub mod Frames
 pub mod Accesses
 pub mod AfterReads
 pub mod Fields

@@ -20,8 +20,9 @@ use Rattle.tx_engine.specs.declared.place.Place.TheVariants.{WritingFrameWord, W
 use Rattle.tx_engine.specs.Sender.{Sender, IsSender, HasSlot, entry_word_of}
 use Rattle.tx_engine.specs.Ahead.{listed, WritesAll}
 use Rattle.tx_engine.specs.Refinement.{RefinesAt, IsAt, IsMadeFor, HasPlaced, StaysOpen}
+use Rattle.tx_engine.proofs.InvariantByPlace.{placed}
 use Rattle.tx_engine.proofs.Accesses.{at_here, entry_access}
-use Rattle.tx_engine.proofs.FrameBursts.{fill_at, placed, fills, describes, writes_on, described_word, descriptor_bytes}
+use Rattle.tx_engine.proofs.FrameBursts.{fill_at, fills, describes, writes_on, described_word, descriptor_bytes}
 
 -- The steps
 
@@ -55,7 +56,7 @@ takes_all tx new slot at more values is has count here sized enters =
     let none : 0 ≡ more + 1 - length filled = omega (arith, filled_sized) in
     let low_is : low ≡ record tx { place = fill_at slot (at + length filled) (more + 1 - length filled) } = ap (λ n. record tx { place = fill_at slot (at + length filled) n }) none in
     let first = fills tx low slot at more filled is has count here (omega (arith, filled_sized)) (omega (arith, filled_sized)) low_is in
-    let second = describes low slot 4 descriptor_place_of (placed tx (WritingDescAddressLow slot) is has) has refl (omega arith) (omega arith) described_sized in
+    let second = describes low slot 4 descriptor_place_of (placed tx _ _ (WritingDescAddressLow slot) is refl has) has refl (omega arith) (omega arith) described_sized in
     let third = once StaysOpen entry new last last_sized enters in
     let others = joined StaysOpen low entry new descriptor_place_of last (omega (arith, last_sized)) second third in
     let rest_is : descriptor_place_of ++ last ≡ rest = take-append-drop 4 rest in

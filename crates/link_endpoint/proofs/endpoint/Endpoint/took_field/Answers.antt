@@ -5,17 +5,13 @@ use Rattle.link_endpoint.specs.Engine.{reads_ahead_at}
 use Rattle.link_endpoint.specs.Items.{is_field_at, is_field}
 use Rattle.link_endpoint.specs.Representation.{engine_of, IsWellFormed}
 use Rattle.link_endpoint.specs.Items.{RefusesNext}
-use Rattle.link_endpoint.proofs.BurstsOfSteps.{polls_on, kept_polled}
+use Rattle.link_endpoint.proofs.BurstsOfSteps.{polled_on, kept_polled}
 use Rattle.link_endpoint.proofs.ItemSteps.{if_some, reads_next, refuses_next}
 use Rattle.link_endpoint.proofs.endpoint.Endpoint.took_field.Goals as goal
 
 pub returns-in-Polling-clause-step : goal.returns-in-Polling-clause-step
 returns-in-Polling-clause-step c =
-    let i = c.self.inside in
-    let kept = c.self.invariant in
-    if_some c.took_field.result _ _
-    (λ next step. rw (← c.self.view_is) (polls_on (engine_of i) (c.args.value ∷ []) [] c.took_field.new.self (engine_of i).config kept.end kept.at c.in-Polling.is step kept.refines refl))
-    c.took_field.ensures.step
+    if_some c.took_field.result _ _ (λ next step. rw (← c.self.view_is) (polled_on c.self.inside c.took_field.new.self (c.args.value ∷ []) [] c.self.invariant c.in-Polling.is step refl)) c.took_field.ensures.step
 
 pub returns-in-Polling-clause-access : goal.returns-in-Polling-clause-access
 returns-in-Polling-clause-access c =
@@ -41,7 +37,5 @@ invariant_of-self c = pick c.took_field.result refl
     pick None is = subst (λ r. IsWellFormed (record (c.self.inside) { rx = r })) (sym (c.took_field.ensures.unchanged is)) c.self.invariant
     pick (Some next) is =
         let i = c.self.inside in
-        let kept = c.self.invariant in
         let step = subst (λ (o : Option NextRead). IfSome o (λ read. rx.StaysOpen i.rx c.args.value [] c.took_field.new.self)) is c.took_field.ensures.step in
-        kept_polled i c.took_field.new.self (c.args.value ∷ []) [] kept c.took_field.ensures.kept
-        (polls_on (engine_of i) (c.args.value ∷ []) [] c.took_field.new.self (engine_of i).config kept.end kept.at c.in-Polling.is step kept.refines refl)
+        kept_polled i c.took_field.new.self (c.args.value ∷ []) [] c.self.invariant c.in-Polling.is step refl c.took_field.ensures.kept

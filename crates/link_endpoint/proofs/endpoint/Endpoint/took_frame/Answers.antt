@@ -6,7 +6,7 @@ use Rattle.rx_engine.specs.Items as receiver
 use Rattle.link_endpoint.specs.Engine.{Engine, frame_ahead_at, frame_ahead, reads_ahead_at, reads_ahead}
 use Rattle.link_endpoint.specs.Representation.{engine_of, IsWellFormed}
 use Rattle.link_endpoint.specs.Items.{ReadsAndReturns}
-use Rattle.link_endpoint.proofs.BurstsOfSteps.{StandsFor, kept_received}
+use Rattle.link_endpoint.proofs.EngineAfterStep.{StandsFor, kept_received}
 use Rattle.link_endpoint.proofs.ItemSteps.{reads_and_returns}
 use Rattle.link_endpoint.proofs.endpoint.Endpoint.took_frame.Goals as goal
 
@@ -44,4 +44,4 @@ invariant_of-self c = pick c.took_frame.result refl
   where
     pick : (result : Option FrameReturn) → c.took_frame.result ≡ result → IsWellFormed (record (c.self.inside) { rx = c.took_frame.new.self })
     pick None is = subst (λ r. IsWellFormed (record (c.self.inside) { rx = r })) (sym (c.took_frame.ensures.unchanged is)) c.self.invariant
-    pick (Some made) is = kept_received c.self.inside c.took_frame.new.self c.self.invariant c.took_frame.ensures.kept (all c made is).1
+    pick (Some made) is = kept_received c.self.inside _ _ c.took_frame.new.self c.self.invariant c.took_frame.ensures.kept c.self.invariant.mark c.self.invariant.left (all c made is).1

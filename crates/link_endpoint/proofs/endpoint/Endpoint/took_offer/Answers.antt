@@ -4,7 +4,7 @@ use Rattle.link_endpoint.specs.declared.place.Place.TheVariants.{Closed, Refusin
 use Rattle.link_endpoint.specs.Engine.{refused_after}
 use Rattle.link_endpoint.specs.Representation.{engine_of}
 use Rattle.link_endpoint.specs.Refinement.{Takes}
-use Rattle.link_endpoint.proofs.EngineAfterStep.{KeepsNumbers, seen_sent, kept_sent}
+use Rattle.link_endpoint.proofs.EngineAfterStep.{KeepsNumbers, seen_sent, stands, kept_sent}
 use Rattle.link_endpoint.proofs.RefusedEndsStay.{none_left, away_refused, away_none}
 use Rattle.link_endpoint.proofs.SenderSteps.{takes_refused, takes_end, takes_on}
 use Rattle.link_endpoint.proofs.endpoint.Endpoint.took_offer.Goals as goal
@@ -24,7 +24,7 @@ pub returns-in-Some-clause-steps : goal.returns-in-Some-clause-steps
 returns-in-Some-clause-steps c = rw (← c.self.view_is) (refused c).1
 
 pub invariant_of-self : goal.invariant_of-self
-invariant_of-self c = kept_sent c.self.inside _ _ Refusing c.args.value c.took_into.new.notes.items c.self.invariant (refused c).0 (λ other. absurd (other refl)) (λ is. tt) (refused c).1
+invariant_of-self c = kept_sent c.self.inside _ Refusing _ c.self.invariant (refused c).0 (λ other. absurd (other refl)) (λ is. tt) (stands _ _ _ _ c.self.invariant (refused c).1)
 
 -- The offer is over.
 over : (c : goal.After-self-then-not-busy-1) → KeepsNumbers c.self.inside.tx c.took_into.new.self × Takes (engine_of c.self.inside) c.args.value c.took_into.new.notes.items (engine_of (record (c.self.inside) { place = Closed; tx = c.took_into.new.self }))
@@ -55,12 +55,12 @@ pub returns-else-not-busy-clause-steps : goal.returns-else-not-busy-clause-steps
 returns-else-not-busy-clause-steps c = rw (← c.self.view_is) (going c).1
 
 pub invariant_of-self-else-not-busy : goal.invariant_of-self-else-not-busy
-invariant_of-self-else-not-busy c = kept_sent c.self.inside _ _ c.self.inside.place c.args.value c.took_into.new.notes.items c.self.invariant (going c).0 c.self.invariant.mark c.self.invariant.left (going c).1
+invariant_of-self-else-not-busy c = kept_sent c.self.inside _ c.self.inside.place _ c.self.invariant (going c).0 c.self.invariant.mark c.self.invariant.left (stands _ _ _ _ c.self.invariant (going c).1)
 
 pub invariant_of-self-then-not-busy : goal.invariant_of-self-then-not-busy
 invariant_of-self-then-not-busy c =
-    kept_sent c.self.inside _ _ Closed c.args.value c.took_into.new.notes.items c.self.invariant (over c).0 (λ other. c.self.invariant.mark (grind (arith, common_steps)))
-    (λ is. absurd (none_left (engine_of c.self.inside) (grind (arith, common_steps)) c.self.invariant.left is)) (over c).1
+    kept_sent c.self.inside _ Closed _ c.self.invariant (over c).0 (λ other. c.self.invariant.mark (grind (arith, common_steps)))
+    (λ is. absurd (none_left (engine_of c.self.inside) (grind (arith, common_steps)) c.self.invariant.left is)) (stands _ _ _ _ c.self.invariant (over c).1)
 
 -- After a refusal the step satisfies `KeepsAway`.
 pub returns-in-Some-clause-leaving : goal.returns-in-Some-clause-leaving

@@ -1,15 +1,10 @@
-use Rattle.std.proofs.Common.{◌≡◌, ◌*◌, ◌<◌, ℕ, List, length, take, ap, sym, refl, subst, arith, IfSome}
-use Rattle.std.specs.List.{flat_map}
-use Rattle.call_grammar.specs.Bursts.{StepsThrough}
-use Rattle.call_grammar.specs.Words.{word_bytes}
+use Rattle.std.proofs.Common.{◌≡◌, ◌*◌, ◌<◌, length, take, ap, sym, refl, subst, arith, IfSome}
 use Rattle.call_grammar.proofs.WordsOfBytes.{spelled}
 use Rattle.link_endpoint.specs.declared.place.Place.{Place}
 use Rattle.link_endpoint.specs.declared.place.Place.TheVariants.{Closed, ReadingOtherState, Clearing, WritingState, Refusing, NotInRun, Offering, Polling}
 use Rattle.link_endpoint.specs.Engine.{Engine, reads_ahead_at, reads_ahead, frame_ahead_at, frame_ahead}
-use Rattle.link_endpoint.specs.Representation.{engine_of}
-use Rattle.link_endpoint.specs.Bursts.{IsTaken}
 use Rattle.rx_engine.specs.Receiver.{Receiver}
-use Rattle.link_endpoint.proofs.BurstsOfSteps.{none_refused, polls_on, kept_polled}
+use Rattle.link_endpoint.proofs.BurstsOfSteps.{none_refused, polled_on, kept_polled}
 use Rattle.link_endpoint.proofs.endpoint.Endpoint.took_reads_into.Goals as goal
 
 polls : (p : Place) (rx : Receiver) → 0 < reads_ahead_at p rx → p ≡ Polling
@@ -28,13 +23,9 @@ here c =
     let ahead : reads_ahead c.args.self.now ≡ reads_ahead_at c.self.inside.place c.self.inside.rx = ap reads_ahead (sym c.self.view_is) in
     polls c.self.inside.place c.self.inside.rx (omega (arith, ahead, c.requires.some, c.requires.within))
 
-steps : (c : goal.After-took_reads_into) (values : List ℕ) → c.args.words.now ≡ flat_map word_bytes values → StepsThrough IsTaken (engine_of c.self.inside) values c.took_reads_into.new.notes.items (engine_of (record (c.self.inside) { rx = c.took_reads_into.new.self }))
-steps c values words_are =
-    let kept = c.self.invariant in
-    polls_on (engine_of c.self.inside) values c.took_reads_into.new.notes.items c.took_reads_into.new.self (engine_of c.self.inside).config kept.end kept.at (here c) (c.took_reads_into.ensures.steps values words_are) kept.refines (none_refused _ c.took_reads_into.ensures.notes)
-
 pub returns-clause-steps : goal.returns-clause-steps
-returns-clause-steps c = λ values words_are. rw (← c.self.view_is) (steps c values words_are)
+returns-clause-steps c = λ values words_are.
+    rw (← c.self.view_is) (polled_on c.self.inside c.took_reads_into.new.self values _ c.self.invariant (here c) (c.took_reads_into.ensures.steps values words_are) (none_refused _ c.took_reads_into.ensures.notes))
 
 pub returns-clause-frame : goal.returns-clause-frame
 returns-clause-frame c =
@@ -47,4 +38,4 @@ returns-clause-frame c =
 pub invariant_of-self : goal.invariant_of-self
 invariant_of-self c =
     let words = spelled c.args.words.now c.requires.whole (λ i. omega (arith, c.type_inv.words i)) in
-    kept_polled c.self.inside c.took_reads_into.new.self words.0 c.took_reads_into.new.notes.items c.self.invariant c.took_reads_into.ensures.kept (steps c words.0 words.1)
+    kept_polled c.self.inside c.took_reads_into.new.self words.0 _ c.self.invariant (here c) (c.took_reads_into.ensures.steps words.0 words.1) (none_refused _ c.took_reads_into.ensures.notes) c.took_reads_into.ensures.kept

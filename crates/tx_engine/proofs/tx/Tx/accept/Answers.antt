@@ -5,6 +5,7 @@ use Rattle.tx_engine.specs.Continuations.{place_after_index}
 use Rattle.tx_engine.specs.Sender.{Sender, IsSender, is_open}
 use Rattle.tx_engine.specs.Representation.{sender_of}
 use Rattle.tx_engine.specs.Refinement.{StaysOpen}
+use Rattle.tx_engine.proofs.InvariantByPlace.{placed}
 use Rattle.tx_engine.proofs.AfterWrites.{index_written}
 use Rattle.tx_engine.proofs.tx.Tx.accept.Goals as goal
 
@@ -13,30 +14,8 @@ opened true = refl
 opened false = refl
 
 accepted : (tx : Sender) (count : ℕ) (events : Bool) → IsSender tx → IsSender (record tx { accepted = count; place = place_after_index events })
-accepted tx count true is = record {
-  queue = is.queue;
-  bounds = is.bounds;
-  own_room = is.own_room;
-  their_room = is.their_room;
-  entries = is.entries;
-  next = is.next;
-  in_flight = is.in_flight;
-  lengths = is.lengths;
-  flight = is.flight;
-  place = tt;
-}
-accepted tx count false is = record {
-  queue = is.queue;
-  bounds = is.bounds;
-  own_room = is.own_room;
-  their_room = is.their_room;
-  entries = is.entries;
-  next = is.next;
-  in_flight = is.in_flight;
-  lengths = is.lengths;
-  flight = is.flight;
-  place = tt;
-}
+accepted tx count true is = placed tx count _ (place_after_index true) is refl tt
+accepted tx count false is = placed tx count _ (place_after_index false) is refl tt
 
 pub returns : goal.returns
 returns c = λ value.

@@ -1,5 +1,5 @@
 -- The frames that are offered, packet by packet.
-use Rattle.std.proofs.Common.{◌≡◌, ℕ, ◌+◌, ◌<◌, Bool, true, false, List, [], ◌∷◌, ◌++◌, length, get_or, take, map, sym, ap, subst, ◌∙◌, arith, append_assoc}
+use Rattle.std.proofs.Common.{◌≡◌, ℕ, ◌+◌, ◌<◌, Bool, true, false, List, [], ◌∷◌, ◌++◌, length, get_or, take, map, sym, ap, subst, ◌∙◌, arith}
 use Rattle.std.specs.Prelude.{All, filter, sum_by, if◌then◌else◌}
 use Rattle.std.proofs.lemmas.List.{append-nil, take_more, map-append}
 use Rattle.std.proofs.lemmas.List.Elements.{filter-append, All-append, All-nil, All-cons}
@@ -8,10 +8,11 @@ use Rattle.std.proofs.lemmas.Bool.{leb-true}
 use Rattle.line_format.proofs.SpellingsAreRead.{both_true}
 use Rattle.scenario_text.specs.declared.acts.Act.{Act}
 use Rattle.scenario_text.specs.declared.acts.Act.TheVariants.{Offer}
-use Rattle.frame_capture.specs.declared.feeding.TheConstants.{LONGEST_OFFERED}
+use Rattle.scenario_text.specs.Loads.{IsFrame, offers_of}
+use Rattle.scenario_text.proofs.LinkIsScenario.{offers_more}
+use Rattle.frame_capture.specs.declared.feeding.TheConstants.{FEED_MTU, LONGEST_OFFERED}
 use Rattle.frame_capture.specs.declared.packets.Packet.{Packet}
 use Rattle.frame_capture.specs.Feed.{is_offered, offered_frames, weight}
-use Rattle.frame_capture.specs.Offers.{IsFrame}
 use Rattle.frame_capture.proofs.Bytes.{AreBytes}
 
 one : (p : Packet) (b : Bool) → is_offered p ≡ b → filter is_offered (p ∷ []) ≡ (if b then p ∷ [] else [])
@@ -35,7 +36,7 @@ pub frames-without : (all : List Packet) (i : ℕ) (p : Packet) → i < length a
 frames-without all i p lt is passed = ap offered_frames (next all i p lt is) ∙ frames-append (take i all) p false passed ∙ append-nil (offered_frames (take i all))
 
 -- The frame of an offered packet.
-pub is_frame : (p : Packet) → AreBytes p.frame → is_offered p ≡ true → IsFrame p.frame
+pub is_frame : (p : Packet) → AreBytes p.frame → is_offered p ≡ true → IsFrame FEED_MTU p.frame
 is_frame p bytes offered =
     let most = both_true _ _ offered in
     let least = both_true _ _ most.0 in
@@ -47,22 +48,20 @@ weight-more frames frame = let a = sum_by-append weight frames (frame ∷ []) in
 -- ---- offers
 
 pub offers-with : (front acts now : List Act) (peer : ℕ) (all : List Packet) (i : ℕ) (p : Packet) (act : Act) → i < length all → p ≡ get_or all i p → is_offered p ≡ true
-    → now ≡ acts ++ act ∷ [] → act ≡ Offer peer p.frame → acts ≡ front ++ map (λ f. Offer peer f) (offered_frames (take i all)) → now ≡ front ++ map (λ f. Offer peer f) (offered_frames (take (i + 1) all))
+    → now ≡ acts ++ act ∷ [] → act ≡ Offer peer p.frame → acts ≡ front ++ offers_of peer (offered_frames (take i all)) → now ≡ front ++ offers_of peer (offered_frames (take (i + 1) all))
 offers-with front acts now peer all i p act lt is offered pushed same before =
-    pushed ∙ ap (λ (t : List Act). t ++ act ∷ []) before
-    ∙ append_assoc front (map (λ f. Offer peer f) (offered_frames (take i all))) (act ∷ [])
-    ∙ ap (λ (a : Act). front ++ (map (λ f. Offer peer f) (offered_frames (take i all)) ++ a ∷ [])) same
-    ∙ ap (λ (t : List Act). front ++ t) (sym (ap (map (λ f. Offer peer f)) (frames-with all i p lt is offered) ∙ map-append (λ f. Offer peer f) (offered_frames (take i all)) (p.frame ∷ [])))
+    offers_more peer acts front now (offered_frames (take i all)) p.frame before (pushed ∙ ap (λ (a : Act). acts ++ a ∷ []) same)
+    ∙ ap (λ (fs : List (List ℕ)). front ++ offers_of peer fs) (sym (frames-with all i p lt is offered))
 
-pub frames-more : (all : List Packet) (i : ℕ) (p : Packet) → i < length all → p ≡ get_or all i p → is_offered p ≡ true → IsFrame p.frame → All IsFrame (offered_frames (take i all)) → All IsFrame (offered_frames (take (i + 1) all))
+pub frames-more : (all : List Packet) (i : ℕ) (p : Packet) → i < length all → p ≡ get_or all i p → is_offered p ≡ true → IsFrame FEED_MTU p.frame → All (IsFrame FEED_MTU) (offered_frames (take i all)) → All (IsFrame FEED_MTU) (offered_frames (take (i + 1) all))
 frames-more all i p lt is offered frame before =
-    subst (All IsFrame) (sym (frames-with all i p lt is offered))
-    (All-append IsFrame (offered_frames (take i all)) (p.frame ∷ []) before (All-cons IsFrame p.frame [] frame (All-nil IsFrame)))
+    subst (All (IsFrame FEED_MTU)) (sym (frames-with all i p lt is offered))
+    (All-append (IsFrame FEED_MTU) (offered_frames (take i all)) (p.frame ∷ []) before (All-cons (IsFrame FEED_MTU) p.frame [] frame (All-nil (IsFrame FEED_MTU))))
 
 pub offers-without : (front acts now : List Act) (peer : ℕ) (all : List Packet) (i : ℕ) (p : Packet) → i < length all → p ≡ get_or all i p → is_offered p ≡ false
-    → now ≡ acts → acts ≡ front ++ map (λ f. Offer peer f) (offered_frames (take i all)) → now ≡ front ++ map (λ f. Offer peer f) (offered_frames (take (i + 1) all))
+    → now ≡ acts → acts ≡ front ++ offers_of peer (offered_frames (take i all)) → now ≡ front ++ offers_of peer (offered_frames (take (i + 1) all))
 offers-without front acts now peer all i p lt is passed same before =
-    same ∙ before ∙ ap (λ (fs : List (List ℕ)). front ++ map (λ f. Offer peer f) fs) (sym (frames-without all i p lt is passed))
+    same ∙ before ∙ ap (λ (fs : List (List ℕ)). front ++ offers_of peer fs) (sym (frames-without all i p lt is passed))
 
-pub frames-same : (all : List Packet) (i : ℕ) (p : Packet) → i < length all → p ≡ get_or all i p → is_offered p ≡ false → All IsFrame (offered_frames (take i all)) → All IsFrame (offered_frames (take (i + 1) all))
-frames-same all i p lt is passed before = subst (All IsFrame) (sym (frames-without all i p lt is passed)) before
+pub frames-same : (all : List Packet) (i : ℕ) (p : Packet) → i < length all → p ≡ get_or all i p → is_offered p ≡ false → All (IsFrame FEED_MTU) (offered_frames (take i all)) → All (IsFrame FEED_MTU) (offered_frames (take (i + 1) all))
+frames-same all i p lt is passed before = subst (All (IsFrame FEED_MTU)) (sym (frames-without all i p lt is passed)) before

@@ -1,15 +1,11 @@
 -- The scenario that offers the frames of a capture (profile): two honest link peers choose their
 -- calls. One offers the frames, and the other expects as many.
-use Rattle.std.specs.Prelude.{ℕ, ◌+◌, ◌-◌, ◌*◌, ◌/◌, ◌<◌, ◌==◌, ◌&&◌, ◌⊎◌, Bool, true, nat_le, List, [], ◌∷◌, ◌++◌, length, map, filter, sum_by}
-use Rattle.section_map.specs.declared.limits.TheConstants.{PAGE}
-use Rattle.section_map.specs.Faults.{shape_of}
+use Rattle.std.specs.Prelude.{ℕ, ◌+◌, ◌*◌, ◌/◌, ◌<◌, ◌==◌, ◌&&◌, ◌⊎◌, Bool, nat_le, List, length, map, filter, sum_by}
 use Rattle.split_ring.specs.declared.sizes.TheConstants.{SHORTEST_FRAME}
-use Rattle.pci_space.specs.declared.wiring.Wiring.TheVariants.{Msix}
 use Rattle.scenario_text.specs.declared.acts.Act.{Act}
-use Rattle.scenario_text.specs.declared.acts.Act.TheVariants.{Auto, Offer}
 use Rattle.scenario_text.specs.declared.limits.TheConstants.{LONGEST_TEXT, MOST_ACTS}
 use Rattle.scenario_text.specs.Acts.{turns_of}
-use Rattle.scenario_text.specs.Loads.{rounds}
+use Rattle.scenario_text.specs.Loads.{offering_acts, link_world}
 use Rattle.scenario_text.specs.Scenario.{World}
 use Rattle.scenario_text.specs.Spelling.{spelling}
 use Rattle.frame_capture.specs.declared.feeding.TheConstants.{FEED_MTU, FEED_OUT, FEED_STEPS, LONGEST_OFFERED}
@@ -35,21 +31,13 @@ round_count frames = 300 + length frames / 14 + sum_by weight frames / 500
 abbrev pub act_count : List (List ℕ) → ℕ
 act_count frames = 2 + length frames + 2 * FEED_STEPS * round_count frames
 
--- Both peers choose their calls, this one until it has offered its frames and the other until it
--- has delivered as many. Then come the rounds.
+-- The acts in which `peer` offers these frames, with the rounds for them.
 abbrev pub feed_acts : (peer : ℕ) → List (List ℕ) → List Act
-feed_acts peer frames = Auto peer 0 ∷ Auto (1 - peer) (length frames) ∷ map (λ frame. Offer peer frame) frames ++ rounds FEED_STEPS (round_count frames)
+feed_acts peer frames = offering_acts peer frames FEED_STEPS (round_count frames)
 
--- The scenario in which `peer`, 0 or 1, offers these frames; sizes are in bytes.
+-- The scenario in which `peer`, 0 or 1, offers these frames.
 unfoldable pub feed_world : (peer : ℕ) → List (List ℕ) → World
-feed_world peer frames = record {
-  version = 1;
-  geometry = shape_of 2 PAGE 0 FEED_OUT;
-  queue = record { version = 1; out = FEED_OUT; mtu = FEED_MTU };
-  wiring = Msix 2;
-  honest = true ∷ true ∷ [];
-  acts = feed_acts peer frames;
-}
+feed_world peer frames = link_world FEED_OUT FEED_MTU (feed_acts peer frames)
 
 -- The scenario has more acts than allowed, or a longer text than is read.
 abbrev pub IsTooLarge : World → Type 0

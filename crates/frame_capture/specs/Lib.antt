@@ -3,5 +3,4 @@ pub mod Deliveries
 pub mod Faults
 pub mod Feed
 pub mod Laws
-pub mod Offers
 pub mod Reading

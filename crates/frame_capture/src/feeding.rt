@@ -1,19 +1,16 @@
 //! The scenario that offers the frames of a capture.
-ghost use Rattle.std.specs.Prelude.{◌≡◌, ◌+◌, ◌-◌, ◌*◌, ◌<◌, ◌≤◌, ◌++◌, All, IfOk, OnOk, OnErr, IsErrOf, IfSome, IfNone, OnSome, true, length, map, sum_by};
-ghost use Rattle.section_map.specs.Faults.{shape_of};
+ghost use Rattle.std.specs.Prelude.{◌≡◌, ◌+◌, ◌-◌, ◌*◌, ◌<◌, ◌≤◌, ◌++◌, All, IfOk, OnOk, IsErrOf, IfSome, IfNone, OnSome, true, length, sum_by};
 ghost use Rattle.scenario_text.specs.declared.limits.TheConstants.{MOST_ACTS};
 ghost use Rattle.scenario_text.specs.declared.acts.Act.TheVariants.{Offer};
-ghost use Rattle.scenario_text.specs.Acts.{turns_of};
+ghost use Rattle.scenario_text.specs.Loads.{IsFrame, offers_of};
 ghost use Rattle.scenario_text.specs.Spelling.{world_of};
+ghost use Rattle.frame_capture.specs.declared.feeding.TheConstants.{FEED_MTU};
 ghost use Rattle.frame_capture.specs.Feed.{is_offered, offered_frames, weight, round_count, act_count, feed_acts, feed_world, IsTooLarge};
-ghost use Rattle.frame_capture.specs.Offers.{IsFrame};
 
 use crate::packets::{Capture, Packet};
 use ivs_base::{Frame, NoMemory};
-use pci_space::Wiring;
-use scenario_text::{Act, Acts, Flags, MOST_ACTS, Scenario, push_rounds};
-use section_map::{Geometry, PAGE};
-use split_ring::{FRAME_OVERHEAD, Queue, SHORTEST_FRAME};
+use scenario_text::{Act, Acts, MOST_ACTS, Scenario, link_scenario, push_rounds};
+use split_ring::{FRAME_OVERHEAD, SHORTEST_FRAME};
 use std::alloc::Global;
 use thiserror::Error;
 
@@ -105,7 +102,7 @@ fn plan_of(packets: &[Packet]) -> Option<Plan>
 fn offer(alloc: Global, packet: &Packet, peer: u32) -> Result<Act, NoMemory>
     requires { is_offered packet.now ≡ true }
     ensures act { IfOk result (λ act. act ≡ Offer peer packet.now.frame) }
-    ensures frame { OnOk result (IsFrame packet.now.frame) }
+    ensures frame { OnOk result (IsFrame FEED_MTU packet.now.frame) }
 {
     let bytes = packet.frame.bytes();
     let frame = Frame::of(alloc, bytes)?;
@@ -120,8 +117,8 @@ fn push_offers(
     packets: &[Packet],
     peer: u32,
 ) -> Result<(), NoMemory>
-    ensures put { OnOk result (acts.new ≡ acts.old ++ map (λ frame. Offer peer frame) (offered_frames packets.now)) }
-    ensures frames { OnOk result (All IsFrame (offered_frames packets.now)) }
+    ensures put { OnOk result (acts.new ≡ acts.old ++ offers_of peer (offered_frames packets.now)) }
+    ensures frames { OnOk result (All (IsFrame FEED_MTU) (offered_frames packets.now)) }
 {
     for packet in packets {
         if is_offered(packet) {
@@ -138,7 +135,7 @@ fn acts(alloc: Global, packets: &[Packet], peer: u32, plan: Plan) -> Result<Acts
     requires frames { plan.frames ≡ length (offered_frames packets.now) }
     requires rounds { plan.rounds ≡ round_count (offered_frames packets.now) }
     ensures acts { IfOk result (λ acts. acts ≡ feed_acts peer (offered_frames packets.now)) }
-    ensures frames { OnOk result (All IsFrame (offered_frames packets.now)) }
+    ensures frames { OnOk result (All (IsFrame FEED_MTU) (offered_frames packets.now)) }
 {
     let mut acts = Acts::new(alloc);
     acts.push(Act::Auto { peer, expect: 0 })?;
@@ -149,26 +146,6 @@ fn acts(alloc: Global, packets: &[Packet], peer: u32, plan: Plan) -> Result<Acts
     push_offers(alloc, &mut acts, packets, peer)?;
     push_rounds(&mut acts, FEED_STEPS, plan.rounds)?;
     Ok(acts)
-}
-
-/// Returns the region: a page for the State Table, and 127 pages for each of two peers.
-fn region() -> Geometry
-    ensures { result ≡ shape_of 2 PAGE 0 FEED_OUT }
-{
-    match Geometry::new(2, PAGE, 0, FEED_OUT) {
-        Ok(geometry) => geometry,
-        Err(_) => unreachable!(),
-    }
-}
-
-/// Returns the queue of such a section.
-fn section() -> Queue
-    ensures { result ≡ record { version = 1; out = FEED_OUT; mtu = FEED_MTU } }
-{
-    match Queue::of(FEED_OUT, FEED_MTU) {
-        Ok(queue) => queue,
-        Err(_) => unreachable!(),
-    }
 }
 
 /// Returns the scenario in which `peer`, 0 or 1, offers the capture's frames. These are the frames
@@ -192,16 +169,6 @@ pub fn scenario_of(alloc: Global, capture: &Capture, peer: u32) -> Result<Scenar
     let Some(plan) = plan_of(packets) else {
         return Err(FeedFault::TooLarge);
     };
-    let mut honest = Flags::new(alloc);
-    honest.push(true)?;
-    honest.push(true)?;
     let acts = acts(alloc, packets, peer, plan)?;
-    Ok(Scenario {
-        geometry: region(),
-        queue: section(),
-        wiring: Wiring::Msix(2),
-        honest,
-        acts,
-        version: 1,
-    })
+    Ok(link_scenario(alloc, FEED_OUT, FEED_MTU, acts)?)
 }

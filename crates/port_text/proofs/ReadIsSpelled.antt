@@ -3,7 +3,7 @@ use Rattle.std.proofs.Common.{◌≡◌, ℕ, ◌*◌, ◌/◌, ◌%◌, List, [
 use Rattle.line_format.specs.Rows.{Row, row, text_of}
 use Rattle.line_format.specs.Machine.{read}
 use Rattle.line_format.proofs.RowTexts as all
-use Rattle.scenario_text.proofs.ReadIsSpelled.{shape_is}
+use Rattle.scenario_text.proofs.ReadIsSpelled.{whole_pages, shape_is}
 use Rattle.port_text.specs.declared.forms.Form.{Form}
 use Rattle.port_text.specs.declared.forms.Form.TheVariants.{Version, Peers, Out, Longest, Begin, End}
 use Rattle.port_text.specs.declared.positions.Position.{Position}
@@ -17,9 +17,6 @@ use Rattle.port_text.proofs.FormsAreTable.{is_table}
 use Rattle.port_text.proofs.PositionInvariant.{PositionHolds, rows_before, are_kept, same_position}
 
 -- ---- a schedule
-
-whole_pages : (size : ℕ) → size % 4096 ≡ 0 → 4 * (size / 4) ≡ size
-whole_pages size is = omega arith
 
 -- The value of the lines up to the end is a schedule of ports.
 pub is_world : (e : DraftView) → PositionHolds Ended e → IsWorld (world_of_draft e)

@@ -1,27 +1,26 @@
-//! The tests of a line, in their order.
+//! The parts of the tests of a line, and the act of a line.
 ghost use Rattle.std.specs.Prelude.{◌≡◌, ◌<◌, ◌≤◌, ◌^◌, length, slice_index, slice_index_or, false, IsTrue};
-ghost use Rattle.line_format.specs.Forms.{texts, AreInRange};
+ghost use Rattle.line_format.specs.Forms.{AreInRange};
 ghost use Rattle.section_map.specs.Geometry.{word_count};
 ghost use Rattle.scenario_text.specs.Sizes.{is_geometry};
 ghost use Rattle.port_text.specs.Sizes.{ports_shape, has_port};
 ghost use Rattle.port_text.specs.Table.{pieces_of};
-ghost use Rattle.port_text.specs.Scenario.{is_in_range, is_its_peer, is_message_length, is_honest, is_peer, is_hostile};
-ghost use Rattle.port_text.specs.Judge.{world_of_draft, is_out_of_turn, is_out_of_order, fits_sizes, act_of, is_act, is_sample};
+ghost use Rattle.port_text.specs.Scenario.{is_honest, is_peer, is_hostile};
+ghost use Rattle.port_text.specs.Judge.{world_of_draft, is_out_of_turn, fits_sizes, act_of, is_act, is_sample};
 ghost use Rattle.port_text.specs.Drafts.{draft_view};
 
 use crate::acts::{Act, Message};
 use crate::drafts::Draft;
 use crate::forms::Form;
 use crate::limits::LONGEST_MESSAGE;
-use crate::positions::Position;
-use line_format::{flag_at, number_at, number_in};
+use line_format::{flag_at, number_at};
 use section_map::{Geometry, PAGE};
 
 /// The size of the region's State Table, in bytes: one page.
 pub const TABLE: u32 = PAGE;
 
 /// Whether the order rules about peer `p` forbid the line here.
-fn is_out_of_turn(draft: &Draft, form: Form, p: u64) -> bool
+pub fn is_out_of_turn(draft: &Draft, form: Form, p: u64) -> bool
     ensures { result ≡ is_out_of_turn (draft_view draft.now) form p }
 {
     match form {
@@ -30,76 +29,29 @@ fn is_out_of_turn(draft: &Draft, form: Form, p: u64) -> bool
     }
 }
 
-/// Whether the line is forbidden at this position.
-pub fn is_out_of_order(draft: &Draft, form: Form, fields: &[&[u8]]) -> bool
-    ensures { result ≡ is_out_of_order (draft_view draft.now) form (texts fields.now) }
-{
-    if Position::of(form) != draft.position {
-        return true;
-    }
-    match number_in(fields, 1) {
-        None => false,
-        Some(p) => is_out_of_turn(draft, form, p),
-    }
-}
-
 /// Returns the number of words of the region.
-fn words(draft: &Draft) -> u64
+pub fn words(draft: &Draft) -> u64
     ensures { result ≡ word_count (ports_shape draft.now.peers draft.now.out) }
 {
     u64::from(TABLE / 4) + u64::from(draft.peers) * (draft.out / 4)
 }
 
-/// Whether the numbers are in the ranges that depend on the head.
-pub fn is_in_range(draft: &Draft, form: Form, numbers: &[u64]) -> bool
-    ensures { result ≡ is_in_range (world_of_draft (draft_view draft.now)) form numbers.now }
-{
-    match form {
-        Form::Sample => number_at(numbers, 1) < u64::from(draft.peers),
-        Form::Poke => number_at(numbers, 1) < words(draft),
-        _ => true,
-    }
-}
-
-fn is_peer(draft: &Draft, p: u64) -> bool
+pub fn is_peer(draft: &Draft, p: u64) -> bool
     ensures { result ≡ is_peer (world_of_draft (draft_view draft.now)) p }
 {
     p < u64::from(draft.peers)
 }
 
-fn is_honest(draft: &Draft, p: u64) -> bool
+pub fn is_honest(draft: &Draft, p: u64) -> bool
     ensures { result ≡ is_honest (world_of_draft (draft_view draft.now)) p }
 {
     is_peer(draft, p) && flag_at(draft.honest.items(), p)
 }
 
-fn is_hostile(draft: &Draft, p: u64) -> bool
+pub fn is_hostile(draft: &Draft, p: u64) -> bool
     ensures { result ≡ is_hostile (world_of_draft (draft_view draft.now)) p }
 {
     is_peer(draft, p) && !flag_at(draft.honest.items(), p)
-}
-
-/// Whether the region has the peer, and the peer is of the kind that the form requires.
-pub fn is_its_peer(draft: &Draft, form: Form, numbers: &[u64]) -> bool
-    ensures { result ≡ is_its_peer (world_of_draft (draft_view draft.now)) form numbers.now }
-{
-    let p = number_at(numbers, 0);
-    match form {
-        Form::Publish | Form::Sample => is_honest(draft, p),
-        Form::Turn => is_peer(draft, p),
-        Form::Poke => is_hostile(draft, p),
-        _ => true,
-    }
-}
-
-/// Whether the message of a publish has 1 byte to the most bytes.
-pub fn is_message_length(draft: &Draft, form: Form, size: u64) -> bool
-    ensures { result ≡ is_message_length (world_of_draft (draft_view draft.now)) form size }
-{
-    match form {
-        Form::Publish => 1 <= size && size <= u64::from(draft.most),
-        _ => true,
-    }
 }
 
 /// Whether a region of these sizes exists.

@@ -1,7 +1,5 @@
 //! Reading a text of ports.
-ghost use Rattle.std.specs.Prelude.{◌≡◌, IfOk, true};
-ghost use Rattle.scenario_text.specs.Sizes.{is_geometry};
-ghost use Rattle.port_text.specs.Sizes.{ports_shape};
+ghost use Rattle.std.specs.Prelude.{◌≡◌, IfOk};
 ghost use Rattle.port_text.specs.Scenario.{World, IsWorld};
 ghost use Rattle.port_text.specs.Spelling.{world_of, IsSpelling};
 ghost use Rattle.port_text.specs.Judge.{world_of_draft, at_start, answer};
@@ -15,20 +13,8 @@ use crate::judging::TABLE;
 use crate::positions::Position;
 use crate::scenarios::Scenario;
 use line_format::read_text;
-use scenario_text::Flags;
-use section_map::Geometry;
+use scenario_text::{Flags, region};
 use std::alloc::Global;
-
-/// Returns the geometry of sizes that have a region.
-fn geometry(peers: u32, out: u64) -> Geometry
-    requires { is_geometry peers 4096 0 out ≡ true }
-    ensures { result ≡ ports_shape peers out }
-{
-    match Geometry::new(peers, TABLE, 0, out) {
-        Ok(geometry) => geometry,
-        Err(_) => unreachable!(),
-    }
-}
 
 impl Draft {
     /// Returns the draft of a text before its first line.
@@ -51,7 +37,7 @@ impl Draft {
         requires { IsWhole (draft_view self) }
         ensures { world_of result ≡ world_of_draft (draft_view self) }
     {
-        let geometry = geometry(self.peers, self.out);
+        let geometry = region(self.peers, TABLE, 0, self.out);
         let Draft {
             most,
             honest,

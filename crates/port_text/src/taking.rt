@@ -12,13 +12,11 @@ use crate::acts::{Act, Message};
 use crate::drafts::Draft;
 use crate::faults::Cause;
 use crate::forms::{FORMS, Form};
-use crate::judging::{
-    act_of, fits_sizes, is_in_range, is_its_peer, is_message_length, is_out_of_order,
-};
+use crate::judging::{act_of, fits_sizes, is_honest, is_hostile, is_out_of_turn, is_peer, words};
 use crate::limits::MOST_TURNS;
 use crate::positions::Position;
 use ivs_base::NoMemory;
-use line_format::{FieldKind, Grammar, LineFault, Test, number_at};
+use line_format::{FieldKind, Grammar, LineFault, Test, number_at, number_in};
 use std::alloc::Global;
 
 impl Draft {
@@ -109,19 +107,41 @@ impl Grammar for Draft {
     }
 
     fn is_out_of_order(&self, form: Form, fields: &[&[u8]]) -> bool {
-        is_out_of_order(self, form, fields)
+        if Position::of(form) != self.position {
+            return true;
+        }
+        match number_in(fields, 1) {
+            None => false,
+            Some(p) => is_out_of_turn(self, form, p),
+        }
     }
 
+    /// Whether the numbers are in the ranges that depend on the head.
     fn is_in_range(&self, form: Form, numbers: &[u64]) -> bool {
-        is_in_range(self, form, numbers)
+        match form {
+            Form::Sample => number_at(numbers, 1) < u64::from(self.peers),
+            Form::Poke => number_at(numbers, 1) < words(self),
+            _ => true,
+        }
     }
 
+    /// Whether the region has the peer, and the peer is of the kind that the form requires.
     fn is_its_peer(&self, form: Form, numbers: &[u64]) -> bool {
-        is_its_peer(self, form, numbers)
+        let p = number_at(numbers, 0);
+        match form {
+            Form::Publish | Form::Sample => is_honest(self, p),
+            Form::Turn => is_peer(self, p),
+            Form::Poke => is_hostile(self, p),
+            _ => true,
+        }
     }
 
+    /// Whether the message of a publish has 1 byte to the most bytes.
     fn fits(&self, form: Form, size: u64) -> bool {
-        is_message_length(self, form, size)
+        match form {
+            Form::Publish => 1 <= size && size <= u64::from(self.most),
+            _ => true,
+        }
     }
 
     fn is_ended(&self) -> bool {

@@ -9,6 +9,7 @@ pub mod ReadIsSpelled
 pub mod ReadIffSpelled
 pub mod SpelledIsRead
 pub mod PrintedParts
+pub mod LinkIsScenario
 pub mod LoadIsScenario
 pub mod LastActs
 pub mod RunningForm

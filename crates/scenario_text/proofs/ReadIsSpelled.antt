@@ -24,7 +24,7 @@ after d line e good is = all.later rules is_table rows_so_far IsGood are_kept d 
 
 -- ---- a scenario
 
-whole_pages : (size : ℕ) → size % 4096 ≡ 0 → 4 * (size / 4) ≡ size
+pub whole_pages : (size : ℕ) → size % 4096 ≡ 0 → 4 * (size / 4) ≡ size
 whole_pages size is = omega arith
 
 -- Sizes that have a region have a shape.

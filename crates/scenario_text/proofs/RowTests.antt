@@ -22,10 +22,10 @@ with_row r d = all.with_row rules r d
 
 -- ---- the peer of a row without a fault
 
-below : (p peers : ℕ) → peers ≤ 8 → ltb p peers ≡ true → p < 8
+pub below : (p peers : ℕ) → peers ≤ 8 → ltb p peers ≡ true → p < 8
 below p peers few is = let lt : p < peers = ltb-true p peers is in omega arith
 
-kind : (p peers : ℕ) (b : Bool) → peers ≤ 8 → (ltb p peers && b) ≡ true → p < 8
+pub kind : (p peers : ℕ) (b : Bool) → peers ≤ 8 → (ltb p peers && b) ≡ true → p < 8
 kind p peers b few is = below p peers few (both_true (ltb p peers) b is).0
 
 either : (c : Bool) (p peers : ℕ) (b : Bool) → peers ≤ 8 → cond c (ltb p peers && b) (ltb p peers) ≡ true → p < 8

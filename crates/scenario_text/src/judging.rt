@@ -1,23 +1,22 @@
-//! The tests of a line, in their order.
+//! The parts of the tests of a line, and the act of a line.
 ghost use Rattle.std.specs.Prelude.{◌≡◌, ◌<◌, ◌≤◌, ◌^◌, length, slice_index, slice_index_or, false, IfSome, IsTrue};
-ghost use Rattle.line_format.specs.Forms.{texts, AreInRange};
+ghost use Rattle.line_format.specs.Forms.{AreInRange};
 ghost use Rattle.section_map.specs.Faults.{shape_of};
 ghost use Rattle.section_map.specs.Geometry.{word_count};
 ghost use Rattle.scenario_text.specs.Acts.{peer_of};
 ghost use Rattle.scenario_text.specs.Table.{pieces_of};
-ghost use Rattle.scenario_text.specs.Scenario.{is_aligned, is_in_range, is_its_peer, is_frame_size, is_link, is_peer, is_hostile};
-ghost use Rattle.scenario_text.specs.Judge.{world_of_draft, is_out_of_turn, is_out_of_order, act_of, is_act};
+ghost use Rattle.scenario_text.specs.Scenario.{is_aligned, is_link, is_peer, is_hostile};
+ghost use Rattle.scenario_text.specs.Judge.{world_of_draft, is_out_of_turn, act_of, is_act};
 ghost use Rattle.scenario_text.specs.Drafts.{draft_view};
 
 use crate::acts::Act;
 use crate::drafts::Draft;
 use crate::forms::Form;
-use crate::positions::Position;
 use ivs_base::Frame;
-use line_format::{flag_at, number_at, number_in};
+use line_format::{flag_at, number_at};
 
 /// Whether the order rules about peer `p` forbid the line here.
-fn is_out_of_turn(draft: &Draft, form: Form, p: u64) -> bool
+pub fn is_out_of_turn(draft: &Draft, form: Form, p: u64) -> bool
     ensures { result ≡ is_out_of_turn (draft_view draft.now) form p }
 {
     match form {
@@ -29,103 +28,36 @@ fn is_out_of_turn(draft: &Draft, form: Form, p: u64) -> bool
     }
 }
 
-/// Whether the line is forbidden at this position.
-pub fn is_out_of_order(draft: &Draft, form: Form, fields: &[&[u8]]) -> bool
-    ensures { result ≡ is_out_of_order (draft_view draft.now) form (texts fields.now) }
-{
-    if Position::of(form) != draft.position {
-        return true;
-    }
-    match number_in(fields, 1) {
-        None => false,
-        Some(p) => is_out_of_turn(draft, form, p),
-    }
-}
-
 /// Whether `offset` is that of an aligned field of 1, 2 or 4 bytes.
-fn is_aligned(offset: u64, width: u64) -> bool
+pub fn is_aligned(offset: u64, width: u64) -> bool
     ensures { result ≡ is_aligned offset width }
 {
     width == 1 || (width == 2 && offset % 2 == 0) || (width == 4 && offset % 4 == 0)
 }
 
 /// Returns the number of words of the region.
-fn words(draft: &Draft) -> u64
+pub fn words(draft: &Draft) -> u64
     ensures { result ≡ word_count (shape_of draft.now.peers draft.now.table draft.now.common draft.now.out) }
 {
     u64::from(draft.table / 4) + draft.common / 4 + u64::from(draft.peers) * (draft.out / 4)
 }
 
-/// Whether the numbers are in the ranges that depend on the scenario or on one another.
-pub fn is_in_range(draft: &Draft, form: Form, numbers: &[u64]) -> bool
-    ensures { result ≡ is_in_range (world_of_draft (draft_view draft.now)) form numbers.now }
-{
-    match form {
-        Form::Poke | Form::Peek => number_at(numbers, 1) < words(draft),
-        Form::CfgRead | Form::CfgWrite => is_aligned(number_at(numbers, 1), number_at(numbers, 2)),
-        Form::MmioRead | Form::MmioWrite | Form::MsixRead | Form::MsixWrite => {
-            number_at(numbers, 1) % 4 == 0
-        }
-        _ => true,
-    }
-}
-
-fn is_peer(draft: &Draft, p: u64) -> bool
+pub fn is_peer(draft: &Draft, p: u64) -> bool
     ensures { result ≡ is_peer (world_of_draft (draft_view draft.now)) p }
 {
     p < u64::from(draft.peers)
 }
 
-fn is_link(draft: &Draft, p: u64) -> bool
+pub fn is_link(draft: &Draft, p: u64) -> bool
     ensures { result ≡ is_link (world_of_draft (draft_view draft.now)) p }
 {
     p < 2 && flag_at(draft.honest.items(), p)
 }
 
-fn is_hostile(draft: &Draft, p: u64) -> bool
+pub fn is_hostile(draft: &Draft, p: u64) -> bool
     ensures { result ≡ is_hostile (world_of_draft (draft_view draft.now)) p }
 {
     is_peer(draft, p) && !flag_at(draft.honest.items(), p)
-}
-
-/// Whether the scenario has the peer, and the peer is of the kind that the form requires.
-pub fn is_its_peer(draft: &Draft, form: Form, numbers: &[u64]) -> bool
-    ensures small { IsTrue result → IsTrue (is_act form) → slice_index numbers.now 0 < 8 }
-    ensures value { result ≡ is_its_peer (world_of_draft (draft_view draft.now)) form numbers.now }
-{
-    let p = number_at(numbers, 0);
-    match form {
-        Form::Tick | Form::Offer | Form::Poll | Form::Stop | Form::Auto => is_link(draft, p),
-        Form::Storm | Form::Poke | Form::Peek | Form::Set => is_hostile(draft, p),
-        Form::MmioWrite => {
-            if number_at(numbers, 1) == 16 {
-                is_hostile(draft, p)
-            } else {
-                is_peer(draft, p)
-            }
-        }
-        Form::Turn
-        | Form::Reset
-        | Form::Ring
-        | Form::CfgRead
-        | Form::CfgWrite
-        | Form::MmioRead
-        | Form::MsixRead
-        | Form::MsixWrite
-        | Form::Lose
-        | Form::Again => is_peer(draft, p),
-        _ => true,
-    }
-}
-
-/// Whether the frame of an offer has 14 to MTU + 18 bytes.
-pub fn is_frame_size(draft: &Draft, form: Form, size: u64) -> bool
-    ensures { result ≡ is_frame_size (world_of_draft (draft_view draft.now)) form size }
-{
-    match form {
-        Form::Offer => 14 <= size && size <= u64::from(draft.mtu) + 18,
-        _ => true,
-    }
 }
 
 /// Returns the act of a line, if its form is that of an act.

@@ -43,7 +43,7 @@ pub use laws::{
     bytes_after_end_are_bad_line, cut_is_no_end, fault_is_first, printed_is_read_again,
 };
 pub use limits::{LOAD_OUT, LOAD_ROUNDS, LOAD_STEPS, LONGEST_TEXT, MOST_ACTS, MOST_LOAD};
-pub use loads::{load, push_rounds};
+pub use loads::{link_scenario, load, push_rounds, region};
 pub use printing::{print, put_scenario};
 pub use reading::parse;
 pub use running::not_running;

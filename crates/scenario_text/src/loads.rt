@@ -1,9 +1,12 @@
-//! The scenario of a load: peer 0 offers frames, peer 1 delivers them, and both choose their calls.
-ghost use Rattle.std.specs.Prelude.{◌≡◌, ◌≤◌, ◌<◌, ◌++◌, IfOk, OnOk};
+//! The scenarios of two link peers that choose their calls: one offers frames, and the other
+//! delivers them. A load is such a scenario.
+ghost use Rattle.std.specs.Prelude.{◌≡◌, ◌≤◌, ◌<◌, ◌++◌, IfOk, OnOk, true};
 ghost use Rattle.section_map.specs.Faults.{shape_of};
 ghost use Rattle.scenario_text.specs.declared.limits.TheConstants.{MOST_LOAD};
+ghost use Rattle.scenario_text.specs.Sizes.{is_geometry};
+ghost use Rattle.scenario_text.specs.Scenario.{IsWorld};
 ghost use Rattle.scenario_text.specs.Spelling.{world_of};
-ghost use Rattle.scenario_text.specs.Loads.{load_frame, load_offers, rounds, load_acts, load_world};
+ghost use Rattle.scenario_text.specs.Loads.{offers_of, rounds, link_world, load_frame, load_frames, load_acts, load_world};
 
 use crate::acts::{Act, Acts, Flags};
 use crate::limits::{LOAD_OUT, LOAD_ROUNDS, LOAD_STEPS};
@@ -13,6 +16,41 @@ use pci_space::Wiring;
 use section_map::{Geometry, PAGE};
 use split_ring::{LEAST_MTU, Queue, SHORTEST_FRAME};
 use std::alloc::{AllocError, Global};
+
+/// Returns the geometry of sizes that have a region, all in bytes except the number of peers.
+// claim: Sizes that have a region give its geometry.
+pub fn region(peers: u32, table: u32, common: u64, out: u64) -> Geometry
+    requires { is_geometry peers table common out ≡ true }
+    ensures { result ≡ shape_of peers table common out }
+{
+    match Geometry::new(peers, table, common, out) {
+        Ok(geometry) => geometry,
+        Err(_) => unreachable!(),
+    }
+}
+
+/// Returns the scenario of two honest link peers with these acts. Each has an output section of
+/// `out` bytes. Returns `NoMemory` if an allocation fails.
+// claim: The scenario of two honest link peers has the sizes, the MTU and the acts that are given.
+pub fn link_scenario(alloc: Global, out: u64, mtu: u32, acts: Acts) -> Result<Scenario, NoMemory>
+    requires { IsWorld (link_world out mtu acts) }
+    ensures { IfOk result (λ scenario. world_of scenario ≡ link_world out mtu acts) }
+{
+    let mut honest = Flags::new(alloc);
+    honest.push(true)?;
+    honest.push(true)?;
+    let Ok(queue) = Queue::of(out, mtu) else {
+        unreachable!()
+    };
+    Ok(Scenario {
+        geometry: region(2, PAGE, 0, out),
+        queue,
+        wiring: Wiring::Msix(2),
+        honest,
+        acts,
+        version: 1,
+    })
+}
 
 /// Returns the bytes of frame `number`, from 0.
 fn frame_bytes(alloc: Global, number: u32) -> Result<Vec<u8>, AllocError>
@@ -35,7 +73,7 @@ fn frame(alloc: Global, number: u32) -> Result<Frame, NoMemory>
 
 /// Appends `count` `offer` lines.
 fn push_offers(alloc: Global, acts: &mut Acts, count: u32) -> Result<(), NoMemory>
-    ensures { OnOk result (acts.new ≡ acts.old ++ load_offers count) }
+    ensures { OnOk result (acts.new ≡ acts.old ++ offers_of 0 (load_frames count)) }
 {
     for number in 0..count {
         let frame = frame(alloc, number)?;
@@ -72,26 +110,6 @@ fn acts(alloc: Global, count: u32) -> Result<Acts, NoMemory>
     Ok(acts)
 }
 
-/// Returns the region: a page for the State Table, and four pages for each of two peers.
-fn region() -> Geometry
-    ensures { result ≡ shape_of 2 PAGE 0 LOAD_OUT }
-{
-    match Geometry::new(2, PAGE, 0, LOAD_OUT) {
-        Ok(geometry) => geometry,
-        Err(_) => unreachable!(),
-    }
-}
-
-/// Returns the queue of such a section, for the least MTU.
-fn section() -> Queue
-    ensures { result ≡ record { version = 1; out = LOAD_OUT; mtu = LEAST_MTU } }
-{
-    match Queue::of(LOAD_OUT, LEAST_MTU) {
-        Ok(queue) => queue,
-        Err(_) => unreachable!(),
-    }
-}
-
 /// Returns the scenario of a load of `count` frames, 1 to `MOST_LOAD` (profile). Peer 0 offers
 /// them, and peer 1 chooses its calls until it has delivered them. After the offers come
 /// `LOAD_ROUNDS` rounds of turns, and one more for each three frames. Returns `NoMemory` if an
@@ -103,16 +121,6 @@ pub fn load(alloc: Global, count: u32) -> Result<Scenario, NoMemory>
     requires few { count ≤ MOST_LOAD }
     ensures { IfOk result (λ scenario. world_of scenario ≡ load_world count) }
 {
-    let mut honest = Flags::new(alloc);
-    honest.push(true)?;
-    honest.push(true)?;
     let acts = acts(alloc, count)?;
-    Ok(Scenario {
-        geometry: region(),
-        queue: section(),
-        wiring: Wiring::Msix(2),
-        honest,
-        acts,
-        version: 1,
-    })
+    link_scenario(alloc, LOAD_OUT, LEAST_MTU, acts)
 }

@@ -14,11 +14,11 @@ use crate::acts::Act;
 use crate::drafts::Draft;
 use crate::faults::Cause;
 use crate::forms::{FORMS, Form};
-use crate::judging::{act_of, is_frame_size, is_in_range, is_its_peer, is_out_of_order};
+use crate::judging::{act_of, is_aligned, is_hostile, is_link, is_out_of_turn, is_peer, words};
 use crate::limits::MOST_ACTS;
 use crate::positions::Position;
 use ivs_base::{Frame, NoMemory};
-use line_format::{FieldKind, Grammar, LineFault, Test, number_at};
+use line_format::{FieldKind, Grammar, LineFault, Test, number_at, number_in};
 use pci_space::Wiring;
 use section_map::Geometry;
 use split_ring::Queue;
@@ -196,19 +196,62 @@ impl Grammar for Draft {
     }
 
     fn is_out_of_order(&self, form: Form, fields: &[&[u8]]) -> bool {
-        is_out_of_order(self, form, fields)
+        if Position::of(form) != self.position {
+            return true;
+        }
+        match number_in(fields, 1) {
+            None => false,
+            Some(p) => is_out_of_turn(self, form, p),
+        }
     }
 
+    /// Whether the numbers are in the ranges that depend on the scenario or on one another.
     fn is_in_range(&self, form: Form, numbers: &[u64]) -> bool {
-        is_in_range(self, form, numbers)
+        match form {
+            Form::Poke | Form::Peek => number_at(numbers, 1) < words(self),
+            Form::CfgRead | Form::CfgWrite => {
+                is_aligned(number_at(numbers, 1), number_at(numbers, 2))
+            }
+            Form::MmioRead | Form::MmioWrite | Form::MsixRead | Form::MsixWrite => {
+                number_at(numbers, 1) % 4 == 0
+            }
+            _ => true,
+        }
     }
 
+    /// Whether the scenario has the peer, and the peer is of the kind that the form requires.
     fn is_its_peer(&self, form: Form, numbers: &[u64]) -> bool {
-        is_its_peer(self, form, numbers)
+        let p = number_at(numbers, 0);
+        match form {
+            Form::Tick | Form::Offer | Form::Poll | Form::Stop | Form::Auto => is_link(self, p),
+            Form::Storm | Form::Poke | Form::Peek | Form::Set => is_hostile(self, p),
+            Form::MmioWrite => {
+                if number_at(numbers, 1) == 16 {
+                    is_hostile(self, p)
+                } else {
+                    is_peer(self, p)
+                }
+            }
+            Form::Turn
+            | Form::Reset
+            | Form::Ring
+            | Form::CfgRead
+            | Form::CfgWrite
+            | Form::MmioRead
+            | Form::MsixRead
+            | Form::MsixWrite
+            | Form::Lose
+            | Form::Again => is_peer(self, p),
+            _ => true,
+        }
     }
 
+    /// Whether the frame of an offer has 14 to MTU + 18 bytes.
     fn fits(&self, form: Form, size: u64) -> bool {
-        is_frame_size(self, form, size)
+        match form {
+            Form::Offer => 14 <= size && size <= u64::from(self.mtu) + 18,
+            _ => true,
+        }
     }
 
     fn is_ended(&self) -> bool {

@@ -11,7 +11,7 @@ ghost use Rattle.sim_world.specs.Playing.{StopsWithin};
 
 use crate::VERSION;
 use crate::playing::{Listener, Stopped, play_act};
-use scenario_text::{Act, load};
+use scenario_text::{Act, LOAD_ROUNDS, load};
 use simulator::Simulator;
 use std::alloc::Global;
 
@@ -28,7 +28,7 @@ fn act_count(count: u32) -> usize
     ensures { result ≡ length (load_acts count) }
 {
     let count = count as usize;
-    AUTOS + count + 2 * (200 + (count + 2) / 3)
+    AUTOS + count + 2 * (LOAD_ROUNDS as usize + (count + 2) / 3)
 }
 
 /// Returns act `at` of a load of `count` frames. `sample` has the acts of a load of `PERIOD`

@@ -1,4 +1,4 @@
-use Rattle.scenario_text.proofs.LoadIsScenario.{no_rounds, rounds_more}
+use Rattle.scenario_text.proofs.LinkIsScenario.{no_rounds, rounds_more}
 use Rattle.scenario_text.proofs.loads.push_rounds.Goals as goal
 
 pub loop-init : goal.loop-init

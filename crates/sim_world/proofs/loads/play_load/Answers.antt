@@ -10,6 +10,7 @@ use Rattle.lawful_history.specs.Schedule.{schedule}
 use Rattle.simulator.specs.Log.{no_output}
 use Rattle.simulator.specs.Simulator.{RunsTo}
 use Rattle.simulator.proofs.OneMoreEvent.{one_act, losses_few}
+use Rattle.sim_world.specs.declared.loads.TheConstants.{PERIOD}
 use Rattle.sim_world.specs.Playing.{output_of}
 use Rattle.sim_world.proofs.LoadActs.{acts_length, acts_of, is_act, starts_alike, load_received, load_stops}
 use Rattle.sim_world.proofs.StoppedPlays.{passed_on, acts_left, none_left}
@@ -20,14 +21,14 @@ loop-at-init g c =
     let simulator = c.in_ok-simulator.simulator in (
       record {
         gone = [];
-        runs = starts_alike 768 c.args.count 2 simulator c.requires.few (subst (λ (w : World). RunsTo w (no_output 2) [] simulator) c.in_ok-sample.ensures c.in_ok-simulator.ensures);
+        runs = starts_alike PERIOD c.args.count 2 simulator c.requires.few (subst (λ (w : World). RunsTo w (no_output 2) [] simulator) c.in_ok-sample.ensures c.in_ok-simulator.ensures);
         lines = c.requires.silent;
       },
       ap (λ (n : ℕ). Auto 1 n) c.from.ensures,
     )
 
 pub act_of-act-requires-clause-sample : goal.act_of-act-requires-clause-sample
-act_of-act-requires-clause-sample g c = c.items.ensures ∙ acts_of (world_of c.in_ok-sample.sample) 768 c.in_ok-sample.ensures
+act_of-act-requires-clause-sample g c = c.items.ensures ∙ acts_of (world_of c.in_ok-sample.sample) PERIOD c.in_ok-sample.ensures
 
 pub act_of-act-requires-clause-expecting : goal.act_of-act-requires-clause-expecting
 act_of-act-requires-clause-expecting g c = c.loop-at.invariant.1

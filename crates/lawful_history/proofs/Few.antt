@@ -53,7 +53,7 @@ none_reached p world older q (ReadsConfig offset width) = refl
 none_reached p world older q _ = refl
 
 none_keeps : (p : ℕ) → KeptByDevices (OpensNone p)
-none_keeps p = record { none = refl; interrupt = λ q vector lines rest. rest; lost = λ q vector lines rest. rest; reached = none_reached p }
+none_keeps p = record { interrupts = record { none = refl; interrupt = λ q vector lines rest. rest; lost = λ q vector lines rest. rest }; reached = none_reached p }
 
 none_mark : (p q : ℕ) (mark : Mark) (lines : List Line) → OpensNone p lines → OpensNone p (mark_line q mark ∷ lines)
 none_mark p q (Saw value) lines rest = rest

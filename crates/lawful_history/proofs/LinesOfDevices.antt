@@ -13,25 +13,33 @@ use Rattle.lawful_history.specs.Schedule.{Event, TurnTaken, RegionAccessed, Devi
 use Rattle.lawful_history.specs.EventRecords.{access_lines}
 use Rattle.lawful_history.specs.Device.{devices_of, device_events, delivery_line, delivery_lines, interrupts_of_event, lost_count, device_event_of, interrupts_of_access, step_interrupts, device_access_line, device_lines}
 
--- The empty list has the property, and so has the line of an access to a device. An interrupt that
--- is put before lines keeps the property.
-pub record KeptByDevices (Holds : List Line → Type 0) : Type 0 where
+-- The empty list has the property, and an interrupt that is put before lines keeps the property.
+pub record KeptByInterrupts (Holds : List Line → Type 0) : Type 0 where
   pub none : Holds []
   pub interrupt : (p vector : ℕ) (lines : List Line) → Holds lines → Holds (line.Interrupt p vector ∷ lines)
   pub lost : (p vector : ℕ) (lines : List Line) → Holds lines → Holds (line.Lost p vector ∷ lines)
+
+-- Also the line of an access to a device has the property.
+pub record KeptByDevices (Holds : List Line → Type 0) : Type 0 where
+  pub interrupts : KeptByInterrupts Holds
   pub reached : (world : World) (older : List Line) (p : ℕ) (a : DeviceAccess) → Holds (device_access_line world older p a ∷ [])
 
 -- A property of each line.
-pub keeps_all : (P : Line → Type 0) → ((p vector : ℕ) → P (line.Interrupt p vector)) → ((p vector : ℕ) → P (line.Lost p vector)) → ((world : World) (older : List Line) (p : ℕ) (a : DeviceAccess) → P (device_access_line world older p a)) →
-    KeptByDevices (AllByRecursion P)
-keeps_all P interrupt lost reached = record {
+pub all_interrupts : (P : Line → Type 0) → ((p vector : ℕ) → P (line.Interrupt p vector)) → ((p vector : ℕ) → P (line.Lost p vector)) → KeptByInterrupts (AllByRecursion P)
+all_interrupts P interrupt lost = record {
   none = tt;
   interrupt = λ p vector lines rest. (interrupt p vector, rest);
   lost = λ p vector lines rest. (lost p vector, rest);
+}
+
+pub keeps_all : (P : Line → Type 0) → ((p vector : ℕ) → P (line.Interrupt p vector)) → ((p vector : ℕ) → P (line.Lost p vector)) → ((world : World) (older : List Line) (p : ℕ) (a : DeviceAccess) → P (device_access_line world older p a)) →
+    KeptByDevices (AllByRecursion P)
+keeps_all P interrupt lost reached = record {
+  interrupts = all_interrupts P interrupt lost;
   reached = λ world older p a. (reached world older p a, tt);
 }
 
-module _ (Holds : List Line → Type 0) (keeps : KeptByDevices Holds) where
+module _ (Holds : List Line → Type 0) (keeps : KeptByInterrupts Holds) where
   arrival : (b : Bool) (p vector : ℕ) (lines : List Line) → Holds lines → Holds ((if b then line.Lost p vector else line.Interrupt p vector) ∷ lines)
   arrival true p vector lines rest = keeps.lost p vector lines rest
   arrival false p vector lines rest = keeps.interrupt p vector lines rest
@@ -42,7 +50,7 @@ module _ (Holds : List Line → Type 0) (keeps : KeptByDevices Holds) where
       arrival (nat_lt (lost_count older delivery.peer) (losses delivery.peer)) delivery.peer delivery.vector (delivery_lines (delivery_line older losses delivery ∷ older) losses deliveries)
       (arrived (delivery_line older losses delivery ∷ older) losses deliveries)
 
-  of_line : (world : World) (older : List Line) (losses : ℕ → ℕ) (line : Line) (recorded : Option device.Event) → Holds (interrupts_of_event world older losses line recorded)
+  pub of_line : (world : World) (older : List Line) (losses : ℕ → ℕ) (line : Line) (recorded : Option device.Event) → Holds (interrupts_of_event world older losses line recorded)
   of_line world older losses line None = keeps.none
   of_line world older losses line (Some event) = arrived (line ∷ older) losses (effect_of (devices_of world) (device_events older) event).deliveries.items
 
@@ -50,14 +58,18 @@ module _ (Holds : List Line → Type 0) (keeps : KeptByDevices Holds) where
   of_access world older losses [] = keeps.none
   of_access world older losses (line ∷ lines) = of_line world older losses line (device_event_of line)
 
+  pub of_interrupts : (world : World) (older : List Line) (losses : ℕ → ℕ) (p : ℕ) (went : Option Step) → Holds (step_interrupts world older losses p went)
+  of_interrupts world older losses p None = keeps.none
+  of_interrupts world older losses p (Some step) = of_access world older losses (access_lines p step.access step.value)
+
+module _ (Holds : List Line → Type 0) (keeps : KeptByDevices Holds) where
   pub of_step : (world : World) (older : List Line) (losses : ℕ → ℕ) (p : ℕ) (went : Option Step) → Holds (step_interrupts world older losses p went)
-  of_step world older losses p None = keeps.none
-  of_step world older losses p (Some step) = of_access world older losses (access_lines p step.access step.value)
+  of_step = of_interrupts Holds keeps.interrupts
 
   pub of_event : (world : World) (older : List Line) (losses : ℕ → ℕ) (event : Event) (went : Option Step) → Holds (device_lines world older losses event went)
   of_event world older losses (TurnTaken p) went = of_step world older losses p went
   of_event world older losses (RegionAccessed p a) went = of_step world older losses p went
-  of_event world older losses (DeviceReset p) went = of_line world older losses (line.Reset p) (device_event_of (line.Reset p))
+  of_event world older losses (DeviceReset p) went = of_line Holds keeps.interrupts world older losses (line.Reset p) (device_event_of (line.Reset p))
   of_event world older losses (DeviceAccessed p a) went = keeps.reached world older p a
-  of_event world older losses (InterruptRepeated p vector) went = keeps.interrupt p vector [] keeps.none
-  of_event world older losses _ went = keeps.none
+  of_event world older losses (InterruptRepeated p vector) went = keeps.interrupts.interrupt p vector [] keeps.interrupts.none
+  of_event world older losses _ went = keeps.interrupts.none

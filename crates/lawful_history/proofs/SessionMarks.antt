@@ -76,9 +76,11 @@ bare_reached world older p _ = refl
 
 bare_keeps : KeptByDevices IsBare
 bare_keeps = record {
-  none = refl;
-  interrupt = λ p vector lines rest. ap (λ ls. line.Interrupt p vector ∷ ls) rest;
-  lost = λ p vector lines rest. ap (λ ls. line.Lost p vector ∷ ls) rest;
+  interrupts = record {
+    none = refl;
+    interrupt = λ p vector lines rest. ap (λ ls. line.Interrupt p vector ∷ ls) rest;
+    lost = λ p vector lines rest. ap (λ ls. line.Lost p vector ∷ ls) rest;
+  };
   reached = bare_reached;
 }
 

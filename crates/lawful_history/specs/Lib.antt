@@ -1,5 +1,6 @@
 pub mod Sides
 pub mod Frames
+pub mod LinePeer
 pub mod Memory
 pub mod Schedule
 pub mod Permitted

@@ -1,4 +1,7 @@
 //! The lines of a history.
+ghost use Rattle.std.specs.Prelude.{◌≡◌};
+ghost use Rattle.lawful_history.specs.LinePeer.{peer_of};
+
 use ivs_base::Frame;
 use line_format::List;
 use split_ring::Refused;
@@ -151,6 +154,44 @@ pub enum Line {
         opened: u32,
         other: u32,
     },
+}
+
+impl Line {
+    /// Returns the peer of the line: that of its access or mark, or the target of its interrupt.
+    // claim: A line is of one peer: that of its access or mark, or the target of its interrupt.
+    pub fn peer(&self) -> u32
+        ensures { result ≡ peer_of self.now }
+    {
+        match self {
+            Line::Read { peer, .. }
+            | Line::Write { peer, .. }
+            | Line::Denied { peer, .. }
+            | Line::State { peer, .. }
+            | Line::Doorbell { peer, .. }
+            | Line::Interrupt { peer, .. }
+            | Line::Lost { peer, .. }
+            | Line::Reset { peer }
+            | Line::Idle { peer }
+            | Line::ConfigRead { peer, .. }
+            | Line::ConfigWrite { peer, .. }
+            | Line::RegisterRead { peer, .. }
+            | Line::RegisterWrite { peer, .. }
+            | Line::MsixRead { peer, .. }
+            | Line::MsixWrite { peer, .. }
+            | Line::Saw { peer, .. }
+            | Line::Reclaim { peer, .. }
+            | Line::Look { peer, .. }
+            | Line::Full { peer }
+            | Line::Done { peer }
+            | Line::Over { peer }
+            | Line::Down { peer }
+            | Line::Accept { peer, .. }
+            | Line::Deliver { peer, .. }
+            | Line::Return { peer }
+            | Line::Refuse { peer, .. }
+            | Line::Session { peer, .. } => *peer,
+        }
+    }
 }
 
 /// A history: its lines in order.

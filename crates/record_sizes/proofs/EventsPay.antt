@@ -17,7 +17,7 @@ use Rattle.call_grammar.specs.Places.{Place, Closed, NotInRun, ReadingUsedIndex,
 use Rattle.call_grammar.proofs.PlacesFollowTrees.{following}
 use Rattle.lawful_history.specs.declared.line.Line.{Line}
 use Rattle.lawful_history.specs.declared.line.Line.TheVariants as line
-use Rattle.lawful_history.specs.Schedule.{Event, CallQueued, AutoStarted, StormStarted, TurnTaken, RegionAccessed, DeviceReset, DeviceAccessed, InterruptDropped, InterruptRepeated, event_peer}
+use Rattle.lawful_history.specs.Schedule.{Event, TurnTaken, RegionAccessed, DeviceReset, event_peer}
 use Rattle.lawful_history.specs.Sides.{config_of}
 use Rattle.lawful_history.specs.Storm.{storm_step}
 use Rattle.lawful_history.specs.EventRecords.{EventRecord, owner, access_lines, mark_line, step_lines, turn_lines, denied_lines, region_access_lines, lines_by, lines_of}
@@ -55,9 +55,6 @@ step_bytes peer step device fits few =
 
 -- The device's lines are among those of an event record.
 device_fits : (event : Event) (went : Option Step) (device : List Line) → AreFitting (lines_by event went device) → AreFitting device
-device_fits (CallQueued peer call) went device fits = fits
-device_fits (AutoStarted peer expected) went device fits = fits
-device_fits (StormStarted peer seed) went device fits = fits
 device_fits (TurnTaken peer) None device fits = fits.1
 device_fits (TurnTaken peer) (Some step) device fits =
     (parts_fit device (map (mark_line peer) step.marks) (parts_fit (access_lines peer step.access step.value) (device ++ map (mark_line peer) step.marks) fits).1).0
@@ -65,9 +62,7 @@ device_fits (RegionAccessed peer a) None device fits = (parts_fit (denied_lines 
 device_fits (RegionAccessed peer a) (Some step) device fits =
     (parts_fit device (map (mark_line peer) step.marks) (parts_fit (access_lines peer step.access step.value) (device ++ map (mark_line peer) step.marks) fits).1).0
 device_fits (DeviceReset peer) went device fits = fits.1
-device_fits (DeviceAccessed peer a) went device fits = fits
-device_fits (InterruptDropped peer) went device fits = fits
-device_fits (InterruptRepeated peer vector) went device fits = fits
+device_fits _ went device fits = fits
 
 -- An event record of a peer of one digit whose lines fit, and whose device's lines have their room
 
@@ -144,10 +139,7 @@ begins_at config peer most (Reads word marks rest) at = at
 
 access_price : (peer : ℕ) → length (decimal peer) ≤ 1 → (a : Access) (value : ℕ) → prices (access_lines peer a value) + interrupts_price a ≤ 182
 access_price peer one (access.Read word) value = omega arith
-access_price peer one (access.Write word written) value = omega arith
-access_price peer one (access.State state) value = omega arith
-access_price peer one (access.Ring target vector) value = omega arith
-access_price peer one access.Nothing value = omega arith
+access_price peer one _ value = omega arith
 
 bare_bytes : (peer : ℕ) → length (decimal peer) ≤ 1 → (a : Access) (value : ℕ) (device : List Line) → AreFitting (step_lines peer (step_of a value []) device) → lines_cost device ≤ interrupts_price a →
     lines_cost (step_lines peer (step_of a value []) device) ≤ 200
@@ -160,10 +152,7 @@ denied_bytes peer a device fits few =
   where
     denied_price : (peer : ℕ) (a : Access) → prices (denied_lines peer a) ≤ 29
     denied_price peer (access.Read word) = omega arith
-    denied_price peer (access.Write word written) = omega arith
-    denied_price peer (access.State state) = omega arith
-    denied_price peer (access.Ring target vector) = omega arith
-    denied_price peer access.Nothing = omega arith
+    denied_price peer _ = omega arith
 
 -- An event record pays
 
@@ -246,17 +235,12 @@ module _ (world : World) (p : ℕ) where
 
   event_owes : (old new : Progress) (event : Event) → length (decimal (event_peer event)) ≤ 1 → (went : Option Step) (device : List Line) (spent count : ℕ) → EventStep world p old event went new → AreFitting (lines_by event went device) → lines_cost device ≤ device_room event went →
       Owes (config_of world p) old spent count → Owes (config_of world p) new (spent + lines_cost (lines_by event went device)) (suc count)
-  event_owes old new (CallQueued peer call) one went device spent count acts fits few owes = stays_owes old new spent _ count (ap (λ (x : Progress). x.left) acts.1) (omega (arith, few)) owes
-  event_owes old new (AutoStarted peer expected) one went device spent count acts fits few owes = stays_owes old new spent _ count (ap (λ (x : Progress). x.left) acts.1) (omega (arith, few)) owes
-  event_owes old new (StormStarted peer seed) one went device spent count acts fits few owes = stays_owes old new spent _ count (ap (λ (x : Progress). x.left) acts.1) (omega (arith, few)) owes
   event_owes old new (TurnTaken peer) one went device spent count acts fits few owes = turn_owes peer one old new went device spent count acts fits few owes
   event_owes old new (RegionAccessed peer a) one went device spent count acts fits few owes = stays_owes old new spent _ count (ap (λ (x : Progress). x.left) acts.1) (acted_bytes peer one a went device acts.0 fits few) owes
   event_owes old new (DeviceReset peer) one went device spent count acts fits few owes =
       let first = priced (line.Reset peer) fits.0 in
       owes_then (config_of world p) new Closed spent _ (credit owes.place) count (ap (λ (x : Progress). x.left) acts.1) owes.paid (omega (arith, first, few))
-  event_owes old new (DeviceAccessed peer a) one went device spent count acts fits few owes = stays_owes old new spent _ count (ap (λ (x : Progress). x.left) acts.1) (omega (arith, few)) owes
-  event_owes old new (InterruptDropped peer) one went device spent count acts fits few owes = stays_owes old new spent _ count (ap (λ (x : Progress). x.left) acts.1) (omega (arith, few)) owes
-  event_owes old new (InterruptRepeated peer vector) one went device spent count acts fits few owes = stays_owes old new spent _ count (ap (λ (x : Progress). x.left) acts.1) (omega (arith, few)) owes
+  event_owes old new _ one went device spent count acts fits few owes = stays_owes old new spent _ count (ap (λ (x : Progress). x.left) acts.1) (omega (arith, few)) owes
 
 -- The event records of a peer
 

@@ -13,7 +13,7 @@ use Rattle.scenario_text.specs.Scenario.{World}
 use Rattle.call_grammar.specs.Steps.{Step}
 use Rattle.lawful_history.specs.declared.line.Line.{Line}
 use Rattle.lawful_history.specs.declared.line.Line.TheVariants as line
-use Rattle.lawful_history.specs.Schedule.{Event, CallQueued, AutoStarted, StormStarted, TurnTaken, RegionAccessed, DeviceReset, DeviceAccessed, InterruptDropped, InterruptRepeated, DeviceAccess, ReadsConfig, WritesConfig, ReadsRegister, WritesRegister, ReadsMsix, WritesMsix}
+use Rattle.lawful_history.specs.Schedule.{Event, TurnTaken, RegionAccessed, DeviceReset, DeviceAccessed, InterruptRepeated, DeviceAccess, ReadsConfig}
 use Rattle.lawful_history.specs.EventRecords.{access_lines}
 use Rattle.lawful_history.specs.Device.{devices_of, device_events, lost_count, delivery_line, delivery_lines, interrupts_of_event, device_event_of, interrupts_of_access, step_interrupts, device_access_line, device_lines}
 use Rattle.record_text.specs.Spelling.{Fits}
@@ -73,20 +73,14 @@ module _ (world : World) (few : world.geometry.peers ≤ 8) where
 
   access_bytes : (older : List Line) (losses : ℕ → ℕ) (peer : ℕ) (a : Access) (value : ℕ) → AllByRecursion Fits (interrupts_of_access world older losses (access_lines peer a value)) →
       lines_cost (interrupts_of_access world older losses (access_lines peer a value)) ≤ interrupts_price a
-  access_bytes older losses peer (access.Read word) value fits = omega arith
-  access_bytes older losses peer (access.Write word written) value fits = omega arith
   access_bytes older losses peer (access.State state) value fits = event_bytes older losses (line.State peer state) (device_event_of (line.State peer state)) fits
   access_bytes older losses peer (access.Ring target vector) value fits = event_bytes older losses (line.Doorbell peer target vector) (device_event_of (line.Doorbell peer target vector)) fits
-  access_bytes older losses peer access.Nothing value fits = omega arith
+  access_bytes older losses peer _ value fits = omega arith
 
   -- A device access.
   reached_price : (older : List Line) (peer : ℕ) (a : DeviceAccess) → price (device_access_line world older peer a) ≤ 47
   reached_price older peer (ReadsConfig offset width) = omega arith
-  reached_price older peer (WritesConfig offset width value) = omega arith
-  reached_price older peer (ReadsRegister offset) = omega arith
-  reached_price older peer (WritesRegister offset value) = omega arith
-  reached_price older peer (ReadsMsix offset) = omega arith
-  reached_price older peer (WritesMsix offset value) = omega arith
+  reached_price older peer _ = omega arith
 
 -- The lines of the devices in an event
 
@@ -95,15 +89,12 @@ step_room None = 0
 step_room (Some step) = interrupts_price step.access
 
 abbrev pub device_room : Event → Option Step → ℕ
-device_room (CallQueued peer call) went = 0
-device_room (AutoStarted peer expected) went = 0
-device_room (StormStarted peer seed) went = 0
 device_room (TurnTaken peer) went = step_room went
 device_room (RegionAccessed peer a) went = step_room went
 device_room (DeviceReset peer) went = 144
 device_room (DeviceAccessed peer a) went = 47
-device_room (InterruptDropped peer) went = 0
 device_room (InterruptRepeated peer vector) went = 24
+device_room _ went = 0
 
 went_bytes : (world : World) → world.geometry.peers ≤ 8 → (older : List Line) (losses : ℕ → ℕ) (peer : ℕ) (went : Option Step) → AllByRecursion Fits (step_interrupts world older losses peer went) → lines_cost (step_interrupts world older losses peer went) ≤ step_room went
 went_bytes world few older losses peer None fits = omega arith
@@ -111,13 +102,10 @@ went_bytes world few older losses peer (Some step) fits = access_bytes world few
 
 pub device_bytes : (world : World) → world.geometry.peers ≤ 8 → (older : List Line) (losses : ℕ → ℕ) (event : Event) (went : Option Step) → AllByRecursion Fits (device_lines world older losses event went) →
     lines_cost (device_lines world older losses event went) ≤ device_room event went
-device_bytes world few older losses (CallQueued peer call) went fits = omega arith
-device_bytes world few older losses (AutoStarted peer expected) went fits = omega arith
-device_bytes world few older losses (StormStarted peer seed) went fits = omega arith
 device_bytes world few older losses (TurnTaken peer) went fits = went_bytes world few older losses peer went fits
 device_bytes world few older losses (RegionAccessed peer a) went fits = went_bytes world few older losses peer went fits
 device_bytes world few older losses (DeviceReset peer) went fits = event_bytes world few older losses (line.Reset peer) (device_event_of (line.Reset peer)) fits
 device_bytes world few older losses (DeviceAccessed peer a) went fits =
     let one = priced (device_access_line world older peer a) fits.0 in let most = reached_price world few older peer a in omega (arith, one, most)
-device_bytes world few older losses (InterruptDropped peer) went fits = omega arith
 device_bytes world few older losses (InterruptRepeated peer vector) went fits = let one = priced (line.Interrupt peer vector) fits.0 in omega (arith, one)
+device_bytes world few older losses _ went fits = omega arith

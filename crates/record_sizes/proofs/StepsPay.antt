@@ -33,11 +33,9 @@ marks_price peer marks = prices (map (mark_line peer) marks)
 
 -- An access that may interrupt others has room for eight interrupts of 18 bytes.
 abbrev pub interrupts_price : Access → ℕ
-interrupts_price (access.Read word) = 0
-interrupts_price (access.Write word value) = 0
 interrupts_price (access.State value) = 144
 interrupts_price (access.Ring target vector) = 144
-interrupts_price access.Nothing = 0
+interrupts_price _ = 0
 
 -- The credit of the current frame: 8 digits for each of its words that was written or read
 

@@ -1,9 +1,6 @@
 -- Lines whose numbers fit the devices.
 use Rattle.std.proofs.Common.{◌≡◌, ℕ, ◌+◌, ◌<◌, ◌≤◌, Bool, true, false, List, [], ◌∷◌, ◌++◌, length, take, drop, get_or, sym, ap, ◌∙◌, arith, subst}
-use Rattle.std.specs.Prelude.{Option, Some, None, reverse, map, nat_lt, if◌then◌else◌}
-use Rattle.doorbell_irq.specs.declared.effect.Delivery.{Delivery}
-use Rattle.doorbell_irq.specs.Events as device
-use Rattle.doorbell_irq.specs.DeviceRules.{effect_of}
+use Rattle.std.specs.Prelude.{Some, None, reverse, map, if◌then◌else◌}
 use Rattle.split_ring.specs.declared.steps.Access.{Access}
 use Rattle.split_ring.specs.declared.steps.Access.TheVariants as access
 use Rattle.section_map.specs.MayWrite.{may_write}
@@ -12,7 +9,7 @@ use Rattle.call_grammar.specs.Steps.{Mark, Saw, Step}
 use Rattle.lawful_history.specs.declared.line.Line.{Line}
 use Rattle.lawful_history.specs.declared.line.Line.TheVariants as line
 use Rattle.lawful_history.specs.EventRecords.{access_lines, mark_line, step_lines}
-use Rattle.lawful_history.specs.Device.{devices_of, device_events, device_event_of, lost_count, delivery_line, delivery_lines, interrupts_of_event, interrupts_of_line, interrupts_of_access, step_interrupts}
+use Rattle.lawful_history.specs.Device.{device_event_of, interrupts_of_line, step_interrupts}
 use Rattle.std.proofs.lemmas.Bool.Decides.{nat_tests}
 use Rattle.pci_space.specs.Fields.{is_access}
 use Rattle.call_grammar.specs.Steps.{step_of}
@@ -24,6 +21,7 @@ use Rattle.lawful_history.specs.History.{acted_step}
 use Rattle.reference_history.specs.Events.{IsPlaced}
 use Rattle.reference_history.specs.DeviceEvents.{FitsDevices, AllFitDevices, FitsDoorbell}
 use Rattle.std.proofs.lemmas.List.{reverse-append, take-append-drop}
+use Rattle.lawful_history.proofs.LinesOfDevices.{KeptByInterrupts, all_interrupts, of_line, of_interrupts}
 use Rattle.reference_history.proofs.ReadLines.{reversed_after, newest}
 
 pub recorded-append : (peers : ℕ) (xs ys : List Line) → AllFitDevices peers xs → AllFitDevices peers ys → AllFitDevices peers (xs ++ ys)
@@ -35,21 +33,9 @@ pub recorded-after : (peers : ℕ) (xs past : List Line) → AllFitDevices peers
 recorded-after peers [] past here more = more
 recorded-after peers (x ∷ xs) past here more = subst (λ (ls : List Line). AllFitDevices peers ls) (sym (reversed_after (x ∷ []) xs past)) (recorded-after peers xs (x ∷ past) here.1 (here.0, more))
 
-one_recorded : (peers : ℕ) (b : Bool) (p vector : ℕ) → FitsDevices peers (if b then line.Lost p vector else line.Interrupt p vector)
-one_recorded peers true p vector = tt
-one_recorded peers false p vector = tt
-
-pub arrived_recorded : (peers : ℕ) (older : List Line) (losses : ℕ → ℕ) (ds : List Delivery) → AllFitDevices peers (delivery_lines older losses ds)
-arrived_recorded peers older losses [] = tt
-arrived_recorded peers older losses (d ∷ ds) = (one_recorded peers (nat_lt (lost_count older d.peer) (losses d.peer)) d.peer d.vector, arrived_recorded peers (delivery_line older losses d ∷ older) losses ds)
-
-pub arrivals_recorded : (world : World) (peers : ℕ) (older : List Line) (losses : ℕ → ℕ) (line : Line) (recorded : Option device.Event) → AllFitDevices peers (interrupts_of_event world older losses line recorded)
-arrivals_recorded world peers older losses line None = tt
-arrivals_recorded world peers older losses line (Some event) = arrived_recorded peers (line ∷ older) losses (effect_of (devices_of world) (device_events older) event).deliveries.items
-
-brought_recorded : (world : World) (peers : ℕ) (older : List Line) (losses : ℕ → ℕ) (lines : List Line) → AllFitDevices peers (interrupts_of_access world older losses lines)
-brought_recorded world peers older losses [] = tt
-brought_recorded world peers older losses (line ∷ lines) = arrivals_recorded world peers older losses line (device_event_of line)
+-- The lines of interrupts.
+interrupts_recorded : (peers : ℕ) → KeptByInterrupts (AllFitDevices peers)
+interrupts_recorded peers = all_interrupts (FitsDevices peers) (λ p vector. tt) (λ p vector. tt)
 
 mark_recorded : (peers p : ℕ) (mark : Mark) → FitsDevices peers (mark_line p mark)
 mark_recorded peers p (Saw value) = tt
@@ -71,10 +57,10 @@ pub step_recorded : (world : World) (peers p : ℕ) (past : List Line) (losses :
     AllFitDevices peers (reverse (step_lines p step (step_interrupts world past losses p (Some step))) ++ past)
 step_recorded world peers p past losses step there fits recorded =
     let first = access_lines p step.access step.value in
-    let dev = interrupts_of_access world past losses first in
+    let dev = step_interrupts world past losses p (Some step) in
     recorded-after peers (step_lines p step dev) past
     (recorded-append peers first (dev ++ map (mark_line p) step.marks) (access_recorded peers p step.access step.value there fits)
-    (recorded-append peers dev (map (mark_line p) step.marks) (brought_recorded world peers past losses first) (marks_recorded peers p step.marks))) recorded
+    (recorded-append peers dev (map (mark_line p) step.marks) (of_interrupts (AllFitDevices peers) (interrupts_recorded peers) world past losses p (Some step)) (marks_recorded peers p step.marks))) recorded
 
 recorded_last : (peers : ℕ) (xs ys : List Line) → AllFitDevices peers (xs ++ ys) → AllFitDevices peers ys
 recorded_last peers [] ys all = all
@@ -105,7 +91,7 @@ acted_recorded world p past losses access.Nothing there fits recorded = step_rec
 pub reset_recorded : (world : World) (p : ℕ) (past : List Line) (losses : ℕ → ℕ) → p < world.geometry.peers → AllFitDevices world.geometry.peers past →
     AllFitDevices world.geometry.peers (reverse (line.Reset p ∷ interrupts_of_line world past losses (line.Reset p)) ++ past)
 reset_recorded world p past losses there recorded =
-    recorded-after world.geometry.peers (line.Reset p ∷ interrupts_of_line world past losses (line.Reset p)) past (there, arrivals_recorded world world.geometry.peers past losses (line.Reset p) (device_event_of (line.Reset p))) recorded
+    recorded-after world.geometry.peers (line.Reset p ∷ interrupts_of_line world past losses (line.Reset p)) past (there, of_line (AllFitDevices world.geometry.peers) (interrupts_recorded world.geometry.peers) world past losses (line.Reset p) (device_event_of (line.Reset p))) recorded
 
 within : (offset width : ℕ) → is_access 256 offset width ≡ true → offset + width ≤ 256
 within offset width is = grind (arith, nat_tests)

@@ -30,19 +30,14 @@ HasPast peers lines read = (past : List Line) × Reads lines past (Some read) ×
 
 -- The target and the vector of a doorbell have 16 bits each.
 abbrev pub FitsDoorbell : Access → Type 0
-FitsDoorbell (access.Read word) = Unit {0}
-FitsDoorbell (access.Write word value) = Unit {0}
-FitsDoorbell (access.State state) = Unit {0}
 FitsDoorbell (access.Ring target vector) = (target < 2 ^ 16) × (vector < 2 ^ 16)
-FitsDoorbell access.Nothing = Unit {0}
+FitsDoorbell _ = Unit {0}
 
 -- The device event of an access of a peer.
 abbrev pub device_event_of_access : ℕ → Access → Option device.Event
-device_event_of_access peer (access.Read word) = None
-device_event_of_access peer (access.Write word value) = None
 device_event_of_access peer (access.State state) = Some (device.RegisterWritten peer device.state_register state)
 device_event_of_access peer (access.Ring target vector) = Some (device.RegisterWritten peer device.doorbell_register (device.doorbell_word target vector))
-device_event_of_access peer access.Nothing = None
+device_event_of_access peer _ = None
 
 -- The interrupts that an event causes after others.
 abbrev pub brought : device.Devices → List device.Event → Option device.Event → List Delivery

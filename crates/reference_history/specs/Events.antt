@@ -41,11 +41,8 @@ event_view (Repeated peer vector) = schedule.InterruptRepeated peer vector
 
 -- The number of a written word has 32 bits.
 abbrev pub HasWord : Access → Type 0
-HasWord (access.Read word) = Unit {0}
 HasWord (access.Write word value) = word < 2 ^ 32
-HasWord (access.State state) = Unit {0}
-HasWord (access.Ring target vector) = Unit {0}
-HasWord access.Nothing = Unit {0}
+HasWord _ = Unit {0}
 
 -- The write of this word is denied to the peer. Or the access isn't denied, and its step is made
 -- for every value that it meets.
@@ -57,21 +54,12 @@ IsDenied world me a (Some word) = ((past : List Line) → acted_step world me a 
 abbrev pub IsPlaced : schedule.DeviceAccess → Type 0
 IsPlaced (schedule.ReadsConfig offset width) = is_access 256 offset width ≡ true
 IsPlaced (schedule.WritesConfig offset width value) = is_access 256 offset width ≡ true
-IsPlaced (schedule.ReadsRegister offset) = Unit {0}
-IsPlaced (schedule.WritesRegister offset value) = Unit {0}
-IsPlaced (schedule.ReadsMsix offset) = Unit {0}
-IsPlaced (schedule.WritesMsix offset value) = Unit {0}
+IsPlaced _ = Unit {0}
 
 abbrev pub Fits : schedule.Event → Type 0
-Fits (schedule.CallQueued peer call) = Unit {0}
-Fits (schedule.AutoStarted peer expected) = Unit {0}
-Fits (schedule.StormStarted peer seed) = Unit {0}
-Fits (schedule.TurnTaken peer) = Unit {0}
 Fits (schedule.RegionAccessed peer a) = FitsDoorbell a × HasWord a
-Fits (schedule.DeviceReset peer) = Unit {0}
 Fits (schedule.DeviceAccessed peer a) = IsPlaced a
-Fits (schedule.InterruptDropped peer) = Unit {0}
-Fits (schedule.InterruptRepeated peer vector) = Unit {0}
+Fits _ = Unit {0}
 
 -- The event can happen in the world: it is of one of its peers, and its numbers fit.
 pub record CanHappen (world : World) (event : schedule.Event) : Type 0 where

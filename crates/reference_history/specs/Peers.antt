@@ -49,9 +49,8 @@ IsFresh most end _ = Unit {0}
 
 -- An automatic end delivered at most `most` frames.
 abbrev pub HasFew : ℕ → Driver → Type 0
-HasFew most Waits = Unit {0}
 HasFew most (Chooses auto) = auto.delivered ≤ most
-HasFew most (Storms x) = Unit {0}
+HasFew most _ = Unit {0}
 
 -- The peer represents this peer of the history, and its counts are at most `most`.
 pub record IsPeer (config : EndConfig) (most : ℕ) (seen : Peer) (peer : history.Peer) : Type 0 where

@@ -27,7 +27,4 @@ ReadsAfter lines table read added to = (past : List Line) (losses : ℕ → ℕ)
 -- A read meets the last value written to its word; any other access meets 0.
 abbrev pub Meets : List Line → Access → ℕ → Type 0
 Meets past (access.Read word) value = value ≡ last_write past word
-Meets past (access.Write word written) value = value ≡ 0
-Meets past (access.State state) value = value ≡ 0
-Meets past (access.Ring target vector) value = value ≡ 0
-Meets past access.Nothing value = value ≡ 0
+Meets past _ value = value ≡ 0

@@ -3,7 +3,7 @@ use Rattle.std.specs.Prelude.{ℕ, zero, suc, ◌≡◌, ◌+◌, ◌*◌, ◌<�
 use Rattle.std.specs.Int.{bit_at}
 use Rattle.section_map.specs.Geometry.{word_count}
 use Rattle.shared_words.specs.declared.run_setup.RunSetup.{RunSetup}
-use Rattle.shared_words.specs.Actions.{Action, accessed, rang, looked, cleared}
+use Rattle.shared_words.specs.Actions.{Action, rang, looked, cleared}
 
 -- The words after the region's words.
 
@@ -53,38 +53,28 @@ sum_below (suc n) f = sum_below n f + f n
 
 -- the action sets this bit at this target
 unfoldable pub rings_bit : {A : Type 0} → (target bit : ℕ) → Action A → ℕ
-rings_bit target bit (accessed a) = 0
 rings_bit target bit (rang at b) = one_if ((at == target) && (b == bit))
-rings_bit target bit (looked found) = 0
-rings_bit target bit (cleared at found) = 0
+rings_bit target bit _ = 0
 
 -- The action sets any bit at this target.
 unfoldable pub rings_target : {A : Type 0} → (target : ℕ) → Action A → ℕ
-rings_target target (accessed a) = 0
 rings_target target (rang at b) = one_if (at == target)
-rings_target target (looked found) = 0
-rings_target target (cleared at found) = 0
+rings_target target _ = 0
 
 -- The action is a look that found this bit.
 unfoldable pub finds_bit : {A : Type 0} → (bit : ℕ) → Action A → ℕ
-finds_bit bit (accessed a) = 0
-finds_bit bit (rang at b) = 0
 finds_bit bit (looked found) = bit_at found bit
-finds_bit bit (cleared at found) = 0
+finds_bit bit _ = 0
 
 -- The action is a clear at this target that found its bit set.
 unfoldable pub clears_set_bit : {A : Type 0} → (target : ℕ) → Action A → ℕ
-clears_set_bit target (accessed a) = 0
-clears_set_bit target (rang at b) = 0
-clears_set_bit target (looked found) = 0
 clears_set_bit target (cleared at found) = if at == target then bit_at found 0 else 0
+clears_set_bit target _ = 0
 
 -- The action is a clear at this target.
 unfoldable pub clears_target : {A : Type 0} → (target : ℕ) → Action A → ℕ
-clears_target target (accessed a) = 0
-clears_target target (rang at b) = 0
-clears_target target (looked found) = 0
 clears_target target (cleared at found) = one_if (at == target)
+clears_target target _ = 0
 
 -- The invariant of the interrupt words.
 

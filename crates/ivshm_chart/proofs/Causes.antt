@@ -2,7 +2,7 @@
 use Rattle.std.proofs.Common.{ℕ, List, refl}
 use Rattle.std.specs.Prelude.{Option, IsTrue}
 use Rattle.program_edge.specs.declared.exit.Status.{Status}
-use Rattle.program_edge.specs.declared.exit.Status.TheVariants.{Done, Differs, Usage, Refused, ReadFault, WriteFault, NoMemory}
+use Rattle.program_edge.specs.declared.exit.Status.TheVariants.{Done, Refused}
 use Rattle.program_edge.specs.Exit.{has_reply}
 use Rattle.ivshm_chart.specs.declared.words.Span.{Span}
 use Rattle.ivshm_chart.specs.declared.replies.Drawn.{Drawn}
@@ -12,8 +12,4 @@ use Rattle.ivshm_chart.specs.Charts.{IsReply}
 pub written : (span : Span) (bytes : List ℕ) (status : Status) (text : List ℕ) (drawn : Option Drawn) → IsReply span bytes status text drawn → IsTrue (has_reply status)
 written span bytes Done text drawn reply = refl
 written span bytes Refused text drawn reply = refl
-written span bytes Differs text drawn reply = elim reply [ ]
-written span bytes Usage text drawn reply = elim reply [ ]
-written span bytes ReadFault text drawn reply = elim reply [ ]
-written span bytes WriteFault text drawn reply = elim reply [ ]
-written span bytes NoMemory text drawn reply = elim reply [ ]
+written span bytes _ text drawn reply = elim reply [ ]

@@ -13,7 +13,7 @@ use Rattle.ivshm_chart.specs.declared.words.Form.{Form}
 use Rattle.ivshm_chart.specs.declared.replies.Drawn.{Drawn}
 use Rattle.program_edge.specs.declared.limits.TheConstants.{RECORD_LIMIT}
 use Rattle.program_edge.specs.declared.exit.Status.{Status}
-use Rattle.program_edge.specs.declared.exit.Status.TheVariants.{Done, Differs, Usage, Refused, ReadFault, WriteFault, NoMemory}
+use Rattle.program_edge.specs.declared.exit.Status.TheVariants.{Done, Usage, Refused, ReadFault, WriteFault, NoMemory}
 use Rattle.program_edge.specs.Refusals.{refusal_line_of, of_record}
 
 abbrev pub usage_line : List ℕ
@@ -68,12 +68,9 @@ pub record Refuses (before now : Input) (before' now' : Output) : Type 0 where
 -- Each status has its cause.
 abbrev pub HasCause : Status → Option Form → (before now : Input) → (before' now' : Output) → Option Drawn → Type 0
 HasCause Done (Some form) before now before' now' drawn = Charts form.span before now before' now' drawn
-HasCause Done None before now before' now' drawn = ⊥
-HasCause Differs form before now before' now' drawn = ⊥
 HasCause Usage None before now before' now' drawn = (now ≡ before) × Took before' usage_line now'
-HasCause Usage (Some form) before now before' now' drawn = ⊥
 HasCause Refused (Some form) before now before' now' drawn = Refuses before now before' now'
-HasCause Refused None before now before' now' drawn = ⊥
 HasCause ReadFault form before now before' now' drawn = SourceFailed before now × (now' ≡ before')
 HasCause WriteFault form before now before' now' drawn = SinkFailed before' now'
 HasCause NoMemory form before now before' now' drawn = now' ≡ before'
+HasCause _ _ before now before' now' drawn = ⊥

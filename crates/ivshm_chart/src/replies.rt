@@ -1,7 +1,9 @@
 //! The reply to the input: a picture, or a refusal.
-ghost use Rattle.std.specs.Prelude.{◌≡◌, ◌≤◌, None, IfOk};
-ghost use Rattle.program_edge.specs.Refusals.{refusal_line_of, of_record};
+ghost use Rattle.std.specs.Prelude.{ℕ, ◌≡◌, ◌≤◌, List, IfOk};
+ghost use Rattle.record_text.specs.Answers.{Refuses};
+ghost use Rattle.record_text.specs.Judge.{answer};
 ghost use Rattle.ivshm_chart.specs.Charts.{differing, IsMark, IsReply};
+ghost use Rattle.ivshm_chart.specs.declared.words.Span.{Span};
 
 use crate::fronts::{Front, front_of};
 use crate::words::{Form, Kind};
@@ -28,18 +30,19 @@ pub struct Reply {
     pub drawn: Option<Drawn>,
 }
 
-/// Returns the reply to a text that is refused.
+/// Returns the reply to bytes that spell no record, by the fault of their text.
 fn reply_to_fault(alloc: Global, fault: RecordFault) -> Result<Reply, NoMemory>
-    ensures status { IfOk result (λ reply. reply.status ≡ Status.Refused) }
-    ensures text { IfOk result (λ reply. reply.text.items ≡ refusal_line_of (of_record fault)) }
-    ensures drawn { IfOk result (λ reply. reply.drawn ≡ None) }
+    ensures { (span : Span) (bytes : List ℕ) → Refuses fault (answer bytes) →
+        IfOk result (λ reply. IsReply span bytes reply.status reply.text.items reply.drawn) }
 {
-    let text = refusal_line(alloc, Refusal::of_record(fault))?;
-    Ok(Reply {
-        status: Status::Refused,
-        text,
-        drawn: None,
-    })
+    match fault {
+        RecordFault::NoMemory => Err(NoMemory),
+        fault => Ok(Reply {
+            status: Status::Refused,
+            text: refusal_line(alloc, Refusal::of_record(fault))?,
+            drawn: None,
+        }),
+    }
 }
 
 /// Returns the line at which a record differs.
@@ -91,7 +94,6 @@ fn reply_to_whole(
             let total = trace.lines.items().len() as u64;
             reply_with(alloc, form, &trace, total, Drawn { picture, differs })
         }
-        Err(RecordFault::NoMemory) => Err(NoMemory),
         Err(fault) => reply_to_fault(alloc, fault),
     }
 }
@@ -111,7 +113,6 @@ fn reply_to_record(
 {
     let Front { trace, others } = match front_of(alloc, form.span.first, bytes) {
         Ok(front) => front,
-        Err(RecordFault::NoMemory) => return Err(NoMemory),
         Err(fault) => return reply_to_fault(alloc, fault),
     };
     let found = picture_of_front(alloc, &trace, others, form.span.first, form.span.last)?;
@@ -129,7 +130,6 @@ pub fn reply_to(alloc: Global, form: Form, bytes: &[u8]) -> Result<Reply, NoMemo
 {
     match replay_text(alloc, bytes) {
         Ok(verdict) => reply_to_record(alloc, form, bytes, differing(verdict)),
-        Err(RecordFault::NoMemory) => Err(NoMemory),
         Err(fault) => reply_to_fault(alloc, fault),
     }
 }

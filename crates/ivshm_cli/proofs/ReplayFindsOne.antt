@@ -20,10 +20,11 @@ use Rattle.ivshm_cli.specs.Replay.{Spells, SpellsLawful, SpellsUnlawful, SpellsD
 use Rattle.ivshm_cli.specs.declared.runs.Ran.{Ran}
 use Rattle.ivshm_cli.specs.Running.{RunsPeers}
 use Rattle.ivshm_cli.specs.Capture.{IsCaptureOf}
-use Rattle.ivshm_cli.specs.Forms.{passes, record_fault, ReadsRecords, IsTextVerdict, IsVerdict, Replies}
+use Rattle.ivshm_cli.specs.Forms.{record_fault, ReadsRecords, IsTextVerdict, IsVerdict, Replies}
+use Rattle.program_edge.specs.Inputs.{passes, HasRead, HasReadToTheEnd}
 use Rattle.program_edge.specs.Words.{limit_of}
 use Rattle.program_edge.specs.declared.limits.TheConstants.{RECORD_LIMIT}
-use Rattle.ivshm_cli.specs.Due.{IsDue, Follows, HasRead, HasReadToTheEnd, HasCause, WritesReply, WritesAnswer}
+use Rattle.ivshm_cli.specs.Due.{IsDue, Follows, HasCause, WritesReply, WritesAnswer}
 
 -- ---- records
 

@@ -18,8 +18,10 @@ use Rattle.program_edge.specs.declared.words.Command.TheVariants.{Sim, Replay}
 use Rattle.ivshm_cli.specs.declared.refusals.Fault.TheVariants.{TooLong}
 use Rattle.program_edge.specs.declared.exit.Status.{Status}
 use Rattle.program_edge.specs.declared.exit.Status.TheVariants.{Done, Differs}
-use Rattle.ivshm_cli.specs.Replay.{verdict_line, SpellsLawful}
-use Rattle.ivshm_cli.specs.Forms.{passes, IsTextVerdict, Replies}
+use Rattle.trace_replay.specs.VerdictText.{verdict_line}
+use Rattle.ivshm_cli.specs.Replay.{SpellsLawful}
+use Rattle.ivshm_cli.specs.Forms.{IsTextVerdict, Replies}
+use Rattle.program_edge.specs.Inputs.{passes}
 use Rattle.program_edge.specs.Words.{limit_of}
 use Rattle.ivshm_cli.specs.Due.{Follows}
 use Rattle.ivshm_cli.specs.Whole.{WrittenRecordsReplayAsSame}

@@ -30,7 +30,7 @@ use Rattle.program_edge.specs.declared.exit.Status.{Status}
 use Rattle.program_edge.specs.declared.exit.Status.TheVariants.{Done}
 use Rattle.ivshm_cli.specs.Due.{IsDue}
 use Rattle.ivshm_cli.specs.Headline.{Simulates}
-use Rattle.ivshm_cli.specs.Replay.{verdict_line}
+use Rattle.trace_replay.specs.VerdictText.{verdict_line}
 
 -- Each look, each reclaim and each refusal of an index has a read of that index of its own, on the
 -- line right before it.

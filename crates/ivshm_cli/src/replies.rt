@@ -1,12 +1,12 @@
 //! The reply of each command to the bytes that it read.
 
-ghost use Rattle.std.specs.Prelude.{◌≡◌, ◌≢◌, ◌^◌, ◌<◌, ◌≤◌, ℕ, List, true, false, Option, Some, None, Ok, IsSome, IsTrue, IfOk, OnOk, IsErrOf, length};
-ghost use Rattle.ivs_base.specs.SourceAndSink.{SourceFailed, LastReadFailed};
-ghost use Rattle.ivshm_cli.specs.Forms.{passes, scenario_fault, IsTextVerdict, RefusesBy, Replies, IsLeft};
+ghost use Rattle.std.specs.Prelude.{◌≡◌, ◌^◌, ◌<◌, ◌≤◌, false, Option, Some, None, Ok, IsTrue, IfOk, OnOk, IsErrOf, length};
+ghost use Rattle.ivshm_cli.specs.Forms.{scenario_fault, IsTextVerdict, RefusesBy, Replies, IsLeft};
 ghost use Rattle.program_edge.specs.Words.{limit_of, IsInRange};
+ghost use Rattle.program_edge.specs.Inputs.{passes};
 ghost use Rattle.program_edge.specs.declared.limits.TheConstants.{MOST_FRAMES};
 ghost use Rattle.program_edge.specs.Exit.{has_reply};
-ghost use Rattle.ivshm_cli.specs.Due.{IsDue, HasRead};
+ghost use Rattle.ivshm_cli.specs.Due.{IsDue};
 ghost use Rattle.scenario_text.specs.Scenario.{World};
 ghost use Rattle.scenario_text.specs.Spelling.{IsSpelling, world_of};
 ghost use Rattle.scenario_text.specs.Judge.{answer as judged};
@@ -25,13 +25,12 @@ use crate::configuration::configuration;
 use crate::refusals::Fault;
 use crate::runs::{Ran, RunReply, run};
 use crate::summary::{Counts, summary};
-use crate::verdicts::{difference_text, verdict_text};
 use frame_bridge::{BridgeFault, bridge, spelled_is_read};
-use ivs_base::{NoMemory, ReadEnd, Source, read_all};
+use ivs_base::NoMemory;
 use lawful_history::{one_history, records_hold_one_history};
 use peer_runner::Gate;
 use port_text::{PortsFault, printed_is_read_again};
-use program_edge::{Command, Status, limit};
+use program_edge::{Command, Status};
 use record_text::{RecordFault, Trace, parse as parse_record};
 use sampling_port::ports;
 use scenario_text::{Scenario, ScenarioFault, load, parse};
@@ -40,7 +39,7 @@ use sim_world::{play_load, simulate_text};
 use std::alloc::{AllocError, Global};
 use std::thread::Threads;
 use thiserror::Error;
-use trace_replay::{Verdict, replay, replay_text};
+use trace_replay::{Verdict, difference_line, replay, replay_text, verdict_line};
 
 /// A status, the text that is due with it, and the words and pass of running peers.
 #[derive(Drop)]
@@ -74,31 +73,6 @@ impl From<AllocError> for NoReply {
 
     fn from(_e: AllocError) -> NoReply {
         NoReply::NoMemory
-    }
-}
-
-/// Reads the command's input to its end.
-pub(crate) fn read_for<S: Source>(
-    alloc: Global,
-    form: Command,
-    source: &mut S,
-) -> Result<Vec<u8>, ReadEnd>
-    ensures read { IfOk result (λ v. HasRead (limit_of form) (S.input source.old) (S.input source.new) v.items) }
-    ensures short { IfOk result (λ v. passes (limit_of form) v.items ≡ false) }
-    ensures small { IfOk result (λ v. length v.items < 2 ^ 63) }
-    ensures too_long { IsErrOf result ReadEnd.TooLong → ((bytes : List ℕ)
-        × HasRead (limit_of form) (S.input source.old) (S.input source.new) bytes × (passes (limit_of form) bytes ≡ true)) }
-    ensures fault { IsErrOf result ReadEnd.ReadFault →
-        IsSome (limit_of form) × SourceFailed (S.input source.old) (S.input source.new) }
-    ensures last { IsErrOf result ReadEnd.ReadFault → LastReadFailed (S.input source.old) (S.input source.new) }
-    ensures sound { IsTrue (S.input source.old).never_fails → result ≢ Err ReadEnd.ReadFault }
-    ensures quiet { result ≢ Err ReadEnd.ReadFault → (S.input source.new).faults ≡ (S.input source.old).faults }
-    ensures nothing { limit_of form ≡ None → source.new ≡ source.old }
-    ensures later { (S.input source.old).faults ≤ (S.input source.new).faults }
-{
-    match limit(form) {
-        Some(most) => read_all(alloc, source, most),
-        None => Ok(Vec::new(alloc)),
     }
 }
 
@@ -163,7 +137,7 @@ fn replayed(alloc: Global, bytes: &[u8]) -> Result<Reply, NoReply>
         Err(RecordFault::NoMemory) => return Err(NoReply::NoMemory),
         Err(fault) => return Err(NoReply::Refused(Fault::Trace(fault))),
     };
-    let text = verdict_text(alloc, verdict)?;
+    let text = verdict_line(alloc, verdict)?;
     Ok(Reply {
         status: verdict_status(verdict),
         text,
@@ -183,7 +157,7 @@ fn renewed(alloc: Global, bytes: &[u8]) -> Result<Reply, NoReply>
     let trace = record_in(alloc, bytes)?;
     match replay(alloc, &trace)? {
         Verdict::Same => Ok(done(simulate_text(alloc, &trace.scenario)?)),
-        Verdict::Differs(fault) => Ok(differs(difference_text(alloc, fault)?)),
+        Verdict::Differs(fault) => Ok(differs(difference_line(alloc, fault)?)),
     }
 }
 
@@ -200,7 +174,7 @@ fn captured(alloc: Global, peer: u32, bytes: &[u8]) -> Result<Reply, NoReply>
     let trace = record_in(alloc, bytes)?;
     match replay(alloc, &trace)? {
         Verdict::Same => Ok(done(capture_file(alloc, peer, &trace)?)),
-        Verdict::Differs(fault) => Ok(differs(difference_text(alloc, fault)?)),
+        Verdict::Differs(fault) => Ok(differs(difference_line(alloc, fault)?)),
     }
 }
 

@@ -1,6 +1,6 @@
 -- The proved part of an explanation. The words after that are free.
-use Rattle.std.specs.Prelude.{ℕ, ◌≡◌, ◌+◌, ◌⊎◌, List, [], ◌++◌, codes, Option, Some, None}
-use Rattle.ivs_base.specs.SourceAndSink.{Input, Output, Gave, GaveCount, HasEnded, Took, SourceFailed, SinkFailed}
+use Rattle.std.specs.Prelude.{ℕ, ◌≡◌, ◌⊎◌, List, [], ◌++◌, codes, Option, Some, None}
+use Rattle.ivs_base.specs.SourceAndSink.{Input, Output, Took, SourceFailed, SinkFailed}
 use Rattle.ivshm_explain.specs.declared.differences.Difference.{Difference}
 use Rattle.ivshm_explain.specs.DifferenceText.{IsDifferenceText}
 use Rattle.program_edge.specs.declared.words.Command.{Command}
@@ -11,6 +11,7 @@ use Rattle.program_edge.specs.declared.exit.Status.{Status}
 use Rattle.program_edge.specs.declared.exit.Status.TheVariants.{Done, Differs, Usage, Refused, ReadFault, WriteFault, NoMemory}
 use Rattle.ivshm_explain.specs.declared.verdicts.Verdict.TheVariants as verdicts
 use Rattle.program_edge.specs.Words.{limit_of}
+use Rattle.program_edge.specs.Inputs.{HasReadToTheEnd, IsTooLong}
 use Rattle.ivshm_explain.specs.Places.{place_of}
 use Rattle.program_edge.specs.Refusals.{verdict_of}
 use Rattle.ivshm_explain.specs.Verdicts.{IsVerdict}
@@ -30,25 +31,11 @@ IsReply form bytes Refused text = (refusal : Refusal) × IsVerdict form bytes (v
 IsReply form bytes Differs text = (difference : Difference) × IsVerdict form bytes (verdicts.Differs difference) × IsDifferenceText difference text
 IsReply form bytes _ text = ⊥
 
--- The input was read to its end, or nothing of it if no limit is given.
-abbrev pub IsReadTo : (limit : Option ℕ) → (before now : Input) → Type 0
-IsReadTo (Some most) before now = HasEnded now
-IsReadTo None before now = now ≡ before
-
--- the command's input was read to its end; `load` reads nothing
-abbrev pub IsRead : Command → (before now : Input) → Type 0
-IsRead form before now = IsReadTo (limit_of form) before now
-
--- one byte more was read than the command reads
-abbrev pub IsTooLong : Command → (before now : Input) → Type 0
-IsTooLong form before now = (most : ℕ) × (limit_of form ≡ Some most) × GaveCount before (most + 1) now
-
 -- bytes were read to their end, or none for `load`, and the whole reply to them was written
 pub record Replies (form : Command) (before now : Input) (before' now' : Output) (status : Status) : Type 0 where
   pub bytes : List ℕ
   pub text : List ℕ
-  pub gave : Gave before bytes now
-  pub ended : IsRead form before now
+  pub read : HasReadToTheEnd (limit_of form) before now bytes
   pub reply : IsReply form bytes status text
   pub wrote : Took before' text now'
 

@@ -108,9 +108,6 @@ IsLoadVerdict _ = ⊥
 
 -- what the form answers to the bytes
 abbrev pub IsVerdict : Command → List ℕ → Verdict → Type 0
-IsVerdict commands.Sim bytes verdict = IsTextVerdict commands.Sim bytes verdict
-IsVerdict commands.Run bytes verdict = IsTextVerdict commands.Run bytes verdict
-IsVerdict (commands.Config peer) bytes verdict = IsTextVerdict (commands.Config peer) bytes verdict
 IsVerdict commands.Replay bytes verdict = IsRecordVerdict bytes verdict
 IsVerdict commands.Renew bytes verdict = IsRecordVerdict bytes verdict
 IsVerdict (commands.Capture peer) bytes verdict = IsRecordVerdict bytes verdict
@@ -119,3 +116,4 @@ IsVerdict commands.Bridge bytes verdict = IsBridgeVerdict bytes verdict
 IsVerdict commands.Dump bytes verdict = IsDumpVerdict bytes verdict
 IsVerdict (commands.Feed peer) bytes verdict = IsFeedVerdict peer bytes verdict
 IsVerdict (commands.Load count) bytes verdict = IsLoadVerdict verdict
+IsVerdict form bytes verdict = IsTextVerdict form bytes verdict

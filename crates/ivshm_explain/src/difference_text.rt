@@ -1,7 +1,7 @@
 //! The text of a difference: the answer of `ivshm`, the number of the line, the line found there
 //! and the lines due.
 ghost use Rattle.std.specs.Prelude.{◌≡◌, ◌+◌, ◌++◌, IfOk, IfSome, OnOk, length};
-ghost use Rattle.ivshm_explain.specs.DifferenceText.{law_name, line_said, line_in_record, verdict_by, verdict_of, certain_text, IsDifferenceText};
+ghost use Rattle.ivshm_explain.specs.DifferenceText.{line_said, line_in_record, certain_text, IsDifferenceText};
 
 use crate::difference_words::difference_words;
 use crate::differences::Difference;
@@ -11,21 +11,7 @@ use lawful_history::Line;
 use record_text::put_lines;
 use scenario_text::Scenario;
 use std::alloc::{AllocError, Global};
-use trace_replay::Law;
-
-/// The law in one word.
-fn law_name(law: Law) -> &'static str
-    ensures { result.now ≡ law_name law }
-{
-    match law {
-        Law::Order => "order",
-        Law::Device => "device",
-        Law::Touch => "touch",
-        Law::Memory => "memory",
-        Law::Link => "link",
-        Law::Call => "call",
-    }
-}
+use trace_replay::difference_line;
 
 /// Appends the history line with this number, from 1, or the words for no line.
 fn put_line_at(out: &mut Vec<u8>, lines: &[Line], number: u64) -> Result<(), AllocError>
@@ -75,22 +61,6 @@ pub fn line_in_record(difference: &Difference) -> Option<u64>
     Some(number)
 }
 
-/// The answer for a line and a law.
-fn verdict_by(alloc: Global, line: u64, law: &'static str) -> Result<Vec<u8>, AllocError>
-    ensures { IfOk result (λ text. text.items ≡ verdict_by line law.now) }
-{
-    let text = format!(in alloc; "differs {line} {law}\n")?;
-    Ok(text.into_bytes())
-}
-
-/// The answer of `replay` to the record.
-fn verdict(alloc: Global, difference: &Difference) -> Result<Vec<u8>, AllocError>
-    ensures { IfOk result (λ text. text.items ≡ verdict_of difference.now) }
-{
-    let law = law_name(difference.fault.law);
-    verdict_by(alloc, difference.fault.line, law)
-}
-
 /// The answer, the line's number in the record, the line found, the line due, and these words.
 fn joined(alloc: Global, difference: &Difference, words: &[u8]) -> Result<Vec<u8>, NoMemory>
     ensures { IfOk result (λ text. text.items ≡ certain_text difference.now ++ words.now) }
@@ -99,7 +69,7 @@ fn joined(alloc: Global, difference: &Difference, words: &[u8]) -> Result<Vec<u8
         return Err(NoMemory);
     };
     let line = difference.fault.line;
-    let mut text = verdict(alloc, difference)?;
+    let mut text = difference_line(alloc, difference.fault)?;
     put_number(alloc, &mut text, number)?;
     put_line_at(&mut text, difference.trace.lines.items(), line)?;
     text.extend_from_slice(b"due: ")?;

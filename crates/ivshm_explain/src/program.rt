@@ -1,32 +1,18 @@
 //! The top call.
 ghost use Rattle.std.specs.Prelude.{◌≡◌, None, IfOk, IsErrOf, map};
 ghost use Rattle.std.specs.String.{string_bytes};
-ghost use Rattle.ivs_base.specs.SourceAndSink.{Gave, SourceFailed};
 ghost use Rattle.program_edge.specs.Words.{form_of};
 ghost use Rattle.program_edge.specs.Exit.{IsUsage};
-ghost use Rattle.ivshm_explain.specs.Explained.{IsRead, IsTooLong, HasCause};
+ghost use Rattle.ivshm_explain.specs.Explained.{HasCause};
 
 use crate::explaining::{Reply, reply_to, too_many};
-use ivs_base::{ReadEnd, Sink, Source, read_all};
-use program_edge::{Command, Status, WordsFault, limit, read_form, write_text};
+use ivs_base::{ReadEnd, Sink, Source};
+use program_edge::{Status, WordsFault, read_form, read_input, write_text};
 use std::alloc::Global;
 
 /// The line that says which words the program knows.
 const USAGE: &[u8] =
     b"usage: ivshm_explain sim | run | replay | renew | dump | config P | load N | capture P | feed P | ports | bridge\n";
-
-/// The bytes that the form reads: none for `load`, else all up to the end.
-fn read_of<S: Source>(alloc: Global, form: Command, source: &mut S) -> Result<Vec<u8>, ReadEnd>
-    ensures bytes { IfOk result (λ v. Gave (S.input source.old) v.items (S.input source.new)) }
-    ensures end { IfOk result (λ v. IsRead form (S.input source.old) (S.input source.new)) }
-    ensures too_long { IsErrOf result ReadEnd.TooLong → IsTooLong form (S.input source.old) (S.input source.new) }
-    ensures fault { IsErrOf result ReadEnd.ReadFault → SourceFailed (S.input source.old) (S.input source.new) }
-{
-    match limit(form) {
-        Some(most) => read_all(alloc, source, most),
-        None => Ok(Vec::new(alloc)),
-    }
-}
 
 /// Runs the words of the program, which are its arguments after its name and those of `ivshm`.
 /// Reads the input of that form to its end, and explains the answer of `ivshm` to it. Nothing is
@@ -51,7 +37,7 @@ pub fn explain<S: Source, K: Sink>(
     let Some(form) = read_form(words) else {
         return write_text(sink, USAGE, Status::Usage);
     };
-    let bytes = match read_of(alloc, form, source) {
+    let bytes = match read_input(alloc, form, source) {
         Ok(bytes) => bytes,
         Err(ReadEnd::ReadFault) => return Status::ReadFault,
         Err(ReadEnd::NoMemory) => return Status::NoMemory,

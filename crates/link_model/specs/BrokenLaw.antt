@@ -2,70 +2,30 @@
 use Rattle.std.specs.Prelude.{ℕ, ◌==◌, ◌||◌, not, if◌then◌else◌, Bool, true, false, Option, Some, None}
 use Rattle.lawful_history.specs.declared.line.Line.{Line}
 use Rattle.lawful_history.specs.declared.line.Line.TheVariants as line
+use Rattle.lawful_history.specs.LinePeer.{peer_of}
 use Rattle.link_model.specs.declared.fault.Law.{Law}
 use Rattle.link_model.specs.declared.fault.Law.TheVariants.{Order, Device, Touch, Memory, Link, Call}
 use Rattle.link_model.specs.declared.law.Kind.{Kind}
 use Rattle.link_model.specs.declared.law.Kind.TheVariants.{Scheduled, OfDevice, WasDenied, WasRead, Marked, Accessed}
 
--- The kind of a line.
+-- The kind of a line. A line that isn't named here is a mark.
 abbrev pub kind_of : Line → Kind
-kind_of (line.Read peer word value) = WasRead word
-kind_of (line.Write peer word value) = Accessed
-kind_of (line.Denied peer word) = WasDenied
-kind_of (line.State peer value) = Accessed
-kind_of (line.Doorbell peer target vector) = Accessed
-kind_of (line.Interrupt peer vector) = OfDevice
-kind_of (line.Lost peer vector) = OfDevice
 kind_of (line.Reset peer) = Scheduled
 kind_of (line.Idle peer) = Scheduled
+kind_of (line.Interrupt peer vector) = OfDevice
+kind_of (line.Lost peer vector) = OfDevice
 kind_of (line.ConfigRead peer offset width value) = OfDevice
 kind_of (line.ConfigWrite peer offset width value) = OfDevice
 kind_of (line.RegisterRead peer offset value) = OfDevice
 kind_of (line.RegisterWrite peer offset value) = OfDevice
 kind_of (line.MsixRead peer offset value) = OfDevice
 kind_of (line.MsixWrite peer offset value) = OfDevice
-kind_of (line.Saw peer value) = Marked
-kind_of (line.Reclaim peer count) = Marked
-kind_of (line.Look peer count) = Marked
-kind_of (line.Full peer) = Marked
-kind_of (line.Done peer) = Marked
-kind_of (line.Over peer) = Marked
-kind_of (line.Down peer) = Marked
-kind_of (line.Accept peer frame) = Marked
-kind_of (line.Deliver peer frame) = Marked
-kind_of (line.Return peer) = Marked
-kind_of (line.Refuse peer refused) = Marked
-kind_of (line.Session peer opened other) = Marked
-
--- The peer of a line.
-abbrev pub peer_of : Line → ℕ
-peer_of (line.Read peer word value) = peer
-peer_of (line.Write peer word value) = peer
-peer_of (line.Denied peer word) = peer
-peer_of (line.State peer value) = peer
-peer_of (line.Doorbell peer target vector) = peer
-peer_of (line.Interrupt peer vector) = peer
-peer_of (line.Lost peer vector) = peer
-peer_of (line.Reset peer) = peer
-peer_of (line.Idle peer) = peer
-peer_of (line.ConfigRead peer offset width value) = peer
-peer_of (line.ConfigWrite peer offset width value) = peer
-peer_of (line.RegisterRead peer offset value) = peer
-peer_of (line.RegisterWrite peer offset value) = peer
-peer_of (line.MsixRead peer offset value) = peer
-peer_of (line.MsixWrite peer offset value) = peer
-peer_of (line.Saw peer value) = peer
-peer_of (line.Reclaim peer count) = peer
-peer_of (line.Look peer count) = peer
-peer_of (line.Full peer) = peer
-peer_of (line.Done peer) = peer
-peer_of (line.Over peer) = peer
-peer_of (line.Down peer) = peer
-peer_of (line.Accept peer frame) = peer
-peer_of (line.Deliver peer frame) = peer
-peer_of (line.Return peer) = peer
-peer_of (line.Refuse peer refused) = peer
-peer_of (line.Session peer opened other) = peer
+kind_of (line.Denied peer word) = WasDenied
+kind_of (line.Read peer word value) = WasRead word
+kind_of (line.Write peer word value) = Accessed
+kind_of (line.State peer value) = Accessed
+kind_of (line.Doorbell peer target vector) = Accessed
+kind_of _ = Marked
 
 abbrev pub is_scheduled : Kind → Bool
 is_scheduled Scheduled = true

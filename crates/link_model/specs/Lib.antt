@@ -1,3 +1,4 @@
+pub mod LawNames
 pub mod BrokenLaw
 pub mod Difference
 pub mod Taken

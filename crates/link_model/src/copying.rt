@@ -10,76 +10,46 @@ use section_map::Geometry;
 use split_ring::Queue;
 use std::alloc::Global;
 
+/// A copy of `$act`. An act that `$owning` matches is copied by `$copy`. Each other kind has its
+/// fields, and the copy has the same.
+macro_rules! copied {
+    ($act:expr, $owning:pat => $copy:expr; $($kind:ident { $($field:ident),* })*) => {
+        match $act {
+            $owning => $copy,
+            $(Act::$kind { $($field),* } => Act::$kind { $($field),* },)*
+        }
+    };
+}
+
 /// Returns a copy of the act. Returns `NoMemory` if memory ran out.
 fn copy_of_act(alloc: Global, act: &Act) -> Result<Act, NoMemory>
     ensures { IfOk result (λ copy. copy ≡ act.now) }
 {
-    Ok(match *act {
-        Act::Tick { peer } => Act::Tick { peer },
-        Act::Offer { peer, ref frame } => {
-            let frame = Frame::of(alloc, frame.bytes())?;
-            Act::Offer { peer, frame }
-        }
-        Act::Poll { peer } => Act::Poll { peer },
-        Act::Stop { peer } => Act::Stop { peer },
-        Act::Auto { peer, expect } => Act::Auto { peer, expect },
-        Act::Storm { peer, seed } => Act::Storm { peer, seed },
-        Act::Turn { peer, steps } => Act::Turn { peer, steps },
-        Act::Reset { peer } => Act::Reset { peer },
-        Act::Poke { peer, word, value } => Act::Poke { peer, word, value },
-        Act::Peek { peer, word } => Act::Peek { peer, word },
-        Act::Set { peer, value } => Act::Set { peer, value },
-        Act::Ring {
+    Ok(copied! {
+        *act,
+        Act::Offer { peer, ref frame } => Act::Offer {
             peer,
-            target,
-            vector,
-        } => Act::Ring {
-            peer,
-            target,
-            vector,
-        },
-        Act::CfgRead {
-            peer,
-            offset,
-            width,
-        } => Act::CfgRead {
-            peer,
-            offset,
-            width,
-        },
-        Act::CfgWrite {
-            peer,
-            offset,
-            width,
-            value,
-        } => Act::CfgWrite {
-            peer,
-            offset,
-            width,
-            value,
-        },
-        Act::MmioRead { peer, offset } => Act::MmioRead { peer, offset },
-        Act::MmioWrite {
-            peer,
-            offset,
-            value,
-        } => Act::MmioWrite {
-            peer,
-            offset,
-            value,
-        },
-        Act::MsixRead { peer, offset } => Act::MsixRead { peer, offset },
-        Act::MsixWrite {
-            peer,
-            offset,
-            value,
-        } => Act::MsixWrite {
-            peer,
-            offset,
-            value,
-        },
-        Act::Lose { peer } => Act::Lose { peer },
-        Act::Again { peer, vector } => Act::Again { peer, vector },
+            frame: Frame::of(alloc, frame.bytes())?,
+        };
+        Tick { peer }
+        Poll { peer }
+        Stop { peer }
+        Auto { peer, expect }
+        Storm { peer, seed }
+        Turn { peer, steps }
+        Reset { peer }
+        Poke { peer, word, value }
+        Peek { peer, word }
+        Set { peer, value }
+        Ring { peer, target, vector }
+        CfgRead { peer, offset, width }
+        CfgWrite { peer, offset, width, value }
+        MmioRead { peer, offset }
+        MmioWrite { peer, offset, value }
+        MsixRead { peer, offset }
+        MsixWrite { peer, offset, value }
+        Lose { peer }
+        Again { peer, vector }
     })
 }
 

@@ -1,5 +1,6 @@
 //! The faults of a history that is checked line by line.
 ghost use Rattle.std.specs.Prelude.{◌≡◌};
+ghost use Rattle.link_model.specs.LawNames.{name_of};
 ghost use Rattle.link_model.specs.declared.fault.StepFault.TheVariants.{NoMemory as OutOfMemory};
 
 use ivs_base::NoMemory;
@@ -20,6 +21,23 @@ pub enum Law {
     Link,
     /// The call has another step there.
     Call,
+}
+
+impl Law {
+    /// Returns the law's name in texts, one word.
+    // claim: Each law has one name in texts.
+    pub fn name(self) -> &'static str
+        ensures { result.now ≡ name_of self }
+    {
+        match self {
+            Law::Order => "order",
+            Law::Device => "device",
+            Law::Touch => "touch",
+            Law::Memory => "memory",
+            Law::Link => "link",
+            Law::Call => "call",
+        }
+    }
 }
 
 /// An unlawful line: its number and the law that it breaks.

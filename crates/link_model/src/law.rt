@@ -1,7 +1,7 @@
 //! The law that a line breaks if the lawful history has another line there, or no line.
 ghost use Rattle.std.specs.Prelude.{◌≡◌, ◌==◌, Some};
 ghost use Rattle.std.specs.Option.{option_copied};
-ghost use Rattle.link_model.specs.BrokenLaw.{kind_of, peer_of, law_by, law_between};
+ghost use Rattle.link_model.specs.BrokenLaw.{kind_of, law_by, law_between};
 ghost use Rattle.link_model.specs.BrokenLaw as broken;
 
 use crate::fault::Law;
@@ -63,38 +63,24 @@ impl Kind {
     }
 }
 
-/// Returns the kind of the line and its peer.
-fn kind_and_peer(line: &Line) -> (Kind, u32)
-    ensures kind { result.0 ≡ kind_of line.now }
-    ensures peer { result.1 ≡ peer_of line.now }
+/// Returns the kind of the line.
+fn kind_of(line: &Line) -> Kind
+    ensures { result ≡ kind_of line.now }
 {
     match line {
-        Line::Reset { peer } | Line::Idle { peer } => (Kind::Scheduled, *peer),
-        Line::Interrupt { peer, .. }
-        | Line::Lost { peer, .. }
-        | Line::ConfigRead { peer, .. }
-        | Line::ConfigWrite { peer, .. }
-        | Line::RegisterRead { peer, .. }
-        | Line::RegisterWrite { peer, .. }
-        | Line::MsixRead { peer, .. }
-        | Line::MsixWrite { peer, .. } => (Kind::OfDevice, *peer),
-        Line::Denied { peer, .. } => (Kind::WasDenied, *peer),
-        Line::Read { peer, word, .. } => (Kind::WasRead(*word), *peer),
-        Line::Saw { peer, .. }
-        | Line::Reclaim { peer, .. }
-        | Line::Look { peer, .. }
-        | Line::Full { peer }
-        | Line::Done { peer }
-        | Line::Over { peer }
-        | Line::Down { peer }
-        | Line::Accept { peer, .. }
-        | Line::Deliver { peer, .. }
-        | Line::Return { peer }
-        | Line::Refuse { peer, .. }
-        | Line::Session { peer, .. } => (Kind::Marked, *peer),
-        Line::Write { peer, .. } | Line::State { peer, .. } | Line::Doorbell { peer, .. } => {
-            (Kind::Accessed, *peer)
-        }
+        Line::Reset { .. } | Line::Idle { .. } => Kind::Scheduled,
+        Line::Interrupt { .. }
+        | Line::Lost { .. }
+        | Line::ConfigRead { .. }
+        | Line::ConfigWrite { .. }
+        | Line::RegisterRead { .. }
+        | Line::RegisterWrite { .. }
+        | Line::MsixRead { .. }
+        | Line::MsixWrite { .. } => Kind::OfDevice,
+        Line::Denied { .. } => Kind::WasDenied,
+        Line::Read { word, .. } => Kind::WasRead(*word),
+        Line::Write { .. } | Line::State { .. } | Line::Doorbell { .. } => Kind::Accessed,
+        _ => Kind::Marked,
     }
 }
 
@@ -128,7 +114,5 @@ pub fn broken_law(due: Option<&Line>, found: &Line) -> Law
     let Some(due) = due else {
         return Law::Order;
     };
-    let (due_kind, due_peer) = kind_and_peer(due);
-    let (found_kind, found_peer) = kind_and_peer(found);
-    law_of(due_kind, found_kind, due_peer == found_peer)
+    law_of(kind_of(due), kind_of(found), due.peer() == found.peer())
 }

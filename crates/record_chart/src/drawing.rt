@@ -1,13 +1,13 @@
 //! The SVG file of a picture.
 
 use crate::arrows::Arrow;
-use crate::labels::{Folded, folded_of, grouped, label_of, state_name};
-use crate::lines::{line_at, peer_of};
+use crate::labels::{Folded, folded_of, label_of, state_name};
+use crate::lines::line_at;
 use crate::pictures::Picture;
 use crate::places::{COLUMN, GUTTER, LABEL, NUMBER, ROW, TOP, column_x, row_y};
 use crate::rows::Row;
 use crate::sheets::Sheet;
-use crate::titles::{has_line, shown_by, title_of};
+use crate::titles::{has_line, left_out_words, shown_by, title_of};
 use crate::tracks::{put_bands, put_calls, state_class};
 use ivs_base::NoMemory;
 use lawful_history::Line;
@@ -163,7 +163,7 @@ fn put_row(
         return Ok(());
     };
     let peers = trace.scenario.geometry.peers();
-    let peer = peer_of(line);
+    let peer = line.peer();
     let shape = shape_of(storms, line, row);
     let base = row_y(at) + 12;
     let number = row.first;
@@ -222,7 +222,7 @@ fn put_arrow(
     let Some(line) = line_at(lines, arrow.to) else {
         return Ok(());
     };
-    let is_right = peer_of(line) == 1;
+    let is_right = line.peer() == 1;
     let left = column_x(0) + COLUMN - 4;
     let right = column_x(1) - 4;
     let lane = left + 10 + 7 * lane.min(3);
@@ -322,8 +322,7 @@ fn put_stripes(sheet: &mut Sheet, peers: u32, rows: usize) -> Result<(), NoMemor
 fn put_end(alloc: Global, sheet: &mut Sheet, picture: &Picture) -> Result<(), NoMemory> {
     let base = row_y(picture.rows.len()) + 20;
     if picture.left_out > 0 {
-        let left_out = grouped(alloc, picture.left_out)?;
-        let words = format!(in alloc; "{left_out} more lines are left out here")?;
+        let words = left_out_words(alloc, picture.left_out)?;
         sheet.words("warn", 16, base, words.as_str())?;
     }
     sheet.raw("</svg>\n")

@@ -2,12 +2,12 @@
 ghost use Rattle.std.specs.Prelude.{◌≤◌};
 
 use crate::arrows::Arrow;
-use crate::labels::{grouped, label_of, state_name};
-use crate::lines::{line_at, peer_of};
+use crate::labels::{label_of, state_name};
+use crate::lines::line_at;
 use crate::pages::Page;
 use crate::pictures::Picture;
 use crate::rows::Row;
-use crate::titles::{has_line, shown_by, title_of};
+use crate::titles::{has_line, left_out_words, shown_by, title_of};
 use crate::tracks::{call_of, ends_call, state_after};
 use ivs_base::NoMemory;
 use lawful_history::Line;
@@ -129,7 +129,7 @@ fn put_rows(
         let Some(line) = line_at(trace.lines.items(), row.first) else {
             continue;
         };
-        let peer = peer_of(line) as usize;
+        let peer = line.peer() as usize;
         let mut sign = " ";
         if peer < PEERS && trace.scenario.is_link(peer as u32) {
             let (its, is_open) = call_sign(open[peer], line);
@@ -165,8 +165,7 @@ pub fn draw_text(
     put_heads(alloc, &mut page, trace, first)?;
     put_rows(alloc, &mut page, trace, picture, differs)?;
     if picture.left_out > 0 {
-        let left_out = grouped(alloc, picture.left_out)?;
-        let words = format!(in alloc; "{left_out} more lines are left out here")?;
+        let words = left_out_words(alloc, picture.left_out)?;
         page.put(0, words.as_str())?;
         page.end_row()?;
     }

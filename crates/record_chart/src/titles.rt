@@ -1,5 +1,6 @@
-//! The subject of a picture, in one line, and the row that it marks.
+//! The subject of a picture, in one line, the row that it marks, and the lines that it leaves out.
 
+use crate::labels::grouped;
 use crate::rows::Row;
 use std::alloc::{AllocError, Global};
 
@@ -18,6 +19,12 @@ pub fn has_line(row: &Row, number: Option<u64>) -> bool {
         Some(number) => row.first <= number && number - row.first < row.count,
         None => false,
     }
+}
+
+/// Returns the words below a picture that leaves out this number of lines.
+pub fn left_out_words(alloc: Global, left_out: u64) -> Result<String, AllocError> {
+    let left_out = grouped(alloc, left_out)?;
+    format!(in alloc; "{left_out} more lines are left out here")
 }
 
 /// Returns the title: the numbers of the lines shown, `shown` of `total` lines from `first` on. It

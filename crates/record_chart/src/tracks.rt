@@ -1,7 +1,7 @@
 //! The tracks of a peer's column: the band of its state, and the brackets of its calls.
 
 use crate::labels::state_name;
-use crate::lines::{line_at, peer_of};
+use crate::lines::line_at;
 use crate::places::{ROW, column_x, row_y};
 use crate::rows::Row;
 use crate::sheets::Sheet;
@@ -163,7 +163,7 @@ pub fn put_calls(
         let Some(line) = line_at(lines, row.first) else {
             continue;
         };
-        if peer_of(line) != peer {
+        if line.peer() != peer {
             continue;
         }
         if let Some(call_name) = call_of(line) {

@@ -23,6 +23,7 @@ ghost use Rattle.trace_replay.specs.Texts.{IsVerdictOfText};
 ghost use Rattle.trace_replay.specs.Verdict.{IsVerdict};
 
 mod beside;
+mod text;
 mod verdict;
 
 use beside::{judge, pass_alike};
@@ -31,6 +32,7 @@ use link_model::{ExpectedRun, Run, StepFault};
 pub use link_model::{Law, Unlawful};
 use record_text::{Reader, RecordFault, Trace};
 use std::alloc::Global;
+pub use text::{difference_line, verdict_line};
 pub use verdict::Verdict;
 
 /// Returns `Same` exactly if the record's history is what a record of its version has of the lawful

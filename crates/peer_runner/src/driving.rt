@@ -271,8 +271,20 @@ fn drive_storm<G: Gate>(
     })
 }
 
-/// Takes the turns of the plan's peer, as the plan's driver requires.
-fn drive_plan<G: Gate>(
+/// Takes the turns of a plan's peer, and waits for no other peer. Between two spans the peer is
+/// reset.
+///
+/// Requires that the pass is of the words and of this peer alone, with an empty list. The driver is
+/// at its start, and the words were made with the routes. Returns the peer's own trace, without its
+/// quiet calls, once all turns are taken or the peer is finished.
+///
+/// Returns `NoMemory` if an allocation fails. Then the pass has the actions so far. The gate's
+/// `ended` is called once in either case.
+// claim: A driven peer adds exactly its actions to its pass. Its trace is its own record: the lines
+//    and marks of its calls as the automatic rule chooses them, or of its storm, its turns, and
+//    whether it is finished. Doorbells follow their target's route, sessions are numbered at States
+//    2 and 3, and a span ends with a reset if another follows.
+pub fn drive<G: Gate>(
     alloc: Global,
     words: &Words,
     pass: &mut Pass,
@@ -309,7 +321,9 @@ fn drive_plan<G: Gate>(
                 me: peer,
                 routes,
             };
-            drive_auto(&context, pass, spans, auto_peer, gate)
+            let trace = drive_auto(&context, pass, spans, auto_peer, gate);
+            gate.ended(peer);
+            trace
         }
         Driver::Storm {
             seed,
@@ -322,40 +336,9 @@ fn drive_plan<G: Gate>(
                 queue,
                 at: seed,
             };
-            drive_storm(alloc, words, pass, spans, storm, routes, gate)
+            let trace = drive_storm(alloc, words, pass, spans, storm, routes, gate);
+            gate.ended(peer);
+            trace
         }
     }
-}
-
-/// Takes the turns of a plan's peer, and waits for no other peer. Between two spans the peer is
-/// reset.
-///
-/// Requires that the pass is of the words and of this peer alone, with an empty list. The driver is
-/// at its start, and the words were made with the routes. Returns the peer's own trace, without its
-/// quiet calls, once all turns are taken or the peer is finished.
-///
-/// Returns `NoMemory` if an allocation fails. Then the pass has the actions so far. The gate's
-/// `ended` is called once in either case.
-// claim: A driven peer adds exactly its actions to its pass. Its trace is its own record: the lines
-//    and marks of its calls as the automatic rule chooses them, or of its storm, its turns, and
-//    whether it is finished. Doorbells follow their target's route, sessions are numbered at States
-//    2 and 3, and a span ends with a reset if another follows.
-pub fn drive<G: Gate>(
-    alloc: Global,
-    words: &Words,
-    pass: &mut Pass,
-    plan: PeerPlan,
-    gate: &G,
-) -> Result<OwnTrace, NoMemory>
-    requires of { IsPassOf words.now.shared.table_id words.now.shared.key pass.old }
-    requires alone { (pass.old.from ≡ plan.peer) × (pass.old.lists ≡ [] ∷ []) }
-    requires drives { MayDrive words.now.shared.key plan.peer plan.driver }
-    requires few { all_turns plan.spans < 2 ^ 32 }
-    requires routes { AreRoutes words.now.shared.key plan.routes.items }
-    ensures { DrovePlan words.now.shared.key plan pass.old pass.new result }
-{
-    let peer = plan.peer;
-    let trace = drive_plan(alloc, words, pass, plan, gate);
-    gate.ended(peer);
-    trace
 }

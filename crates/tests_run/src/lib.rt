@@ -2,7 +2,7 @@
 #![tactic(auto)]
 
 #[cfg(test)]
-mod gates;
+mod counter;
 #[cfg(test)]
 mod heads;
 #[cfg(test)]

@@ -1,15 +1,15 @@
 //! Running peers through the top call, under gates that hold them next to each other. The record
 //! written is what is compared.
-use crate::gates::{Counter, Meeting, Near, NearAssembly};
+use crate::counter::Counter;
 use crate::heads::{HONEST, HOSTILE, IN_BYTES, WITH_EVENTS};
 use ivs_base::{MemorySink, MemorySource};
 use ivshm_cli::{Status, ivshm};
 use peer_runner::{Gate, OpenGate};
 use std::alloc::{AllocError, Global};
 use std::process::Abort;
-use std::sync::atomic::Ordering;
 use std::test::Fail;
 use std::thread::Threads;
+use tests_gates::{Lockstep, Meeting, MeetingLockstep};
 
 /// The frame of the worked examples.
 const FRAME: &str = "ffffffffffff0200000000010800";
@@ -157,9 +157,9 @@ fn check_near<R: Threads + Sync + Abort>(
     span: u64,
 ) -> Result<(), Fail> {
     let scenario = automatic(alloc, head, frames, turns)?;
-    let gate = Near::new(span);
+    let gate = Lockstep::new(span);
     let run_result = run(rt, alloc, &scenario, &gate)?;
-    assert!(rt; !gate.is_spent());
+    assert!(rt; gate.was_kept());
     check_delivered(rt, &run_result, frames);
     Ok(())
 }
@@ -180,23 +180,23 @@ fn check_meeting<R: Threads + Sync + Abort>(
     alloc: Global,
     scenario: &str,
 ) -> Result<(), Fail> {
-    let gate = Meeting::new();
+    let gate = Meeting::new(2);
     let run_result = run(rt, alloc, scenario, &gate)?;
-    assert!(rt; gate.was_passed());
+    assert!(rt; gate.was_kept());
     check_counts(rt, &run_result, &[("refuse ", 0)]);
     Ok(())
 }
 
 /// Runs a scenario whose peers meet at their first turn and stay near each other.
-fn run_near_assembly<R: Threads + Sync + Abort>(
+fn run_meeting_near<R: Threads + Sync + Abort>(
     rt: &R,
     alloc: Global,
     scenario: &str,
-    peers: u64,
+    peers: u32,
 ) -> Result<RunResult, Fail> {
-    let gate = NearAssembly::new(peers, 64);
+    let gate = MeetingLockstep::new(peers, 64);
     let run_result = run(rt, alloc, scenario, &gate)?;
-    assert!(rt; gate.assembly.was_passed() && !gate.near.is_spent());
+    assert!(rt; gate.was_kept());
     Ok(run_result)
 }
 
@@ -218,7 +218,7 @@ fn peers_run_beside_one_another(rt: HostRuntime) -> Result<(), Fail> {
     for (head, frames, turns) in MEETINGS {
         let scenario = automatic(alloc, head, frames, turns)?;
         check_meeting(&rt, alloc, &scenario)?;
-        let run_result = run_near_assembly(&rt, alloc, &scenario, 2)?;
+        let run_result = run_meeting_near(&rt, alloc, &scenario, 2)?;
         check_delivered(&rt, &run_result, frames);
     }
     Ok(())
@@ -238,8 +238,8 @@ fn is_counted(
     run_result: &RunResult,
     peer: u32,
 ) -> Result<bool, Fail> {
-    let line = format!(in alloc; "turns {}", gate.turns.of(peer))?;
-    Ok(gate.ends.of(peer) == 1 && run_result.count(line.as_bytes()) > 0)
+    let line = format!(in alloc; "turns {}", gate.lockstep.passed(peer))?;
+    Ok(gate.lockstep.times_ended(peer) == 1 && run_result.count(line.as_bytes()) > 0)
 }
 
 #[test]
@@ -249,7 +249,7 @@ fn a_gate_is_called_before_each_turn(rt: HostRuntime) -> Result<(), Fail> {
     let gate = Counter::new();
     let run_result = run(&rt, alloc, &scenario, &gate)?;
     check_delivered(&rt, &run_result, [3, 0]);
-    assert!(rt; !gate.near.is_spent() && gate.faults.load(Ordering::SeqCst) == 0);
+    assert!(rt; gate.was_kept());
     assert!(rt; is_counted(alloc, &gate, &run_result, 0)?);
     assert!(rt; is_counted(alloc, &gate, &run_result, 1)?);
     Ok(())
@@ -281,9 +281,9 @@ fn has_sessions(alloc: Global, run_result: &RunResult, wanted: &[u8]) -> Result<
 fn a_reset_peer_opens_a_session_anew(rt: HostRuntime) -> Result<(), Fail> {
     let alloc = rt.alloc();
     let scenario = restarting(alloc)?;
-    let gate = Near::new(64);
+    let gate = Lockstep::new(64);
     let run_result = run(&rt, alloc, &scenario, &gate)?;
-    assert!(rt; !gate.is_spent());
+    assert!(rt; gate.was_kept());
     assert!(rt; has_sessions(alloc, &run_result, ANEW)?);
     check_counts(&rt, &run_result, &[("refuse ", 0)]);
     assert!(rt; run_result.lines(b"turns 406001") == 1);
@@ -354,7 +354,7 @@ fn eight(alloc: Global, wiring: &str, acts: &str) -> Result<String, AllocError> 
 fn eight_peers_run_at_once(rt: HostRuntime) -> Result<(), Fail> {
     let alloc = rt.alloc();
     let scenario = eight(alloc, "msix 2", "")?;
-    let run_result = run_near_assembly(&rt, alloc, &scenario, 8)?;
+    let run_result = run_meeting_near(&rt, alloc, &scenario, 8)?;
     let rows = [
         ("accept 0 ", 5),
         ("accept 1 ", 5),

@@ -3,8 +3,6 @@
 #![tactic(auto)]
 
 #[cfg(test)]
-mod gates;
-#[cfg(test)]
 mod runs;
 #[cfg(test)]
 mod sessions;

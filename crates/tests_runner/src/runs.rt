@@ -1,6 +1,5 @@
 //! Runs of small scenarios. The large ones, with gates that show that threads run at the same time,
 //! are tests of the top call.
-use crate::gates::{After, Lockstep, Relay};
 use lawful_history::Line;
 use peer_runner::{Gate, OpenGate, laws, run_peers, words_for};
 use record_text::{OwnTrace, RunTrace};
@@ -9,6 +8,7 @@ use std::alloc::{AllocError, Global};
 use std::process::Abort;
 use std::test::Fail;
 use std::thread::Threads;
+use tests_gates::{After, Lockstep, Relay};
 
 /// The property of a line for which the tests look.
 #[derive(Clone, Copy, PartialEq, Eq)]

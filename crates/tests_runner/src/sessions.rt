@@ -1,5 +1,4 @@
 //! Peers that are reset as they run, and the session numbers that they store and load.
-use crate::gates::{Lockstep, Meeting, MeetingLockstep};
 use crate::runs::run;
 use ivs_base::Frame;
 use lawful_history::Line;
@@ -9,6 +8,7 @@ use std::alloc::{AllocError, Global};
 use std::process::Abort;
 use std::test::Fail;
 use std::thread::Threads;
+use tests_gates::{Lockstep, Meeting, MeetingLockstep};
 
 /// Two automatic peers, up to their frames.
 const AUTOMATIC: &str =
@@ -325,10 +325,10 @@ fn fifty_resets_beside_a_steady_peer(rt: HostRuntime) -> Result<(), Fail> {
     let near = Lockstep::new(64);
     check_often(&rt, alloc, &near)?;
     assert!(rt; near.was_kept());
-    let both = MeetingLockstep::new(1_024);
+    let both = MeetingLockstep::new(2, 1_024);
     check_often(&rt, alloc, &both)?;
     assert!(rt; both.was_kept());
-    let meeting = Meeting::new();
+    let meeting = Meeting::new(2);
     fifty_resets(&rt, alloc, &meeting)?;
     assert!(rt; meeting.was_kept());
     Ok(())
@@ -424,7 +424,7 @@ fn sessions_beside_a_storm_carry_none(rt: HostRuntime) -> Result<(), Fail> {
     let gate = Lockstep::new(64);
     check_storm(&rt, alloc, &gate)?;
     assert!(rt; gate.was_kept());
-    let meeting = Meeting::new();
+    let meeting = Meeting::new(2);
     check_storm(&rt, alloc, &meeting)?;
     assert!(rt; meeting.was_kept());
     Ok(())

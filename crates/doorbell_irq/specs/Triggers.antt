@@ -1,5 +1,5 @@
 -- The peers that a call triggers, and the deliveries that follow.
-use Rattle.std.specs.Prelude.{ℕ, ◌≡◌, ◌<◌, ◌==◌, if◌then◌else◌, List, [], ◌∷◌, Option, Some, None, slice_get}
+use Rattle.std.specs.Prelude.{ℕ, ◌≡◌, ◌<◌, ◌≤◌, ◌==◌, if◌then◌else◌, List, [], ◌∷◌, Option, Some, None, slice_get}
 use Rattle.pci_space.specs.declared.wiring.Wiring.{Wiring}
 use Rattle.doorbell_irq.specs.Peer.{Registers}
 use Rattle.doorbell_irq.specs.declared.trigger.Trigger.{Trigger}
@@ -28,6 +28,10 @@ abbrev pub TakesBelow : (peers : ℕ) → Wiring → Trigger → (old new : List
 TakesBelow peers wiring trigger old new =
     (peer : ℕ) (before after : Registers) → peer < peers → slice_get old peer ≡ Some before → slice_get new peer ≡ Some after →
     Takes wiring (vector_at trigger peer) before after
+
+-- The registers past those of the first `peers` peers stay.
+abbrev pub KeepsPast : (peers : ℕ) → (old new : List Registers) → Type 0
+KeepsPast peers old new = (place : ℕ) → peers ≤ place → slice_get new place ≡ slice_get old place
 
 -- A delivery, if there is one, as a list.
 abbrev pub delivered : Option Delivery → List Delivery

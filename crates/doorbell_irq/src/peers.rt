@@ -1,6 +1,7 @@
 //! The calls of a device over a slice of peer devices, wherever the slice is stored.
 //!
-//! Each call names the number of peers, how interrupts are raised, and a peer below that number.
+//! Each call names the number of peers, how interrupts are raised, and a peer below that number. A
+//! slice may be longer: the registers past that number stay.
 ghost use Rattle.std.specs.Prelude.{◌≡◌, ◌<◌, ◌≤◌, ◌↔◌, ℕ, List, ◌∷◌, IsOk, IsTrue, IfOk, IfErr, OnOk, length};
 ghost use Rattle.pci_space.specs.Numbers.{number_from};
 ghost use Rattle.pci_space.specs.Fields.{is_access};
@@ -9,7 +10,7 @@ ghost use Rattle.doorbell_irq.specs.DeviceRules.{bytes_after, reset_event, regis
 ghost use Rattle.doorbell_irq.specs.DeviceView.{IsDeviceView};
 ghost use Rattle.doorbell_irq.specs.Refinement.{Refines, Adds, HasEffect, among};
 ghost use Rattle.doorbell_irq.specs.Routes.{IsRoute};
-ghost use Rattle.doorbell_irq.specs.Triggers.{doorbell_effect};
+ghost use Rattle.doorbell_irq.specs.Triggers.{doorbell_effect, KeepsPast};
 
 use crate::doorbell::{REGISTER_STATE, doorbell_target, doorbell_vector};
 use crate::effect::{Delivery, Effect};
@@ -45,6 +46,7 @@ pub fn config_read<E: MsixTable + Drop>(
 /// Writes a peer's configuration space.
 ///
 /// Returns `BadAccess` under the conditions of `config_read`; nothing has changed then.
+// claim each past: No call over a slice changes the registers past the first `peers`.
 pub fn config_write<E: MsixTable + Drop>(
     registers: &mut [PeerDevice<E>],
     peers: u32,
@@ -63,6 +65,7 @@ pub fn config_write<E: MsixTable + Drop>(
     ensures refused { IfErr result
         (λ e. (e ≡ record { offset = offset; width = width }) × (registers.new ≡ registers.old)) }
     ensures count { length registers.new ≡ length registers.old }
+    ensures past { KeepsPast peers registers.old registers.new }
 {
     registers[peer as usize].write_config(offset, width, value)
 }
@@ -111,6 +114,7 @@ pub fn register_write<E: MsixTable + Drop>(
     ensures refines { Adds (RegisterWritten peer offset value)
         (among peers wiring registers.old) (among peers wiring registers.new) }
     ensures count { length registers.new ≡ length registers.old }
+    ensures past { KeepsPast peers registers.old registers.new }
 {
     let trigger = registers[peer as usize].write_register(peer, offset, value);
     Effect {
@@ -136,6 +140,7 @@ pub fn ring<E: MsixTable + Drop>(
     ensures refines { (source : ℕ) → source < peers →
         Adds (RegisterWritten source doorbell_register word) (among peers wiring registers.old) (among peers wiring registers.new) }
     ensures count { length registers.new ≡ length registers.old }
+    ensures past { KeepsPast peers registers.old registers.new }
 {
     deliver_at(
         registers,
@@ -194,6 +199,7 @@ pub fn msix_write<E: MsixTable + Drop>(
     ensures refines { Adds (MsixWritten peer offset value)
         (among peers wiring registers.old) (among peers wiring registers.new) }
     ensures count { length registers.new ≡ length registers.old }
+    ensures past { KeepsPast peers registers.old registers.new }
 {
     registers[peer as usize].write_entry(wiring, offset, value);
 }
@@ -213,6 +219,7 @@ pub fn reset<E: MsixTable + Drop>(
     ensures effect { HasEffect (among peers wiring registers.old) (WasReset peer) result }
     ensures refines { Adds (WasReset peer) (among peers wiring registers.old) (among peers wiring registers.new) }
     ensures count { length registers.new ≡ length registers.old }
+    ensures past { KeepsPast peers registers.old registers.new }
 {
     reset_by(registers, peers, wiring, peer, false)
 }
@@ -231,6 +238,7 @@ pub fn disconnect<E: MsixTable + Drop>(
     ensures refines { Adds (WasDisconnected peer)
         (among peers wiring registers.old) (among peers wiring registers.new) }
     ensures count { length registers.new ≡ length registers.old }
+    ensures past { KeepsPast peers registers.old registers.new }
 {
     reset_by(registers, peers, wiring, peer, true)
 }
@@ -250,6 +258,7 @@ fn reset_by<E: MsixTable + Drop>(
     ensures refines { Adds (reset_event disconnects peer)
         (among peers wiring registers.old) (among peers wiring registers.new) }
     ensures count { length registers.new ≡ length registers.old }
+    ensures past { KeepsPast peers registers.old registers.new }
 {
     let trigger = registers[peer as usize].reset(peer, disconnects);
     Effect {
@@ -270,6 +279,7 @@ pub fn connect<E: MsixTable + Drop>(
     requires inside { peer < peers }
     ensures refines { Adds (WasConnected peer) (among peers wiring registers.old) (among peers wiring registers.new) }
     ensures count { length registers.new ≡ length registers.old }
+    ensures past { KeepsPast peers registers.old registers.new }
 {
     registers[peer as usize].connect();
 }

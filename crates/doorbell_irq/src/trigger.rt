@@ -3,7 +3,7 @@ ghost use Rattle.std.specs.Prelude.{◌≡◌, ◌≤◌, ℕ, not, ◌&&◌, �
 ghost use Rattle.doorbell_irq.specs.Events.{doorbell_target, doorbell_vector};
 ghost use Rattle.doorbell_irq.specs.DeviceRules.{deliveries_below};
 ghost use Rattle.doorbell_irq.specs.declared.trigger.Trigger.TheVariants.{At, Others};
-ghost use Rattle.doorbell_irq.specs.Triggers.{vector_at, delivery_among, delivered, TakesBelow};
+ghost use Rattle.doorbell_irq.specs.Triggers.{vector_at, delivery_among, delivered, TakesBelow, KeepsPast};
 
 use crate::doorbell::{doorbell_target, doorbell_vector};
 use crate::effect::Delivery;
@@ -59,6 +59,7 @@ pub(crate) fn deliver<E: MsixTable + Drop>(
     requires few { peers ≤ 8 }
     requires all { peers ≤ length registers.old }
     ensures takes { TakesBelow peers wiring trigger registers.old registers.new }
+    ensures past { KeepsPast peers registers.old registers.new }
     ensures came { result.items ≡ deliveries_below (delivery_among wiring trigger registers.old) peers }
 {
     match trigger {
@@ -82,6 +83,7 @@ pub(crate) fn deliver_at<E: MsixTable + Drop>(
 ) -> Option<Delivery>
     requires all { peers ≤ length registers.old }
     ensures takes { TakesBelow peers wiring (At target vector) registers.old registers.new }
+    ensures past { KeepsPast peers registers.old registers.new }
     ensures came { delivered result ≡ deliveries_below (delivery_among wiring (At target vector) registers.old) peers }
 {
     if target >= peers {
@@ -119,6 +121,7 @@ fn deliver_to_others<E: MsixTable + Drop>(
     requires few { peers ≤ 8 }
     requires all { peers ≤ length registers.old }
     ensures takes { TakesBelow peers wiring (Others source) registers.old registers.new }
+    ensures past { KeepsPast peers registers.old registers.new }
     ensures came { result.items ≡ deliveries_below (delivery_among wiring (Others source) registers.old) peers }
 {
     let mut deliveries = ArrayVec::new();

@@ -3,6 +3,7 @@
 use Rattle.std.specs.Prelude.{ℕ, ◌≡◌, ◌≢◌, ◌*◌, ◌⊎◌, true, if◌then◌else◌, None, List, [], ◌∷◌, length, take, drop}
 use Rattle.split_ring.specs.declared.steps.Note.{Note}
 use Rattle.split_ring.specs.declared.steps.Note.TheVariants as note
+use Rattle.call_grammar.specs.Words.{words_for}
 use Rattle.tx_engine.specs.declared.ahead.Publication.{Publication}
 use Rattle.rx_engine.specs.declared.ahead.FrameReturn.{FrameReturn}
 use Rattle.link_endpoint.specs.Engine.{is_busy, reads_ahead, frame_ahead}
@@ -56,13 +57,14 @@ pub record GoesOn (next : Access) (old new : EndState) : Type 0 where
   pub access : IsNextAccess old next
   pub rings : ((next.kind ≡ 4) × Rung old new) ⊎ ((next.kind ≢ 4) × (new ≡ old))
 
--- A whole frame is read and returned, with the notes Deliver and Return. The end is `returned`
--- then, and goes on.
+-- A whole frame is read and returned, with the notes Deliver and Return. Its length has the number
+-- of words that were read. The end is `returned` then, and goes on.
 pub record FrameTaken (words : List ℕ) (after : crossed.FrameReturn) (next : Access) (old new : EndState) : Type 0 where
   pub made : FrameReturn
   pub returned : EndState
   pub crossed_is : after ≡ frame_return_crossed made
   pub steps : ReadsAndReturns old.endpoint words made returned.endpoint
+  pub sized : length words ≡ 4 * words_for made.length
   pub follows : Follows (note.Deliver ∷ note.Return ∷ []) old returned
   pub goes_on : GoesOn next returned new
 

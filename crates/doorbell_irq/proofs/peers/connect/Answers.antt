@@ -1,9 +1,10 @@
-use Rattle.std.proofs.Common.{◌<◌, refl}
+use Rattle.std.proofs.Common.{◌<◌, refl, arith}
 use Rattle.doorbell_irq.specs.DeviceView.{DeviceView, IsDeviceView}
 use Rattle.doorbell_irq.specs.Refinement.{Refines, among}
 use Rattle.doorbell_irq.specs.Events.{WasConnected}
 use Rattle.doorbell_irq.proofs.Devices.{peer_at, moved}
 use Rattle.doorbell_irq.proofs.EventKinds.{connect_spares, was_connected}
+use Rattle.doorbell_irq.proofs.Lists.{slice_get-set_other}
 use Rattle.doorbell_irq.proofs.peers.connect.Goals as goal
 
 pub returns-clause-refines : goal.returns-clause-refines
@@ -15,3 +16,7 @@ returns-clause-refines g c w events refines =
     moved w events (WasConnected c.args.peer) d sound was c.args.peer below (connect_spares w events c.args.peer)
     _ c.connect.new.self refl refl refl (λ peer. refl)
     (was_connected w events c.args.peer _ c.connect.new.self (peer_at w events d sound was c.args.peer c.index-registers-peer.result below) c.connect.ensures)
+
+pub returns-clause-past : goal.returns-clause-past
+returns-clause-past g c place past =
+    slice_get-set_other c.args.registers.now c.args.peer place c.connect.new.self (λ same. omega (arith, same, past, c.requires.inside))

@@ -1,9 +1,10 @@
-use Rattle.std.proofs.Common.{◌<◌, refl}
+use Rattle.std.proofs.Common.{◌<◌, refl, arith}
 use Rattle.doorbell_irq.specs.DeviceView.{DeviceView, IsDeviceView}
 use Rattle.doorbell_irq.specs.Refinement.{Refines, among}
 use Rattle.doorbell_irq.specs.Events.{MsixWritten}
 use Rattle.doorbell_irq.proofs.Devices.{peer_at, moved}
 use Rattle.doorbell_irq.proofs.EventKinds.{msix_spares, msix_written}
+use Rattle.doorbell_irq.proofs.Lists.{slice_get-set_other}
 use Rattle.doorbell_irq.proofs.peers.msix_write.Goals as goal
 
 pub returns-clause-refines : goal.returns-clause-refines
@@ -18,3 +19,7 @@ returns-clause-refines g c w events refines =
     (msix_written w events c.args.peer _ c.write_entry.new.self
     (peer_at w events d sound was c.args.peer c.index-registers-peer.result below)
     d.wiring c.args.offset c.args.value was.wiring c.write_entry.ensures)
+
+pub returns-clause-past : goal.returns-clause-past
+returns-clause-past g c place past =
+    slice_get-set_other c.args.registers.now c.args.peer place c.write_entry.new.self (λ same. omega (arith, same, past, c.requires.inside))

@@ -1,4 +1,4 @@
-use Rattle.std.proofs.Common.{◌≡◌, ℕ, List, ◌<◌, Some, refl, ◌∙◌, ap, ap₂}
+use Rattle.std.proofs.Common.{◌≡◌, ℕ, List, ◌<◌, Some, refl, ◌∙◌, ap, ap₂, arith}
 use Rattle.std.specs.Prelude.{Bool, true, false, ◌==◌, if◌then◌else◌, Option, None}
 use Rattle.std.specs.Bool.{then_some}
 use Rattle.doorbell_irq.specs.DeviceView.{DeviceView, IsDeviceView}
@@ -9,6 +9,7 @@ use Rattle.doorbell_irq.proofs.EventKinds.{register_spares, register_written}
 use Rattle.doorbell_irq.specs.declared.effect.Delivery.{Delivery}
 use Rattle.doorbell_irq.proofs.RegistersOfPeer.{state_same}
 use Rattle.doorbell_irq.proofs.Devices.{peer_at, led, came}
+use Rattle.doorbell_irq.proofs.Lists.{slice_get-set_other}
 use Rattle.doorbell_irq.proofs.peers.register_write.Goals as goal
 
 -- A value under a test.
@@ -43,3 +44,8 @@ returns-clause-refines g c w events refines =
     (register_written w events c.args.peer _ c.write_register-trigger.new.self is c.args.offset c.args.value c.write_register-trigger.ensures.written)
     (λ peer. c.write_register-trigger.ensures.triggers peer ∙ ap (λ state. register_vector state c.args.peer c.args.offset c.args.value peer) (state_same w events c.args.peer _ is))
     _ refl refl c.deliver.auto.registers c.deliver.ensures.takes
+
+pub returns-clause-past : goal.returns-clause-past
+returns-clause-past g c place past =
+    c.deliver.ensures.past place past
+    ∙ slice_get-set_other c.args.registers.now c.args.peer place c.write_register-trigger.new.self (λ same. omega (arith, same, past, c.requires.inside))

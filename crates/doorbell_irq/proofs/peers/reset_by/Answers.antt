@@ -1,4 +1,4 @@
-use Rattle.std.proofs.Common.{List, ◌<◌, Some, refl, inr, ◌∙◌, ap, ap₂}
+use Rattle.std.proofs.Common.{List, ◌<◌, Some, refl, inr, ◌∙◌, ap, ap₂, arith}
 use Rattle.std.specs.Prelude.{Bool, true, false, ◌≡◌, ℕ, Option}
 use Rattle.doorbell_irq.specs.DeviceView.{DeviceView, IsDeviceView}
 use Rattle.doorbell_irq.specs.Refinement.{Refines, among}
@@ -7,6 +7,7 @@ use Rattle.doorbell_irq.proofs.EventKinds.{reset_spares, was_reset, reset_quiet,
 use Rattle.doorbell_irq.specs.declared.effect.Delivery.{Delivery}
 use Rattle.doorbell_irq.proofs.RegistersOfPeer.{state_same}
 use Rattle.doorbell_irq.proofs.Devices.{peer_at, led, came}
+use Rattle.doorbell_irq.proofs.Lists.{slice_get-set_other}
 use Rattle.doorbell_irq.proofs.peers.reset_by.Goals as goal
 
 -- A reset leaves State at 0.
@@ -43,3 +44,8 @@ returns-clause-refines g c w events refines =
     (λ peer. c.reset-trigger.ensures.triggers peer ∙ ap (λ state. vector_by state c.args.peer 0 peer) (state_same w events c.args.peer _ is)
     ∙ reset_triggers w events c.args.disconnects c.args.peer peer)
     _ refl refl c.deliver.auto.registers c.deliver.ensures.takes
+
+pub returns-clause-past : goal.returns-clause-past
+returns-clause-past g c place past =
+    c.deliver.ensures.past place past
+    ∙ slice_get-set_other c.args.registers.now c.args.peer place c.reset-trigger.new.self (λ same. omega (arith, same, past, c.requires.inside))

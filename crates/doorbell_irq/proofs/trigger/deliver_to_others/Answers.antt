@@ -57,3 +57,6 @@ loop-peer-init g c = record {
 
 pub returns-clause-takes : goal.returns-clause-takes
 returns-clause-takes g c peer before after less = c.loop-peer.invariant.done peer before after (omega arith)
+
+pub returns-clause-past : goal.returns-clause-past
+returns-clause-past g c place past = c.loop-peer.invariant.left place (omega arith)

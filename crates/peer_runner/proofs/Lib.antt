@@ -1,5 +1,6 @@
 pub mod DoorbellTurns
 pub mod DoorbellsStaySet
+pub mod AutoChoices
 pub mod AutoTurns
 pub mod LinesMatchState
 pub mod TurnsAndLines

@@ -33,7 +33,8 @@ use Rattle.peer_runner.specs.Trajectories.{GoesOn, starts, follows, IsOnTrajecto
 use Rattle.peer_runner.specs.Drives.{MayBeAuto, automatic, Did, Drove}
 use Rattle.peer_runner.specs.OwnRecord.{IsTraceOf}
 use Rattle.shared_words.proofs.LinkOfSetup.{clash}
-use Rattle.peer_runner.proofs.AutoTurns.{plan_cut, Chose}
+use Rattle.peer_runner.proofs.AutoChoices.{Chose}
+use Rattle.peer_runner.proofs.AutoTurns.{plan_cut}
 use Rattle.peer_runner.proofs.TurnsAndLines.{refused_of, recorded_snoc, all_spent, all_later, IsCounted, counted_of, far_of, finished_same, there_first, plan_first, lent, did, err_free}
 
 -- One turn more, and its lines.

@@ -59,7 +59,8 @@ use Rattle.peer_runner.proofs.NoRefusalRecorded.{none_refused, refused_more}
 use Rattle.shared_words.proofs.LinkOfSetup.{clash}
 use Rattle.peer_runner.specs.RunningRecord.{refuses, initial_reader, reader_after_lines, reader_of_lines, ReaderMatches}
 use Rattle.call_grammar.proofs.ReplaysAreCalls.{shut_place}
-use Rattle.peer_runner.proofs.AutoTurns.{settled_closed, met_place, met_before, IsEntering, IsMaking, stepped_kind}
+use Rattle.peer_runner.proofs.AutoChoices.{settled_closed}
+use Rattle.peer_runner.proofs.AutoTurns.{met_place, met_before, IsEntering, IsMaking, stepped_kind}
 use Rattle.peer_runner.proofs.LinesMatchState.{reports_none, reports_both, StateMatches, recorded_is, recorded_first, looked_recorded, met_recorded, restarted_recorded, turned_recorded}
 
 -- One turn more

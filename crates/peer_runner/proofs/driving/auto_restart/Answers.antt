@@ -6,7 +6,8 @@ use Rattle.shared_words.specs.PassView.{PassView}
 use Rattle.peer_runner.specs.Turns.{Restarts}
 use Rattle.peer_runner.specs.Runners.{has_finished, restarted_on, IsAutoPeer}
 use Rattle.peer_runner.specs.Trajectories.{by_reset}
-use Rattle.peer_runner.proofs.AutoTurns.{chose as chose_at, turn_restarted}
+use Rattle.peer_runner.proofs.AutoChoices.{chose as chose_at}
+use Rattle.peer_runner.proofs.AutoTurns.{turn_restarted}
 use Rattle.peer_runner.proofs.TurnsAndLines.{ends_where, err_free}
 use Rattle.peer_runner.proofs.PeerOnTrajectory.{trajectory_on, trajectory_still, planned_cut, recorded_further}
 use Rattle.peer_runner.proofs.driving.auto_restart.Goals as goal

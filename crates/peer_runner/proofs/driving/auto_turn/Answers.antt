@@ -17,7 +17,8 @@ use Rattle.peer_runner.specs.Contexts.{setup_of, end_config, AtEachPlace, AtItsP
 use Rattle.peer_runner.specs.Turns.{Looks, looks_after, has_turn_left}
 use Rattle.peer_runner.specs.Runners.{Runner, has_finished, IsDone, due_at, due_of, looks_now, looked_on, due_word, turn_met, met_on, turn_on, IsThere, IsAutoPeer}
 use Rattle.peer_runner.specs.Trajectories.{by_look, by_word, by_step}
-use Rattle.peer_runner.proofs.AutoTurns.{Chose, chose as chose_at, bytes_in, turn_looked, meets_at, opened_at, turn_met as met_there}
+use Rattle.peer_runner.proofs.AutoChoices.{Chose, chose as chose_at}
+use Rattle.peer_runner.proofs.AutoTurns.{bytes_in, turn_looked, meets_at, opened_at, turn_met as met_there}
 use Rattle.peer_runner.proofs.Looks.{looks_at, looks_shut, still_shut}
 use Rattle.peer_runner.proofs.TurnsAndLines.{turned_turns, turned_spans, met_opened, counted_of, ends_where, err_free}
 use Rattle.peer_runner.proofs.PeerOnTrajectory.{trajectory_on, trajectory_still, recorded_further, met_silent, seated, few_opened}

@@ -3,7 +3,7 @@ use Rattle.std.specs.Prelude.{drop, slice_index}
 use Rattle.record_text.specs.OwnLines.{AreOwn}
 use Rattle.peer_runner.specs.Turns.{all_turns}
 use Rattle.peer_runner.specs.Runners.{initial_runner, has_finished}
-use Rattle.peer_runner.proofs.AutoTurns.{chose as chose_at}
+use Rattle.peer_runner.proofs.AutoChoices.{chose as chose_at}
 use Rattle.peer_runner.proofs.TurnsAndLines.{recorded_none, counted_of, far_of, ends_where}
 use Rattle.peer_runner.proofs.PeerOnTrajectory.{trajectory_first, seated, most_turns, due_over, due_next, IsAt, same_at, enters_first, enters_later, ends_spent, ends_finished, drove_err, drove_ok}
 use Rattle.peer_runner.proofs.driving.drive_auto.Goals as goal

@@ -18,7 +18,8 @@ use Rattle.link_endpoint.specs.Engine.{is_busy}
 use Rattle.link_endpoint.specs.Refinement.{Takes, marks_between}
 use Rattle.link_endpoint.specs.Plan.{Plan, MayOpenIf, call_chosen_by, Counts}
 use Rattle.peer_runner.specs.Runners.{place_in, chosen, made, done_of, value_done, awaits_ring, MayRingBy}
-use Rattle.peer_runner.proofs.AutoTurns.{Frames, first_is, is_next, held_turn, step_turn, opened_in, may_open_if, done_there, may_come, round_frames, lines_recorded, lines_held}
+use Rattle.peer_runner.proofs.AutoChoices.{Frames, is_next, opened_in, may_open_if, round_frames}
+use Rattle.peer_runner.proofs.AutoTurns.{first_is, held_turn, step_turn, done_there, may_come, lines_recorded, lines_held}
 use Rattle.peer_runner.proofs.turns.take_turn.Goals as goal
 
 pub open-requires-clause-fits : goal.open-requires-clause-fits

@@ -8,6 +8,7 @@ use Rattle.std.proofs.lemmas.List.{append-nil, take_more, take_all, take-append-
 use Rattle.std.proofs.lemmas.List.Concat.{flat_map-append}
 use Rattle.std.proofs.lemmas.List.Sums.{sum_by_push, sum_by-take-le}
 use Rattle.pci_space.specs.Fields.{is_access}
+use Rattle.doorbell_irq.proofs.Lists.{slice_get-same, slice_get-set_same, slice_get-set_other}
 use Rattle.scenario_text.specs.declared.acts.Act.{Act}
 use Rattle.scenario_text.specs.declared.acts.Act.TheVariants as act
 use Rattle.scenario_text.specs.Acts.{cost, turns_of}
@@ -34,22 +35,6 @@ use Rattle.reference_history.specs.ReferenceStates.{RefinesState}
 use Rattle.reference_history.proofs.ReadLines.{none_more}
 use Rattle.reference_history.proofs.CallsOpen.{peer_wider}
 
--- The elements of a list after one was set
-
-set_at : (xs : List Peer) (p k : ℕ) (x y : Peer) → k ≡ p → slice_get (slice_set xs p x) k ≡ Some y → x ≡ y
-set_at [] p k x y is at = absurd (cc)
-set_at (z ∷ xs) zero zero x y is at = cc
-set_at (z ∷ xs) zero (suc k) x y is at = absurd (omega arith)
-set_at (z ∷ xs) (suc p) zero x y is at = absurd (omega arith)
-set_at (z ∷ xs) (suc p) (suc k) x y is at = set_at xs p k x y (omega arith) at
-
-set_beside : (xs : List Peer) (p k : ℕ) (x : Peer) → k ≢ p → slice_get (slice_set xs p x) k ≡ slice_get xs k
-set_beside [] p k x other = refl
-set_beside (z ∷ xs) zero zero x other = absurd (other refl)
-set_beside (z ∷ xs) zero (suc k) x other = refl
-set_beside (z ∷ xs) (suc p) zero x other = refl
-set_beside (z ∷ xs) (suc p) (suc k) x other = set_beside xs p k x (λ e. other (ap suc e))
-
 -- An element of a list with one more is an element of the list, or the last.
 pub last_or : (xs : List Peer) (x : Peer) (k : ℕ) (found : Peer) → slice_get (xs ++ x ∷ []) k ≡ Some found → (P : Peer → Type 0) → ((q : ℕ) (s : Peer) → slice_get xs q ≡ Some s → P s) → P x → P found
 last_or [] x zero found at P all here = subst P (same_Some x found at) here
@@ -70,7 +55,7 @@ peers_on world count event so_far items new same inside refines here k found tru
     let p = event_peer event in
     let at_p : p ≡ k = is_same p k is in
     let now : peer_at (after_event world so_far event) p ≡ peer_after world so_far event = get_or-set_same so_far.peers p (peer_after world so_far event) at_start inside in
-    let new_is : new ≡ found = set_at items p k new found (sym at_p) at in
+    let new_is : new ≡ found = slice_get-same (slice_set items p new) p new found (slice_get-set_same items p new (omega (arith, same, inside))) (ap (slice_get (slice_set items p new)) at_p ∙ at) in
     let P : ℕ → Peer → Type 0 = λ q x. IsPeer (config_of world q) (2 * (count + 1)) x (peer_at (after_event world so_far event) q) in
     let all : P p new = subst (λ (x : history.Peer). IsPeer (config_of world p) (2 * (count + 1)) new x) (sym now) (subst (λ n. IsPeer (config_of world p) n new (peer_after world so_far event)) (two_more count) here) in
     subst (λ q. P q found) at_p (subst (λ (x : Peer). P p x) new_is all)
@@ -78,7 +63,7 @@ peers_on world count event so_far items new same inside refines here k found fal
     let p = event_peer event in
     let other : k ≢ p = is_other p k is in
     let now : peer_at (after_event world so_far event) k ≡ peer_at so_far k = get_or-set_other so_far.peers p k (peer_after world so_far event) at_start other in
-    let old : slice_get items k ≡ Some found = sym (set_beside items p k new other) ∙ at in
+    let old : slice_get items k ≡ Some found = sym (slice_get-set_other items p k new other) ∙ at in
     peer_wider (config_of world k) (2 * count) (2 * (count + 1)) found (peer_at (after_event world so_far event) k) (omega arith) (subst (λ (x : history.Peer). IsPeer (config_of world k) (2 * count) found x) (sym now) (refines k found old))
 
 one_loss : (p q n count : ℕ) (b : Bool) → n ≤ count → (if b then n + 1 else n) ≤ count + 1

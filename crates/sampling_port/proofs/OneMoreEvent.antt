@@ -4,8 +4,9 @@ use Rattle.std.specs.Prelude.{◌==◌, nat_lt, nat_le, ◌&&◌, if◌then◌el
 use Rattle.std.specs.List.{AllByRecursion, flat_map}
 use Rattle.std.proofs.lemmas.Bool.{eqb-true, eqb-false}
 use Rattle.std.proofs.lemmas.Bool.Decides.{nat_tests}
-use Rattle.std.proofs.lemmas.Option.{same_Some}
-use Rattle.std.proofs.lemmas.List.{append-nil, take_more, take_all, length-append, length-reverse, length-replicate, replicate-append-replicate, take-append-drop}
+use Rattle.std.proofs.lemmas.Option.{same_Some, slice_get_within, slice_get_read, get_or_from_slice_get}
+use Rattle.std.proofs.lemmas.Grind.{get_or-set_at}
+use Rattle.std.proofs.lemmas.List.{append-nil, set-get_or, get_or-set_other, take_more, take_all, length-append, length-reverse, length-replicate, replicate-append-replicate, take-append-drop}
 use Rattle.std.proofs.lemmas.List.Concat.{flat_map-append, flat_map-cons}
 use Rattle.std.proofs.lemmas.List.Sums.{sum_by-append, sum_by-cons}
 use Rattle.call_grammar.specs.Words.{words_for}
@@ -40,9 +41,9 @@ pub run-snoc : (g : Shape) (events : List Event) (event : Event) (so_far : Histo
 run-snoc g [] event so_far = refl
 run-snoc g (x ∷ events) event so_far = run-snoc g events event (after_event g so_far x)
 
-pub there-snoc : (P : Event → Type 0) (events : List Event) (event : Event) → AllByRecursion P events → P event → AllByRecursion P (events ++ event ∷ [])
-there-snoc P [] event all here = (here, tt)
-there-snoc P (x ∷ events) event all here = (all.0, there-snoc P events event all.1 here)
+all-snoc : {A : Type 0} (P : A → Type 0) (items : List A) (item : A) → AllByRecursion P items → P item → AllByRecursion P (items ++ item ∷ [])
+all-snoc P [] item all here = (here, tt)
+all-snoc P (x ∷ items) item all here = (all.0, all-snoc P items item all.1 here)
 
 -- The number of lines
 
@@ -92,15 +93,11 @@ pub record Kept (world : World) (me n : ℕ) (peer_state : PeerState) : Type 0 w
 later : (world : World) (me n : ℕ) (peer_state : PeerState) → Kept world me n peer_state → Kept world me (n + 1) peer_state
 later world me n peer_state kept = let few = kept.few in record { port = kept.port; shape = kept.shape; me_is = kept.me_is; most = kept.most; waiting = kept.waiting; few = omega arith }
 
-given-snoc : (P : PortCall → Type 0) (calls : List PortCall) (call : PortCall) → AllByRecursion P calls → P call → AllByRecursion P (calls ++ call ∷ [])
-given-snoc P [] call all here = (here, tt)
-given-snoc P (x ∷ calls) call all here = (all.0, given-snoc P calls call all.1 here)
-
 asked_kept : (world : World) (me n : ℕ) (peer_state : PeerState) (call : PortCall) → Kept world me n peer_state → IsPermittedCall world call → Kept world me (n + 1) (record peer_state { waiting = peer_state.waiting ++ call ∷ [] })
 asked_kept world me n peer_state call kept given =
     let few = kept.few in
     let more = length-append peer_state.waiting (call ∷ []) in
-    record { port = kept.port; shape = kept.shape; me_is = kept.me_is; most = kept.most; waiting = given-snoc (IsPermittedCall world) peer_state.waiting call kept.waiting given; few = omega arith }
+    record { port = kept.port; shape = kept.shape; me_is = kept.me_is; most = kept.most; waiting = all-snoc (IsPermittedCall world) peer_state.waiting call kept.waiting given; few = omega arith }
 
 open_port : (world : World) (port : PortView) (call : PortCall) → IsPort port → port.shape ≡ world.geometry → port.most ≡ world.most → IsPermittedCall world call → port.published + 1 < 2 ^ 32 → IsPort (opening port call)
 open_port world port (Publish message) is shape most given number = moved port place.WritingLength message is (omega (arith, given.1)) (given.0, number)
@@ -243,18 +240,11 @@ room_of world front events s runs = let count = runs.after.recorded.count in let
 
 -- A list with one element set, at that position and at others.
 set_at : {A : Type 0} (xs : List A) (p k : ℕ) (x y : A) → k ≡ p → slice_get (slice_set xs p x) k ≡ Some y → x ≡ y
-set_at [] p k x y is at = absurd (cc)
-set_at (z ∷ xs) zero zero x y is at = cc
-set_at (z ∷ xs) zero (suc k) x y is at = absurd (omega arith)
-set_at (z ∷ xs) (suc p) zero x y is at = absurd (omega arith)
-set_at (z ∷ xs) (suc p) (suc k) x y is at = set_at xs p k x y (omega arith) at
+set_at xs p k x y is at = sym (get_or-set_at xs p k x y is (omega (arith, is, length-set xs p x, slice_get_within (slice_set xs p x) k y at))) ∙ get_or_from_slice_get (slice_set xs p x) k y y at
 
-set_beside : {A : Type 0} (xs : List A) (p k : ℕ) (x : A) → k ≢ p → slice_get (slice_set xs p x) k ≡ slice_get xs k
-set_beside [] p k x other = refl
-set_beside (z ∷ xs) zero zero x other = absurd (other refl)
-set_beside (z ∷ xs) zero (suc k) x other = refl
-set_beside (z ∷ xs) (suc p) zero x other = refl
-set_beside (z ∷ xs) (suc p) (suc k) x other = set_beside xs p k x (λ e. other (ap suc e))
+set_beside : {A : Type 0} (xs : List A) (p k : ℕ) (x y : A) → k ≢ p → slice_get (slice_set xs p x) k ≡ Some y → slice_get xs k ≡ Some y
+set_beside xs p k x y other at =
+    slice_get_read xs (length xs) k y refl (omega (arith, length-set xs p x, slice_get_within (slice_set xs p x) k y at)) (sym (get_or_from_slice_get (slice_set xs p x) k y y at) ∙ get_or-set_other xs p k x y other)
 
 -- One event of a peer, with the peer state and the world state after it.
 pub record OneMore (world : World) (front : List ℕ) (so_far : HistoryState) (event : Event) (s s' : Simulator) (peer_state : sits.PeerState) : Type 0 where
@@ -271,7 +261,7 @@ peer_state_there world front events event s s' peer_state more runs k found true
     ap peer_state_of (sym (set_at s.peer_states.items (event_peer event) k peer_state found (sym same) at)) ∙ more.peer_state_is
 peer_state_there world front events event s s' peer_state more runs k found false is at =
     let other : k ≢ event_peer event = λ e. eqb-false _ _ is (sym e) in
-    runs.peer_states k found (sym (set_beside s.peer_states.items (event_peer event) k peer_state other) ∙ at)
+    runs.peer_states k found (set_beside s.peer_states.items (event_peer event) k peer_state found other at)
 
 pub goes_on : (world : World) (front : List ℕ) (events : List Event) (event : Event) (s s' : Simulator) (peer_state : sits.PeerState) → IsPermittedEvent world event → length events < MOST_TURNS → OneMore world front (history_state_after world events) event s s' peer_state →
     RunsTo world front events s → RunsTo world front (events ++ event ∷ []) s'
@@ -280,7 +270,7 @@ goes_on world front events event s s' peer_state there small more runs =
     let count = length-append events (event ∷ []) in
     record {
       is_world = runs.is_world;
-      there = there-snoc (IsPermittedEvent world) events event runs.there there;
+      there = all-snoc (IsPermittedEvent world) events event runs.there there;
       few = omega arith;
       shape = more.shape ∙ runs.shape;
       after = subst (λ (m : HistoryState). WorldStateAfter front m.past s'.world_state) (sym next) more.after;
@@ -324,9 +314,7 @@ found_at (x ∷ xs) zero below = (x, refl)
 found_at (x ∷ xs) (suc p) below = found_at xs p (omega arith)
 
 get_set : {A : Type 0} (xs : List A) (p : ℕ) (x : A) → slice_get xs p ≡ Some x → slice_set xs p x ≡ xs
-get_set [] p x is = absurd (cc)
-get_set (y ∷ xs) zero x is = ap (λ z. z ∷ xs) (sym (same_Some y x is))
-get_set (y ∷ xs) (suc p) x is = ap (λ zs. y ∷ zs) (get_set xs p x is)
+get_set xs p x is = ap (slice_set xs p) (sym (get_or_from_slice_get xs p x x is)) ∙ set-get_or xs p x
 
 -- An event of the world state alone: a write of a hostile peer.
 pub poke_happens : {T E : Type 0} (r : Result T E) (peer word value : ℕ) (s s' : Simulator) → s'.peer_states ≡ s.peer_states → s'.world_state.region.shape ≡ s.world_state.region.shape →

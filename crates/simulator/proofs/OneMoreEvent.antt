@@ -3,10 +3,12 @@ use Rattle.std.proofs.Common.{◌≡◌, ◌≢◌, ℕ, zero, suc, ◌<◌, ◌
 use Rattle.std.specs.Prelude.{◌==◌, ◌&&◌, Result, Ok, Err, OnOk, not, nat_lt, slice_index_or, if◌then◌else◌, Option, Some, None, reverse, slice_get, slice_set}
 use Rattle.std.specs.List.{AllByRecursion}
 use Rattle.std.proofs.lemmas.Bool.Decides.{nat_tests}
-use Rattle.std.proofs.lemmas.Option.{slice_get-get_or, same_Some}
-use Rattle.std.proofs.lemmas.List.{append-nil, take_more, take_all, get_or-set_same, get_or-set_other, length-append, length-replicate, length-take}
+use Rattle.std.proofs.lemmas.Option.{slice_get-get_or, get_or_from_slice_get, same_Some}
+use Rattle.std.proofs.lemmas.List.{append-nil, take_more, take_all, set-get_or, get_or-set_same, get_or-set_other, length-append, length-replicate, length-take}
 use Rattle.std.proofs.lemmas.List.Concat.{flat_map-append}
+use Rattle.std.proofs.lemmas.List.Elements.{All-append, recursion_from_All, All-from_recursion}
 use Rattle.doorbell_irq.specs.Events as device
+use Rattle.doorbell_irq.proofs.Lists.{slice_get-same, slice_get-set_same, slice_get-set_other}
 use Rattle.scenario_text.specs.declared.acts.Act.{Act}
 use Rattle.scenario_text.specs.Scenario.{World, IsWorld, is_link}
 use Rattle.call_grammar.specs.Calls.{EndConfig}
@@ -50,10 +52,6 @@ run_count world (event ∷ events) so_far = run_count world events (after_event 
 moment_count : (world : World) (events : List Event) → length (history_state_after world events).peers ≡ world.geometry.peers
 moment_count world events = run_count world events (initial_state world) ∙ length-replicate world.geometry.peers at_start
 
-there-snoc : (P : Event → Type 0) (events : List Event) (event : Event) → AllByRecursion P events → P event → AllByRecursion P (events ++ event ∷ [])
-there-snoc P [] event all here = (here, tt)
-there-snoc P (x ∷ events) event all here = (all.0, there-snoc P events event all.1 here)
-
 good_run : CallsArePermitted → (world : World) (events : List Event) (so_far : HistoryState) → IsWorld world → AllByRecursion (IsPermittedEvent world) events → Good world so_far → Good world (run world events so_far)
 good_run reach world [] so_far is there good = good
 good_run reach world (event ∷ events) so_far is there good = good_run reach world events (after_event world so_far event) is there.1 (good_on reach world so_far event is there.0 good)
@@ -61,21 +59,6 @@ good_run reach world (event ∷ events) so_far is there good = good_run reach wo
 -- Each peer of a running simulator is fit for its calls.
 pub fit_at : CallsArePermitted → (world : World) (events : List Event) (p : ℕ) → IsWorld world → AllByRecursion (IsPermittedEvent world) events → IsFit (config_of world p) (peer_at (history_state_after world events) p)
 fit_at reach world events p is there = (good_run reach world events (initial_state world) is there (good_at_first world)).fits p
-
--- A list with one element set, at that position and at others.
-set_at : {A : Type 0} (xs : List A) (p k : ℕ) (x y : A) → k ≡ p → slice_get (slice_set xs p x) k ≡ Some y → x ≡ y
-set_at [] p k x y is at = absurd (cc)
-set_at (z ∷ xs) zero zero x y is at = cc
-set_at (z ∷ xs) zero (suc k) x y is at = absurd (omega arith)
-set_at (z ∷ xs) (suc p) zero x y is at = absurd (omega arith)
-set_at (z ∷ xs) (suc p) (suc k) x y is at = set_at xs p k x y (omega arith) at
-
-set_beside : {A : Type 0} (xs : List A) (p k : ℕ) (x : A) → k ≢ p → slice_get (slice_set xs p x) k ≡ slice_get xs k
-set_beside [] p k x other = refl
-set_beside (z ∷ xs) zero zero x other = absurd (other refl)
-set_beside (z ∷ xs) zero (suc k) x other = refl
-set_beside (z ∷ xs) (suc p) zero x other = refl
-set_beside (z ∷ xs) (suc p) (suc k) x other = set_beside xs p k x (λ e. other (ap suc e))
 
 -- An element of a list with one more is one of the list, or the last.
 last_or : (xs : List PeerState) (x : PeerState) (k : ℕ) (found : PeerState) → slice_get (xs ++ x ∷ []) k ≡ Some found → (P : ℕ → PeerState → Type 0) →
@@ -121,7 +104,8 @@ stands_on world output events event s s' peer_state more inside runs k found tru
     let p = event_peer event in
     let same : p ≡ k = is_same p k is in
     let here : peer_at (after_event world so_far event) p ≡ peer_after world so_far event = get_or-set_same so_far.peers p (peer_after world so_far event) at_start (omega (arith, moment_count world events)) in
-    let peer_state_is : peer_state ≡ found = set_at s.peer_states.items p k peer_state found (sym same) at in
+    let items = slice_set s.peer_states.items p peer_state in
+    let peer_state_is : peer_state ≡ found = slice_get-same items p peer_state found (slice_get-set_same s.peer_states.items p peer_state (omega (arith, inside, runs.count))) (ap (slice_get items) same ∙ at) in
     let P : ℕ → PeerState → Type 0 = λ q x. PeerStateRefines (config_of world q) (peer_at (after_event world so_far event) q) x × (is_honest x ≡ is_link world q) in
     let now : P p peer_state = (subst (λ (x : Peer). PeerStateRefines (config_of world p) x peer_state) (sym here) more.refines, more.linked) in
     subst (λ (q : ℕ). P q found) same (subst (λ (x : PeerState). P p x) peer_state_is now)
@@ -130,7 +114,7 @@ stands_on world output events event s s' peer_state more inside runs k found fal
     let p = event_peer event in
     let other : k ≢ p = is_other p k is in
     let here : peer_at (after_event world so_far event) k ≡ peer_at so_far k = get_or-set_other so_far.peers p k (peer_after world so_far event) at_start other in
-    let old : slice_get s.peer_states.items k ≡ Some found = sym (set_beside s.peer_states.items p k peer_state other) ∙ at in
+    let old : slice_get s.peer_states.items k ≡ Some found = sym (slice_get-set_other s.peer_states.items p k peer_state other) ∙ at in
     (subst (λ (x : Peer). PeerStateRefines (config_of world k) x found) (sym here) (runs.refines k found old), runs.linked k found old)
 
 pub goes_on : (world : World) (output : Output) (events : List Event) (event : Event) (s s' : Simulator) (peer_state : PeerState) → IsPermittedEvent world event → OneMore world output (history_state_after world events) event s s' peer_state →
@@ -142,7 +126,7 @@ goes_on world output events event s s' peer_state there more runs =
     let at = λ (k : ℕ) (found : PeerState) (is : slice_get s'.peer_states.items k ≡ Some found).
     stands_on world output events event s s' peer_state more inside runs k found (event_peer event == k) refl (subst (λ (xs : List PeerState). slice_get xs k ≡ Some found) more.items is) in
     record {
-      there = there-snoc (IsPermittedEvent world) events event runs.there there;
+      there = let P = IsPermittedEvent world in let one = event ∷ [] in recursion_from_All P (events ++ one) (All-append P events one (All-from_recursion P events runs.there) (All-from_recursion P one (there, tt)));
       geometry = ap (λ g. g.geometry) more.sizes ∙ runs.geometry;
       queue = ap (λ g. g.queue) more.sizes ∙ runs.queue;
       after = subst (λ (m : HistoryState). WorldStateAfter world output m.past m.losses s'.world_state) (sym next) more.after;
@@ -154,9 +138,7 @@ goes_on world output events event s s' peer_state there more runs =
 
 -- An event of the world state alone.
 get_set : (xs : List PeerState) (p : ℕ) (x : PeerState) → slice_get xs p ≡ Some x → slice_set xs p x ≡ xs
-get_set [] p x is = absurd (cc)
-get_set (y ∷ xs) zero x is = ap (λ (z : PeerState). z ∷ xs) (sym (same_Some y x is))
-get_set (y ∷ xs) (suc p) x is = ap (λ zs. y ∷ zs) (get_set xs p x is)
+get_set xs p x is = ap (slice_set xs p) (sym (get_or_from_slice_get xs p x x is)) ∙ set-get_or xs p x
 
 pub world_state_goes_on : (world : World) (output : Output) (events : List Event) (event : Event) (s s' : Simulator) → IsPermittedEvent world event → s'.peer_states ≡ s.peer_states → s'.sizes ≡ s.sizes →
     peer_after world (history_state_after world events) event ≡ peer_at (history_state_after world events) (event_peer event) →
@@ -404,9 +386,7 @@ losses_few world acts i q =
 
 -- An element at a position in the list doesn't depend on the default.
 pub same_or : (xs : List PeerState) (p : ℕ) (d : PeerState) → p < length xs → get_or xs p d ≡ get_or xs p (get_or xs p d)
-same_or [] p d below = absurd (omega arith)
-same_or (x ∷ xs) zero d below = refl
-same_or (x ∷ xs) (suc p) d below = same_or xs p d (omega arith)
+same_or xs p d below = sym (get_or_from_slice_get xs p _ _ (slice_get-get_or xs p d below))
 
 two_below : (p : ℕ) (flag : Bool) → (nat_lt p 2 && flag) ≡ true → p < 2
 two_below p flag is = grind (arith, nat_tests)

@@ -208,8 +208,6 @@ impl Endpoint {
     //    the one that the last offer was given, in whatever phase. It stays until another is
     //    offered, through each step, call, refusal, session and reset, and is empty before the
     //    first offer alone.
-    // claim few: In each phase the frames in flight are within the limit, which the step bound of
-    //    an offer needs.
     pub fn offer(&mut self, frame: &[u8])
         requires closed { is_busy self.old ≡ false }
         requires frame { (SHORTEST_FRAME ≤ length frame.now) ×
@@ -285,9 +283,10 @@ impl Endpoint {
     /// The frame of an Accept note is `offered`, and the frame of a Deliver note is `delivered`.
     /// After a step that refuses a value the next access is State 0, which puts the end into RESET.
     /// The end stays in RESET and keeps the refused value until its reset.
-    // claim steps with Endpoint::took_into.steps: Each step has the marks of its place for the
-    //    value read, and leads to the next place. An Accept is of the frame offered, a Deliver of
-    //    the one delivered.
+    // claim steps with Endpoint::took_into.steps, Endpoint::offer.few: Each step has the marks of
+    //    its place for the value read, and leads to the next place. An Accept is of the frame
+    //    offered, a Deliver of the one delivered. In each phase the frames in flight are within the
+    //    limit, which the step bound of an offer needs.
     // claim refuses with Endpoint::took_into.refuses, Endpoint::next.leaves: After a step that
     //    refuses a value, the next access is State 0.
     // claim leaves with Endpoint::took_into.leaves, Endpoint::phase.left: With that State step the

@@ -1,12 +1,12 @@
 -- The rows of a run follow one another up to its end.
-use Rattle.std.proofs.Common.{◌<◌, List, [], ◌∷◌, ◌++◌, length, map, refl, ap, subst, arith}
+use Rattle.std.proofs.Common.{◌<◌, List, [], ◌∷◌, length, refl, ap, subst, arith}
 use Rattle.std.specs.Prelude.{All}
 use Rattle.std.proofs.lemmas.Bool.{lt-leb}
 use Rattle.std.proofs.lemmas.List.{length-append}
 use Rattle.line_format.specs.Rows.{Row, row}
 use Rattle.line_format.proofs.ListLaws.{all_at}
 use Rattle.line_format.proofs.LawsOfTexts.{IsForward}
-use Rattle.line_format.proofs.RowTexts.{Along, along-append, Reaches, mapped_along, rows_forward}
+use Rattle.line_format.proofs.RowTexts.{Along, EachJoins, Reaches, mapped_reach, rows_forward}
 use Rattle.frame_bridge.specs.declared.limits.TheConstants.{MOST_FRAMES}
 use Rattle.frame_bridge.specs.declared.scripts.Sent.{Sent}
 use Rattle.frame_bridge.specs.declared.forms.Form.{Form}
@@ -46,15 +46,15 @@ head_along w is =
 
 -- ---- the frames
 
-sent_along : (w : World) → IsWorld w → Along rules (at_frames w []) (map row_of_sent w.sent) (at_frames w w.sent)
-sent_along w is = mapped_along rules (at_frames w) row_of_sent w.sent (λ front rest s all.
+sent_joins : (w : World) → IsWorld w → EachJoins rules (at_frames w) (λ k s. row_of_sent s) w.sent
+sent_joins w is front rest s all =
     let here = all_at (IsAllowed w) front rest s (subst (λ (sent : List Sent). All (IsAllowed w) sent) all is.allowed) in
     let below : length front < MOST_FRAMES = omega (arith, ap length all, length-append front (s ∷ rest), is.few) in
     record {
       follows = record { values = here.values; bytes = here.bytes; order = refl; range = here.range; peer = refl; size = here.size; sizes = refl; room = rw (lt-leb MOST_FRAMES (length front) below) refl };
       gives = refl;
       continues = refl;
-    })
+    }
 
 -- ---- the whole text
 
@@ -64,16 +64,8 @@ at_end w = record { position = Ended; ports = w.ports; rounds = w.rounds; sent =
 -- The rows of a run lead to its end.
 spelled_reaches : (w : World) → IsWorld w → Reaches rules at_start (rows_of w) (at_end w)
 spelled_reaches w is =
-    record {
-      front = head w ++ map row_of_sent w.sent;
-      last = row End [] [];
-      before = at_frames w w.sent;
-      parts = refl;
-      along = along-append rules at_start (head w) (map row_of_sent w.sent) (at_frames w []) (at_frames w w.sent) (head_along w is) (sent_along w is);
-      follows = record { values = tt; bytes = refl; order = refl; range = refl; peer = refl; size = refl; sizes = refl; room = refl };
-      gives = refl;
-      ended = refl;
-    }
+    mapped_reach rules at_start (head w) (at_frames w) row_of_sent w.sent (row End [] []) (at_end w) (head_along w is) (sent_joins w is)
+    (record { values = tt; bytes = refl; order = refl; range = refl; peer = refl; size = refl; sizes = refl; room = refl }) refl refl
 
 pub is_forward : IsForward machine sense IsSpelling line_count
 is_forward = rows_forward rules sense rows_of IsWorld at_end is_table spelled_reaches (λ w is. refl)

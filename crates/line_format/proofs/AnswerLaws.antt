@@ -1,5 +1,5 @@
 -- A text is read exactly if it is the spelling of what is read, for every text.
-use Rattle.std.proofs.Common.{◌≡◌, ℕ, Bool, true, false, List, Result, Ok, Err, sym, ap, subst, ◌∙◌}
+use Rattle.std.proofs.Common.{◌≡◌, ℕ, Bool, true, false, List, Result, Ok, Err, ap, subst, ◌∙◌}
 use Rattle.std.specs.Result.{IsErrAnd}
 use Rattle.line_format.specs.declared.reading.TextFault.{TextFault}
 use Rattle.line_format.specs.declared.reading.TextFault.TheVariants as texts
@@ -31,11 +31,9 @@ refuses s is_no_memory no_memory apart d (texts.At cause n) r is = bound _ _ (ap
 refuses s is_no_memory no_memory apart d (texts.After n) r is = bound _ _ (apart.after n) (ap (λ x. said s x) is)
 refuses s is_no_memory no_memory apart d texts.NoEnd r is = bound _ _ apart.no_end (ap (λ x. said s x) is)
 
--- The answers of a call that reads a text from `start`, and leaves `d`. A text that was read is the
--- spelling of no other value.
-pub only_ok : {S C W E : Type 0} {m : Machine S C} {s : Sense S C W E} {Spells : W → List ℕ → Type 0} {line_count : W → ℕ} → IsForward m s Spells line_count
-    → {start d : S} {bytes : List ℕ} {found : W} → start ≡ s.start → read m start bytes ≡ Ok d → s.value d ≡ Ok found → (w : W) → Spells w bytes → ◌≡◌ {A = Result W E} (Ok w) (Ok found)
-only_ok {S} {C} {W} {E} {m} {s} forward {start} {d} {bytes} {found} at is value w spelled = sym (spelled_is_read forward w bytes spelled) ∙ ap (λ x. said s x) (rw at at is) ∙ value
+-- The answer for a text that was read from `start`, up to `d`.
+pub exact_ok : {S C W E : Type 0} (m : Machine S C) (s : Sense S C W E) (bytes : List ℕ) {start d : S} {found : W} → start ≡ s.start → read m start bytes ≡ Ok d → s.value d ≡ Ok found → answer m s bytes ≡ Ok found
+exact_ok m s bytes at is value = ap (λ x. said s x) (rw at at is) ∙ value
 
 -- The fault of a text that was refused is that of the definition, unless an allocation failed.
 pub exact_err : {S C W E X : Type 0} (m : Machine S C) {s : Sense S C W E} {is_no_memory : E → Bool} {no_memory : E} → IsApart s is_no_memory no_memory
@@ -44,10 +42,7 @@ pub exact_err : {S C W E X : Type 0} (m : Machine S C) {s : Sense S C W E} {is_n
 exact_err m apart view bytes d fault (Ok x) gives at is = absurd gives
 exact_err {S} {C} {W} {E} {X} m {s} {is_no_memory} {no_memory} apart view bytes d fault (Err e) gives at is = rw gives (refuses s is_no_memory no_memory apart d fault (read m s.start bytes) (rw at at is))
 
--- A text that was refused is no spelling, unless an allocation failed.
-pub only_err : {S C W E X : Type 0} {m : Machine S C} {s : Sense S C W E} {Spells : W → List ℕ → Type 0} {line_count : W → ℕ} → IsForward m s Spells line_count
-    → {is_no_memory : E → Bool} {no_memory : E} → IsApart s is_no_memory no_memory
-    → (view : X → W) (bytes : List ℕ) (d : S) (fault : TextFault C) (r : Result X E) → IsErrAnd r (λ e. e ≡ fault_of_text s no_memory fault)
-    → {start : S} → start ≡ s.start → Reads {U = Unit {0}} d (Err fault) (read m start bytes) → (w : W) → Spells w bytes → Answers is_no_memory view r (Ok w)
-only_err {S} {C} {W} {E} {X} {m} forward {is_no_memory} apart view bytes d fault r gives at is w spelled =
-    subst (λ (x : Result W E). Answers is_no_memory view r x) (spelled_is_read forward w bytes spelled) (exact_err m apart view bytes d fault r gives at is)
+-- The exact answer for a spelling is the value that it spells.
+pub only_answer : {S C W E X : Type 0} {m : Machine S C} {s : Sense S C W E} {Spells : W → List ℕ → Type 0} {line_count : W → ℕ} → IsForward m s Spells line_count
+    → (is_no_memory : E → Bool) (view : X → W) (bytes : List ℕ) (r : Result X E) → Answers is_no_memory view r (answer m s bytes) → (w : W) → Spells w bytes → Answers is_no_memory view r (Ok w)
+only_answer {S} {C} {W} {E} forward is_no_memory view bytes r exact w spelled = subst (λ (x : Result W E). Answers is_no_memory view r x) (spelled_is_read forward w bytes spelled) exact

@@ -51,5 +51,10 @@ one_alone (n ∷ m ∷ ns) fit = absurd fit.2
 pub same_row : {F : Type 0} (form : F) (ns ms bytes : List ℕ) → ns ≡ ms → [] ≡ bytes → row form ns [] ≡ row form ms bytes
 same_row form ns ms bytes e f = rw (e, f) refl
 
-pub the_number : {F : Type 0} (form : F) (ns bytes : List ℕ) → length ns ≡ 1 → bytes ≡ [] → row form (get_or ns 0 0 ∷ []) [] ≡ row form ns bytes
-the_number form ns bytes one none = same_row form _ ns bytes (list_1 ns one) (sym none)
+pub the_number : {F : Type 0} (form : F) (low high : ℕ) (ns bytes : List ℕ) → Fit (Number low high ∷ []) ns → bytes ≡ [] → row form (get_or ns 0 0 ∷ []) [] ≡ row form ns bytes
+the_number form low high ns bytes fit none = same_row form _ ns bytes (list_1 ns (counted (Number low high ∷ []) ns fit)) (sym none)
+
+-- ---- a form without values
+
+pub no_number : {F : Type 0} (form : F) (ns bytes : List ℕ) → Fit [] ns → bytes ≡ [] → row form [] [] ≡ row form ns bytes
+no_number form ns bytes fit none = same_row form [] ns bytes (list_0 ns (counted [] ns fit)) (sym none)

@@ -28,6 +28,13 @@ numbered-push row_of n [] item = ap (λ (k : ℕ). row_of k item ∷ []) (omega 
 numbered-push {A} {F} row_of n (first ∷ items) item =
     ap (λ (rs : List (Row F)). row_of n first ∷ rs) (numbered-push row_of (n + 1) items item ∙ ap (λ (k : ℕ). numbered row_of (n + 1) items ++ row_of k item ∷ []) (omega arith))
 
+-- One more item adds its row, with its number.
+pub numbers-push : {A F : Type 0} (front : List (Row F)) (row_of : ℕ → A → Row F) (items : List A) (item : A) (r : Row F) → row_of (length items) item ≡ r
+    → front ++ numbered row_of 0 (items ++ item ∷ []) ≡ (front ++ numbered row_of 0 items) ++ r ∷ []
+numbers-push front row_of items item r e =
+    let none : 0 + length items ≡ length items = omega arith in
+    rw (numbered-push row_of 0 items item, none, ← e) (sym (append_assoc front (numbered row_of 0 items) (row_of (length items) item ∷ [])))
+
 pub numbered-more : {A F : Type 0} (pieces_of : F → List Piece) (row_of : ℕ → A → Row F) (front : List ℕ) (items : List A) (n : ℕ) (item : A) → n < length items → get_or items n item ≡ item
     → front ++ text_of pieces_of (numbered row_of 0 (take n items)) ++ line_of_row pieces_of (row_of n item) ≡ front ++ text_of pieces_of (numbered row_of 0 (take (n + 1) items))
 numbered-more {A} {F} pieces_of row_of front items n item lt is =
@@ -36,6 +43,10 @@ numbered-more {A} {F} pieces_of row_of front items n item lt is =
     text-push pieces_of front (numbered row_of 0 (take n items)) (row_of n item) ∙ ap (λ (rs : List (Row F)). front ++ text_of pieces_of rs) (sym rows)
 
 -- ---- rows of items
+
+-- Rows and one more.
+pub then_row : {F : Type 0} (front : List (Row F)) {r s : Row F} → r ≡ s → front ++ r ∷ [] ≡ front ++ s ∷ []
+then_row {F} front e = ap (λ (x : Row F). front ++ x ∷ []) e
 
 -- One more item adds its row.
 pub rows-push : {A F : Type 0} (front : List (Row F)) (row_of : A → Row F) (items : List A) (item : A) (r : Row F) → row_of item ≡ r
@@ -60,8 +71,12 @@ no_rule None = refl
 pub rule_of : (rule : ℕ → Bool) (n : ℕ) → n ≤ 2 ^ 64 - 1 → option_map_or rule (number_of (decimal n)) false ≡ rule n
 rule_of rule n le = rw (number_of-decimal n (omega arith)) refl
 
-pub same_number : (p n : ℕ) → p ≡ n → p < 2 ^ 64 → option_map_or (λ q. not (eqb q n)) (number_of (decimal p)) false ≡ false
-same_number p n same small = rw (number_of-decimal p small, same, eq-eqb n n refl) refl
+-- The field of number n passes the rule that it is n.
+abbrev pub IsNext : ℕ → Type 0
+IsNext n = option_map_or (λ q. not (eqb q n)) (number_of (decimal n)) false ≡ false
+
+pub same_number : (n : ℕ) → n < 2 ^ 64 → IsNext n
+same_number n small = rw (number_of-decimal n small, eq-eqb n n refl) refl
 
 -- A line whose field 1 has to be this number has it.
 pub next_number : (count : ℕ) (w v : List ℕ) (ns bytes : List ℕ) → Fit (Word w ∷ Number 0 (2 ^ 64 - 1) ∷ Word v ∷ []) ns

@@ -1,6 +1,7 @@
 -- Texts of a table: rows that follow one another are read, and what is read is rows that follow one
 -- another.
-use Rattle.std.proofs.Common.{◌≡◌, ℕ, ◌+◌, true, false, List, [], ◌∷◌, ◌++◌, length, map, Ok, refl, sym, ap, subst, ◌∙◌, append_assoc, arith}
+use Rattle.std.proofs.Common.{◌≡◌, ℕ, ◌+◌, ◌-◌, ◌^◌, ◌<◌, ◌≤◌, Bool, true, false, eqb, List, [], ◌∷◌, ◌++◌, length, map, Ok, refl, sym, ap, subst, ◌∙◌, append_assoc, arith}
+use Rattle.std.proofs.lemmas.Bool.{ne_eqb}
 use Rattle.std.proofs.lemmas.List.{append-nil, length-append, length-map}
 use Rattle.std.proofs.lemmas.List.Concat.{flat_map-append, flat_map-cons}
 use Rattle.line_format.specs.Forms.{Piece}
@@ -8,6 +9,7 @@ use Rattle.line_format.specs.Rows.{Row, line_of_row, text_of, numbered}
 use Rattle.line_format.specs.Machine.{Machine, Leads, HasNoNewline, text_of_lines, read}
 use Rattle.line_format.specs.Grammar.{Rules, step, machine_of}
 use Rattle.line_format.specs.Texts.{Sense}
+use Rattle.line_format.proofs.PartLaws.{IsNext, same_number}
 use Rattle.line_format.proofs.ReadingLines.{read_is_lines}
 use Rattle.line_format.proofs.FormsOfRows.{IsTable}
 use Rattle.line_format.proofs.LinesOfRows.{bare, row_plain, text_is_lines, text-cons}
@@ -46,7 +48,7 @@ items_along {A} {S} g at row_of items each front (item ∷ rest) is =
     (j.follows, t.0, t.1)
 
 -- The rows of items with their numbers follow one another.
-pub numbered_along : {A S F C : Type 0} (g : Rules S F C) (at : List A → S) (row_of : ℕ → A → Row F) (items : List A) → EachJoins g at row_of items → Along g (at []) (numbered row_of 0 items) (at items)
+numbered_along : {A S F C : Type 0} (g : Rules S F C) (at : List A → S) (row_of : ℕ → A → Row F) (items : List A) → EachJoins g at row_of items → Along g (at []) (numbered row_of 0 items) (at items)
 numbered_along g at row_of items each = items_along g at row_of items each [] items refl
 
 numbered-map : {A F : Type 0} (row_of : A → Row F) (n : ℕ) (items : List A) → numbered (λ k item. row_of item) n items ≡ map row_of items
@@ -54,7 +56,7 @@ numbered-map row_of n [] = refl
 numbered-map {A} {F} row_of n (item ∷ items) = ap (λ (rs : List (Row F)). row_of item ∷ rs) (numbered-map row_of (n + 1) items)
 
 -- The rows of items follow one another.
-pub mapped_along : {A S F C : Type 0} (g : Rules S F C) (at : List A → S) (row_of : A → Row F) (items : List A) → EachJoins g at (λ k item. row_of item) items → Along g (at []) (map row_of items) (at items)
+mapped_along : {A S F C : Type 0} (g : Rules S F C) (at : List A → S) (row_of : A → Row F) (items : List A) → EachJoins g at (λ k item. row_of item) items → Along g (at []) (map row_of items) (at items)
 mapped_along {A} {S} {F} g at row_of items each = subst (λ (rs : List (Row F)). Along g (at []) rs (at items)) (numbered-map row_of 0 items) (numbered_along g at (λ k item. row_of item) items each)
 
 leads-cons : {S C : Type 0} (m : Machine S C) (d now : S) (line : List ℕ) (lines : List (List ℕ)) (e : S) → HasNoNewline line → m.step d line ≡ Ok now → m.ended now ≡ false → Leads m now lines e → Leads m d (line ∷ lines) e
@@ -86,6 +88,33 @@ pub record Reaches {S F C : Type 0} (g : Rules S F C) (d : S) (rows : List (Row 
 pub rows_lead : {S F C : Type 0} (g : Rules S F C) → IsTable g.pieces_of g.forms → (d : S) (rows : List (Row F)) (f : S) → Reaches g d rows f → Leads (machine_of g) d (map (bare g.pieces_of) rows) f
 rows_lead {S} {F} g table d rows f r = subst (λ (rs : List (Row F)). Leads (machine_of g) d (map (bare g.pieces_of) rs) f) (sym r.parts) (leads g table d r.front r.before r.last f r.along r.follows r.gives r.ended)
 
+-- Flags join if the row of each can follow where there are fewer flags before it than `count`.
+pub flags_join : {S F C : Type 0} (g : Rules S F C) (at : List Bool → S) (row_of : ℕ → Bool → Row F) (flags : List Bool) (count : ℕ) → length flags ≡ count → count ≤ 8
+    → ((front : List Bool) (flag : Bool) → length front ≤ 2 ^ 64 - 1 → eqb (length front) count ≡ false → IsNext (length front) → Joins g at row_of front flag) → EachJoins g at row_of flags
+flags_join g at row_of flags count all few each front rest flag is =
+    let less : length front < count = omega (arith, ap length is, length-append front (flag ∷ rest), all) in
+    each front flag (omega arith) (ne_eqb _ _ (λ full. omega arith)) (same_number _ (omega arith))
+
+-- A head, items with their numbers, and a line that is no end.
+pub numbered_then : {A S F C : Type 0} (g : Rules S F C) (d : S) (head : List (Row F)) (at : List A → S) (row_of : ℕ → A → Row F) (items : List A) (next : Row F) (f : S)
+    → Along g d head (at []) → EachJoins g at row_of items → Along g (at items) (next ∷ []) f → Along g d ((head ++ numbered row_of 0 items) ++ next ∷ []) f
+numbered_then g d head at row_of items next f here each later =
+    along-append g d (head ++ numbered row_of 0 items) (next ∷ []) (at items) f (along-append g d head (numbered row_of 0 items) (at []) (at items) here (numbered_along g at row_of items each)) later
+
+-- A head, items, and the end.
+pub mapped_reach : {A S F C : Type 0} (g : Rules S F C) (d : S) (head : List (Row F)) (at : List A → S) (row_of : A → Row F) (items : List A) (last : Row F) (f : S)
+    → Along g d head (at []) → EachJoins g at (λ k item. row_of item) items → CanFollow g (at items) last → with_row g last (at items) ≡ f → g.ended f ≡ true → Reaches g d ((head ++ map row_of items) ++ last ∷ []) f
+mapped_reach g d head at row_of items last f here each can gives ended = record {
+  front = head ++ map row_of items;
+  last = last;
+  before = at items;
+  parts = refl;
+  along = along-append g d head (map row_of items) (at []) (at items) here (mapped_along g at row_of items each);
+  follows = can;
+  gives = gives;
+  ended = ended;
+}
+
 -- The rows of each value are its lines, if they reach an end that has this value.
 pub rows_forward : {S F C W E : Type 0} (g : Rules S F C) (s : Sense S C W E) (rows_of : W → List (Row F)) (IsWorld : W → Type 0) (at_end : W → S) → IsTable g.pieces_of g.forms
     → ((w : W) → IsWorld w → Reaches g s.start (rows_of w) (at_end w)) → ((w : W) → IsWorld w → s.value (at_end w) ≡ Ok w)
@@ -112,10 +141,25 @@ text-append pieces_of rs r rest =
 pub line-cons : (line : List ℕ) (lines : List (List ℕ)) → text_of_lines (line ∷ lines) ≡ line ++ 10 ∷ text_of_lines lines
 line-cons line lines = flat_map-cons (λ l. l ++ 10 ∷ []) line lines ∙ append_assoc line (10 ∷ []) (text_of_lines lines)
 
+-- After the row its state has the invariant, and the rows so far end with the row.
+pub record Adds {S F : Type 0} (before : S → List (Row F)) (Good : S → Type 0) (d : S) (r : Row F) (e : S) : Type 0 where
+  pub rows : before e ≡ before d ++ r ∷ []
+  pub good : Good e
+
 -- A row that can follow preserves the invariant of the lines so far, and adds itself to their rows.
-pub record Keeps {S F C : Type 0} (g : Rules S F C) (before : S → List (Row F)) (Good : S → Type 0) (d : S) (r : Row F) : Type 0 where
-  pub rows : before (with_row g r d) ≡ before d ++ r ∷ []
-  pub good : Good (with_row g r d)
+abbrev pub Keeps : {S F C : Type 0} → Rules S F C → (S → List (Row F)) → (S → Type 0) → S → Row F → Type 0
+Keeps g before Good d r = Adds before Good d r (with_row g r d)
+
+-- The item that has this row.
+pub record HasItem {A F : Type 0} (row_of : A → Row F) (r : Row F) : Type 0 where
+  pub item : A
+  pub row_is : row_of item ≡ r
+
+-- The row of an item is kept if the row of each item is.
+pub keeps_item : {A S F C : Type 0} (g : Rules S F C) {before : S → List (Row F)} {Good : S → Type 0} (d : S) (row_of : A → Row F) (r : Row F) → HasItem row_of r
+    → ((item : A) → CanFollow g d (row_of item) → Keeps g before Good d (row_of item)) → CanFollow g d r → Keeps g before Good d r
+keeps_item {A} {S} {F} g {before} {Good} d row_of r has each can =
+    subst (λ (x : Row F). Keeps g before Good d x) has.row_is (each has.item (subst (λ (x : Row F). CanFollow g d x) (sym has.row_is) can))
 
 abbrev pub AreKept : {S F C : Type 0} → Rules S F C → (S → List (Row F)) → (S → Type 0) → Type 0
 AreKept {S} {F} g before Good = (d : S) (r : Row F) → CanFollow g d r → Good d → Keeps g before Good d r

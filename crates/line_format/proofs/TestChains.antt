@@ -39,3 +39,7 @@ same_ok x y e = cc
 
 pub same_some : {A : Type 0} (x y : A) → ◌≡◌ {A = Option A} (Some x) (Some y) → x ≡ y
 same_some x y e = cc
+
+pub neither : {P : Type 0} (test : P → Bool) (x y : P) (b : Bool) → test x ≡ false → test y ≡ false → test (cond b x y) ≡ false
+neither test x y true first second = first
+neither test x y false first second = second

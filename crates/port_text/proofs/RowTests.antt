@@ -1,21 +1,10 @@
--- A row that can follow, and the peers that it names.
+-- The peers that a row without a fault names.
 use Rattle.std.proofs.Common.{◌≡◌, ℕ, ◌<◌, ◌≤◌, true, List}
 use Rattle.std.specs.Prelude.{IsTrue, slice_index}
-use Rattle.line_format.specs.Rows.{Row}
-use Rattle.line_format.proofs.RowsFollow as all
 use Rattle.scenario_text.proofs.RowTests.{below, kind}
 use Rattle.port_text.specs.declared.forms.Form.{Form}
 use Rattle.port_text.specs.declared.forms.Form.TheVariants.{Publish, Sample, Turn, Poke}
 use Rattle.port_text.specs.Judge.{DraftView, is_act, is_sample, rules}
-
--- The row can follow the lines so far.
-abbrev pub CanFollow : DraftView → Row Form → Type 0
-CanFollow d r = all.CanFollow rules d r
-
-abbrev pub with_row : Row Form → DraftView → DraftView
-with_row r d = all.with_row rules r d
-
--- ---- the peer of a row without a fault
 
 pub small_peer : (d : DraftView) (form : Form) (ns : List ℕ) → d.peers ≤ 8 → rules.is_its_peer d form ns ≡ true → IsTrue (is_act form) → slice_index ns 0 < 8
 small_peer d Publish ns few is act = kind _ d.peers _ few is

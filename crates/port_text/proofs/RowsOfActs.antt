@@ -6,6 +6,8 @@ use Rattle.line_format.specs.Forms.{Fit, FitBytes}
 use Rattle.line_format.specs.Rows.{row, fields_of_row}
 use Rattle.line_format.proofs.NumbersFit.{counted, list_1, list_2, list_3, same_row}
 use Rattle.line_format.proofs.PartLaws.{no_rule}
+use Rattle.line_format.proofs.RowsFollow.{CanFollow, with_row}
+use Rattle.line_format.proofs.RowTexts.{HasItem}
 use Rattle.port_text.specs.declared.acts.Act.{Act}
 use Rattle.port_text.specs.declared.acts.Act.TheVariants as acts
 use Rattle.port_text.specs.declared.forms.Form.{Form}
@@ -16,21 +18,14 @@ use Rattle.port_text.specs.Acts.{cost, turns_of}
 use Rattle.port_text.specs.Table.{pieces_of}
 use Rattle.port_text.specs.ActRows.{row_of_act}
 use Rattle.port_text.specs.Scenario.{IsAllowed}
-use Rattle.port_text.specs.Judge.{DraftView, world_of_draft, is_out_of_order, act_of, is_act, fits_sizes}
-use Rattle.port_text.proofs.RowTests.{CanFollow}
-
--- The act of a row with this form, these numbers and these bytes.
-pub record ActRow (form : Form) (ns bytes : List ℕ) : Type 0 where
-  pub act : Act
-  pub is_act_of : act_of form ns bytes ≡ Some act
-  pub row_is : row_of_act act ≡ row form ns bytes
+use Rattle.port_text.specs.Judge.{DraftView, world_of_draft, is_out_of_order, act_of, is_act, fits_sizes, with_act, rules}
 
 -- Each row of an act form has an act.
-pub act_row : (form : Form) (ns bytes : List ℕ) → is_act form ≡ true → Fit (pieces_of form) ns → FitBytes (pieces_of form) bytes → ActRow form ns bytes
-act_row Publish ns bytes is fit none = record { act = acts.Publish (get_or ns 0 0) bytes; is_act_of = refl; row_is = ap (λ (ms : List ℕ). row Publish ms bytes) (list_1 ns (counted (pieces_of Publish) ns fit)) }
-act_row Sample ns bytes is fit none = record { act = acts.Sample (get_or ns 0 0) (get_or ns 1 0); is_act_of = refl; row_is = same_row Sample _ ns bytes (list_2 ns (counted (pieces_of Sample) ns fit)) (sym none) }
-act_row Turn ns bytes is fit none = record { act = acts.Turn (get_or ns 0 0) (get_or ns 1 0); is_act_of = refl; row_is = same_row Turn _ ns bytes (list_2 ns (counted (pieces_of Turn) ns fit)) (sym none) }
-act_row Poke ns bytes is fit none = record { act = acts.Poke (get_or ns 0 0) (get_or ns 1 0) (get_or ns 2 0); is_act_of = refl; row_is = same_row Poke _ ns bytes (list_3 ns (counted (pieces_of Poke) ns fit)) (sym none) }
+pub act_row : (form : Form) (ns bytes : List ℕ) → is_act form ≡ true → Fit (pieces_of form) ns → FitBytes (pieces_of form) bytes → HasItem row_of_act (row form ns bytes)
+act_row Publish ns bytes is fit none = record { item = acts.Publish (get_or ns 0 0) bytes; row_is = ap (λ (ms : List ℕ). row Publish ms bytes) (list_1 ns (counted (pieces_of Publish) ns fit)) }
+act_row Sample ns bytes is fit none = record { item = acts.Sample (get_or ns 0 0) (get_or ns 1 0); row_is = same_row Sample _ ns bytes (list_2 ns (counted (pieces_of Sample) ns fit)) (sym none) }
+act_row Turn ns bytes is fit none = record { item = acts.Turn (get_or ns 0 0) (get_or ns 1 0); row_is = same_row Turn _ ns bytes (list_2 ns (counted (pieces_of Turn) ns fit)) (sym none) }
+act_row Poke ns bytes is fit none = record { item = acts.Poke (get_or ns 0 0) (get_or ns 1 0) (get_or ns 2 0); row_is = same_row Poke _ ns bytes (list_3 ns (counted (pieces_of Poke) ns fit)) (sym none) }
 act_row _ ns bytes is fit none = absurd cc
 
 -- The act of an act's row is that act.
@@ -39,6 +34,10 @@ act_of-row (acts.Publish p message) = refl
 act_of-row (acts.Sample p from) = refl
 act_of-row (acts.Turn p k) = refl
 act_of-row (acts.Poke p word value) = refl
+
+-- The row of an act adds the act.
+pub act_gives : (d : DraftView) (a : Act) → with_row rules (row_of_act a) d ≡ with_act a d
+act_gives d a = rw (act_of-row a) refl
 
 -- The row of an act completes no sizes.
 sizes_fit : (d : DraftView) (a : Act) → fits_sizes d (row_of_act a).form (row_of_act a).numbers ≡ true
@@ -55,11 +54,11 @@ order_is d (acts.Turn p k) at = rw at (no_rule _)
 order_is d (acts.Poke p word value) at = rw at (no_rule _)
 
 -- An act is allowed if its row can follow.
-pub allowed_act : (d : DraftView) (a : Act) → CanFollow d (row_of_act a) → IsAllowed (world_of_draft d) a
+pub allowed_act : (d : DraftView) (a : Act) → CanFollow rules d (row_of_act a) → IsAllowed (world_of_draft d) a
 allowed_act d a can = record { values = can.values; bytes = can.bytes; range = can.range; peer = can.peer; message = can.size }
 
 -- The row of an allowed act can follow while turns are left.
-pub follows_act : (d : DraftView) (a : Act) → d.position ≡ AtActs → IsAllowed (world_of_draft d) a → turns_of d.acts + cost a ≤ MOST_TURNS → CanFollow d (row_of_act a)
+pub follows_act : (d : DraftView) (a : Act) → d.position ≡ AtActs → IsAllowed (world_of_draft d) a → turns_of d.acts + cost a ≤ MOST_TURNS → CanFollow rules d (row_of_act a)
 follows_act d a at is few = record {
   values = is.values;
   bytes = is.bytes;

@@ -5,10 +5,11 @@ use Rattle.std.proofs.lemmas.Bool.{eqb-true, ltb-false}
 use Rattle.std.proofs.lemmas.List.{append-nil}
 use Rattle.std.proofs.lemmas.List.Sums.{sum_by_push}
 use Rattle.line_format.specs.Rows.{Row, row}
-use Rattle.line_format.proofs.NumbersFit.{counted, list_0, in_range, same_row, the_number}
-use Rattle.line_format.proofs.PartLaws.{numbered-push, rows-push, still_fewer, next_number}
+use Rattle.line_format.proofs.NumbersFit.{in_range, same_row, the_number, no_number}
+use Rattle.line_format.proofs.PartLaws.{then_row, numbers-push, rows-push, still_fewer, next_number}
 use Rattle.line_format.proofs.TestChains.{either_false, not_false, not_true, same_some}
-use Rattle.line_format.proofs.RowTexts.{Keeps, AreKept}
+use Rattle.line_format.proofs.RowsFollow.{CanFollow}
+use Rattle.line_format.proofs.RowTexts.{Adds, Keeps, keeps_item, AreKept}
 use Rattle.line_format.proofs.FormsOfRows.{same_place}
 use Rattle.pci_space.specs.declared.wiring.Wiring.{Wiring}
 use Rattle.pci_space.specs.Wiring.{IsWiring}
@@ -20,14 +21,12 @@ use Rattle.scenario_text.specs.declared.positions.Position.{Position}
 use Rattle.scenario_text.specs.declared.positions.Position.TheVariants.{AtVersion, AtPeers, AtTable, AtCommon, AtOut, AtMtu, AtWiring, AtPeer, AtBegin, AtActs, Ended}
 use Rattle.scenario_text.specs.declared.limits.TheConstants.{MOST_ACTS}
 use Rattle.scenario_text.specs.Acts.{cost, turns_of}
-use Rattle.scenario_text.specs.Table.{pieces_of}
 use Rattle.scenario_text.specs.ActRows.{row_of_act}
 use Rattle.scenario_text.specs.Scenario.{World, IsAllowed, AreAllowed}
 use Rattle.scenario_text.specs.Spelling.{row_of_wiring, row_of_peer, rows_of_peers}
-use Rattle.scenario_text.specs.Judge.{DraftView, world_of_draft, ordinal_of, position_of, is_act, with_act, rules}
+use Rattle.scenario_text.specs.Judge.{DraftView, world_of_draft, ordinal_of, position_of, rules}
 use Rattle.scenario_text.proofs.SizeTests.{HasRegion, has_region, has_queue, small_section}
-use Rattle.scenario_text.proofs.RowTests.{CanFollow}
-use Rattle.scenario_text.proofs.RowsOfActs.{act_row, allowed_act}
+use Rattle.scenario_text.proofs.RowsOfActs.{act_row, act_of-row, act_gives, allowed_act}
 
 -- ---- the rows before a position
 
@@ -42,11 +41,11 @@ acts_so_far d = head_so_far d ++ row Begin [] [] ∷ [] ++ map row_of_act d.acts
 
 abbrev pub rows_before : Position → DraftView → List (Row Form)
 rows_before AtVersion d = []
-rows_before AtPeers d = row Version (d.version ∷ []) [] ∷ []
-rows_before AtTable d = row Version (d.version ∷ []) [] ∷ row Peers (d.peers ∷ []) [] ∷ []
-rows_before AtCommon d = row Version (d.version ∷ []) [] ∷ row Peers (d.peers ∷ []) [] ∷ row Table (d.table ∷ []) [] ∷ []
-rows_before AtOut d = row Version (d.version ∷ []) [] ∷ row Peers (d.peers ∷ []) [] ∷ row Table (d.table ∷ []) [] ∷ row Common (d.common ∷ []) [] ∷ []
-rows_before AtMtu d = row Version (d.version ∷ []) [] ∷ row Peers (d.peers ∷ []) [] ∷ row Table (d.table ∷ []) [] ∷ row Common (d.common ∷ []) [] ∷ row Out (d.out ∷ []) [] ∷ []
+rows_before AtPeers d = take 1 (sizes_rows d)
+rows_before AtTable d = take 2 (sizes_rows d)
+rows_before AtCommon d = take 3 (sizes_rows d)
+rows_before AtOut d = take 4 (sizes_rows d)
+rows_before AtMtu d = take 5 (sizes_rows d)
 rows_before AtWiring d = sizes_rows d
 rows_before AtPeer d = head_so_far d
 rows_before AtBegin d = head_so_far d
@@ -55,7 +54,7 @@ rows_before Ended d = acts_so_far d ++ row End [] [] ∷ []
 
 -- ---- the invariant of a position
 
-pub record Clean (honest : List Bool) (acts : List Act) : Type 0 where
+pub record Clean {A : Type 0} (honest : List Bool) (acts : List A) : Type 0 where
   pub honest_none : honest ≡ []
   pub acts_none : acts ≡ []
 
@@ -103,39 +102,17 @@ rows_so_far d = rows_before d.position d
 abbrev pub IsGood : DraftView → Type 0
 IsGood d = PositionHolds d.position d
 
-abbrev Adds : DraftView → Row Form → Type 0
-Adds d r = Keeps rules rows_so_far IsGood d r
-
 -- ---- positions
 
-positions : List Position
+abbrev positions : List Position
 positions = AtVersion ∷ AtPeers ∷ AtTable ∷ AtCommon ∷ AtOut ∷ AtMtu ∷ AtWiring ∷ AtPeer ∷ AtBegin ∷ AtActs ∷ Ended ∷ []
 
 listed : (s : Position) → slice_get positions (ordinal_of s) ≡ Some s
-unfolding positions
 listed AtVersion = refl
 listed _ = refl
 
 pub same_position : (s t : Position) → eqb (ordinal_of s) (ordinal_of t) ≡ true → t ≡ s
 same_position s t e = same_place positions ordinal_of listed s t e
-
-stands : (d : DraftView) (r : Row Form) → CanFollow d r → d.position ≡ position_of r.form
-stands d r can = same_position (position_of r.form) d.position (not_false _ (either_false _ _ can.order).0)
-
--- ---- peers
-
-head-push : (d : DraftView) (b : Bool) → sizes_rows d ++ row_of_wiring d.wiring ∷ rows_of_peers 0 (d.honest ++ b ∷ []) ≡ head_so_far d ++ row_of_peer (length d.honest) b ∷ []
-head-push d b = rw (numbered-push row_of_peer 0 d.honest b) (ap (λ (p : ℕ). head_so_far d ++ row_of_peer p b ∷ []) (omega arith))
-
-peer_rows : (d : DraftView) (b : Bool) (r : Row Form) → d.position ≡ AtPeer → row_of_peer (length d.honest) b ≡ r → (full : Bool)
-    → rows_before (cond full AtBegin AtPeer) (record d { position = cond full AtBegin AtPeer; honest = d.honest ++ b ∷ [] }) ≡ rows_before d.position d ++ r ∷ []
-peer_rows d b r at e true = rw (at, ← e) (head-push d b)
-peer_rows d b r at e false = rw (at, ← e) (head-push d b)
-
-peer_good : (d : DraftView) (b : Bool) → PositionHolds AtPeer d → (full : Bool) → eqb (length (d.honest ++ b ∷ [])) d.peers ≡ full
-    → PositionHolds (cond full AtBegin AtPeer) (record d { position = cond full AtBegin AtPeer; honest = d.honest ++ b ∷ [] })
-peer_good d b good true is = (good.0, good.1, eqb-true _ _ is)
-peer_good d b good false is = (good.0, good.1, still_fewer d.honest b d.peers good.2 is)
 
 -- ---- acts
 
@@ -160,91 +137,56 @@ allowed-push w a all is k b at =
       | inr end ↦ rw (end.1, ← end.0) (allowed_in w w.acts (w.acts ++ a ∷ []) a is)
     ]
 
-act_rows : (d : DraftView) (a : Act) (r : Row Form) → row_of_act a ≡ r → head_so_far d ++ row Begin [] [] ∷ [] ++ map row_of_act (d.acts ++ a ∷ []) ≡ acts_so_far d ++ r ∷ []
-act_rows d a r e = rows-push (head_so_far d ++ row Begin [] [] ∷ []) row_of_act d.acts a r e
+-- The row of an act adds the act.
+keeps_act : (d : DraftView) → d.position ≡ AtActs → PositionHolds AtActs d → (a : Act) → CanFollow rules d (row_of_act a) → Keeps rules rows_so_far IsGood d (row_of_act a)
+keeps_act d at good a can =
+    let few : turns_of d.acts + cost a ≤ MOST_ACTS = ltb-false _ _ (not_true _ (rw (act_of-row a) at can.room)) in
+    let allowed = allowed-push (world_of_draft d) a good.1.allowed (allowed_act d a at can) in
+    subst (λ (e : DraftView). Adds rows_so_far IsGood d (row_of_act a) e) (sym (act_gives d a)) (record {
+      rows = rw at (rows-push (head_so_far d ++ row Begin [] [] ∷ []) row_of_act d.acts a (row_of_act a) refl);
+      good = rw at (good.0, record { flags = good.1.flags; allowed = allowed; turns = rw (sum_by_push cost d.acts a) few });
+    })
 
-act_before : (d : DraftView) (a : Act) (r : Row Form) → d.position ≡ AtActs → row_of_act a ≡ r → rows_before d.position (with_act a d) ≡ rows_before d.position d ++ r ∷ []
-act_before d a r at e = rw at (act_rows d a r e)
+-- ---- peers
 
-act_good : (d : DraftView) (a : Act) → d.position ≡ AtActs → CanFollow d (row_of_act a) → turns_of d.acts + cost a ≤ MOST_ACTS → PositionHolds d.position d → PositionHolds d.position (with_act a d)
-act_good d a at can few good =
-    let g = (rw at at good) in
-    rw at (g.0, record { flags = g.1.flags; allowed = allowed-push (world_of_draft d) a g.1.allowed (allowed_act d a at can); turns = rw (sum_by_push cost d.acts a) few })
-
-adds_act : (d : DraftView) (form : Form) (ns frame : List ℕ) → is_act form ≡ true → position_of form ≡ AtActs → CanFollow d (row form ns frame) → PositionHolds d.position d → Adds d (row form ns frame)
-adds_act d form ns frame is where_ can good =
-    let at = stands d (row form ns frame) can ∙ where_ in
-    let t = act_row form ns frame is can.values can.bytes in
-    let few : turns_of d.acts + cost t.act ≤ MOST_ACTS = ltb-false _ _ (not_true _ (rw t.is_act_of at can.room)) in
-    let can' : CanFollow d (row_of_act t.act) = subst (λ (r : Row Form). CanFollow d r) (sym t.row_is) can in
-    record {
-      rows = rw t.is_act_of (act_before d t.act (row form ns frame) at t.row_is);
-      good = rw t.is_act_of (act_good d t.act at can' few good);
-    }
+-- The line of a peer adds its row. After the last peer `begin` comes next.
+adds_peer : (d : DraftView) (b : Bool) (r : Row Form) → d.position ≡ AtPeer → row_of_peer (length d.honest) b ≡ r → PositionHolds AtPeer d → (full : Bool) → eqb (length (d.honest ++ b ∷ [])) d.peers ≡ full
+    → Adds rows_so_far IsGood d r (record d { position = cond full AtBegin AtPeer; honest = d.honest ++ b ∷ [] })
+adds_peer d b r at e good true is = record { rows = rw at (numbers-push (sizes_rows d ++ row_of_wiring d.wiring ∷ []) row_of_peer d.honest b r e); good = (good.0, good.1, eqb-true _ _ is) }
+adds_peer d b r at e good false is = record { rows = rw at (numbers-push (sizes_rows d ++ row_of_wiring d.wiring ∷ []) row_of_peer d.honest b r e); good = (good.0, good.1, still_fewer d.honest b d.peers good.2 is) }
 
 -- ---- each form
 
-adds : (form : Form) (ns frame : List ℕ) (d : DraftView) → CanFollow d (row form ns frame) → PositionHolds d.position d → Adds d (row form ns frame)
-adds Version ns frame d can good =
-    let at = stands d (row Version ns frame) can in
-    let same = the_number Version ns frame (counted (pieces_of Version) ns can.values) can.bytes in
-    let g = (rw at at good) in
+adds : (form : Form) (ns frame : List ℕ) (d : DraftView) → d.position ≡ position_of form → PositionHolds (position_of form) d → CanFollow rules d (row form ns frame) → Keeps rules rows_so_far IsGood d (row form ns frame)
+adds Version ns frame d at good can =
     let known = in_range 1 3 [] ns can.values in
     let itself : max 1 (get_or ns 0 0) ≡ get_or ns 0 0 = omega (arith, known.0) in
-    let same_row : row Version (max 1 (get_or ns 0 0) ∷ []) [] ≡ row Version ns frame = ap (λ n. row Version (n ∷ []) []) itself ∙ same in
-    record { rows = rw at (ap (λ (r : Row Form). r ∷ []) same_row); good = record { known = (omega (arith, known.0, known.1), omega (arith, known.0, known.1)); honest_none = g.honest_none; acts_none = g.acts_none } }
-adds Peers ns frame d can good =
-    let at = stands d (row Peers ns frame) can in
-    let same = the_number Peers ns frame (counted (pieces_of Peers) ns can.values) can.bytes in
-    record { rows = rw at (ap (λ (r : Row Form). row Version (d.version ∷ []) [] ∷ r ∷ []) same); good = ((rw at at good), in_range 2 8 [] ns can.values) }
-adds Table ns frame d can good =
-    let at = stands d (row Table ns frame) can in
-    let same = the_number Table ns frame (counted (pieces_of Table) ns can.values) can.bytes in
-    record { rows = rw at (ap (λ (r : Row Form). row Version (d.version ∷ []) [] ∷ row Peers (d.peers ∷ []) [] ∷ r ∷ []) same); good = rw at at good }
-adds Common ns frame d can good =
-    let at = stands d (row Common ns frame) can in
-    let same = the_number Common ns frame (counted (pieces_of Common) ns can.values) can.bytes in
-    record { rows = rw at (ap (λ (r : Row Form). row Version (d.version ∷ []) [] ∷ row Peers (d.peers ∷ []) [] ∷ row Table (d.table ∷ []) [] ∷ r ∷ []) same); good = rw at at good }
-adds Out ns frame d can good =
-    let at = stands d (row Out ns frame) can in
-    let same = the_number Out ns frame (counted (pieces_of Out) ns can.values) can.bytes in
-    let g = (rw at at good) in
-    record { rows = rw at (ap (λ (r : Row Form). row Version (d.version ∷ []) [] ∷ row Peers (d.peers ∷ []) [] ∷ row Table (d.table ∷ []) [] ∷ row Common (d.common ∷ []) [] ∷ r ∷ []) same); good = (g.0, g.1, has_region _ _ _ _ can.sizes) }
-adds Mtu ns frame d can good =
-    let at = stands d (row Mtu ns frame) can in
-    let same = the_number Mtu ns frame (counted (pieces_of Mtu) ns can.values) can.bytes in
-    let g = (rw at at good) in
-    record { rows = rw at (ap (λ (r : Row Form). row Version (d.version ∷ []) [] ∷ row Peers (d.peers ∷ []) [] ∷ row Table (d.table ∷ []) [] ∷ row Common (d.common ∷ []) [] ∷ row Out (d.out ∷ []) [] ∷ r ∷ []) same); good = (g.0, g.1, g.2, has_queue _ g.0.known (small_section _ _ _ _ g.2) can.sizes) }
-adds Msix ns frame d can good =
-    let at = stands d (row Msix ns frame) can in
-    let same = the_number Msix ns frame (counted (pieces_of Msix) ns can.values) can.bytes in
-    let g = (rw at at good) in
-    record { rows = rw (at, g.0.honest_none) (ap (λ (r : Row Form). sizes_rows d ++ r ∷ []) same); good = (record { few = g.1; region = g.2; queue = g.3; wired = in_range 1 64 [] ns can.values }, g.0.acts_none, omega (arith, ap length g.0.honest_none, g.1.0)) }
-adds Intx ns frame d can good =
-    let at = stands d (row Intx ns frame) can in
-    let same = same_row Intx [] ns frame (list_0 ns (counted (pieces_of Intx) ns can.values)) (sym can.bytes) in
-    let g = (rw at at good) in
-    record { rows = rw (at, g.0.honest_none) (ap (λ (r : Row Form). sizes_rows d ++ r ∷ []) same); good = (record { few = g.1; region = g.2; queue = g.3; wired = tt }, g.0.acts_none, omega (arith, ap length g.0.honest_none, g.1.0)) }
-adds Honest ns frame d can good =
-    let at = stands d (row Honest ns frame) can in
-    let number = next_number (length d.honest) (codes "peer") _ ns frame can.values (either_false _ _ can.order).1 in
-    record { rows = peer_rows d true (row Honest ns frame) at (same_row Honest _ ns frame number (sym can.bytes)) _; good = peer_good d true (rw at at good) _ refl }
-adds Hostile ns frame d can good =
-    let at = stands d (row Hostile ns frame) can in
-    let number = next_number (length d.honest) (codes "peer") _ ns frame can.values (either_false _ _ can.order).1 in
-    record { rows = peer_rows d false (row Hostile ns frame) at (same_row Hostile _ ns frame number (sym can.bytes)) _; good = peer_good d false (rw at at good) _ refl }
-adds Begin ns frame d can good =
-    let at = stands d (row Begin ns frame) can in
-    let same = same_row Begin [] ns frame (list_0 ns (counted (pieces_of Begin) ns can.values)) (sym can.bytes) in
-    let g = (rw at at good) in
-    record { rows = rw (at, g.1) (append-nil _ ∙ ap (λ (r : Row Form). head_so_far d ++ r ∷ []) same); good = (g.0, record { flags = g.2; allowed = rw g.1 (λ k a is. absurd cc); turns = rw g.1 (omega arith) }) }
-adds End ns frame d can good =
-    let at = stands d (row End ns frame) can in
-    let same = same_row End [] ns frame (list_0 ns (counted (pieces_of End) ns can.values)) (sym can.bytes) in
-    let g = (rw at at good) in
-    record { rows = rw at (ap (λ (r : Row Form). acts_so_far d ++ r ∷ []) same); good = (g.0, record { flags = g.1.flags; allowed = g.1.allowed; turns = g.1.turns }) }
-adds form ns frame d can good = adds_act d form ns frame refl refl can good
+    let same : row Version (max 1 (get_or ns 0 0) ∷ []) [] ≡ row Version ns frame = ap (λ n. row Version (n ∷ []) []) itself ∙ the_number Version _ _ ns frame can.values can.bytes in
+    record { rows = rw at (then_row [] same); good = record { known = (omega (arith, known.0, known.1), omega (arith, known.0, known.1)); honest_none = good.honest_none; acts_none = good.acts_none } }
+adds Peers ns frame d at good can = record { rows = rw at (then_row (rows_before AtPeers d) (the_number Peers _ _ ns frame can.values can.bytes)); good = (good, in_range 2 8 [] ns can.values) }
+adds Table ns frame d at good can = record { rows = rw at (then_row (rows_before AtTable d) (the_number Table _ _ ns frame can.values can.bytes)); good = good }
+adds Common ns frame d at good can = record { rows = rw at (then_row (rows_before AtCommon d) (the_number Common _ _ ns frame can.values can.bytes)); good = good }
+adds Out ns frame d at good can = record { rows = rw at (then_row (rows_before AtOut d) (the_number Out _ _ ns frame can.values can.bytes)); good = (good.0, good.1, has_region _ _ _ _ can.sizes) }
+adds Mtu ns frame d at good can = record { rows = rw at (then_row (rows_before AtMtu d) (the_number Mtu _ _ ns frame can.values can.bytes)); good = (good.0, good.1, good.2, has_queue _ good.0.known (small_section _ _ _ _ good.2) can.sizes) }
+adds Msix ns frame d at good can = record {
+  rows = rw (at, good.0.honest_none) (then_row (sizes_rows d) (the_number Msix _ _ ns frame can.values can.bytes));
+  good = (record { few = good.1; region = good.2; queue = good.3; wired = in_range 1 64 [] ns can.values }, good.0.acts_none, omega (arith, ap length good.0.honest_none, good.1.0));
+}
+adds Intx ns frame d at good can = record {
+  rows = rw (at, good.0.honest_none) (then_row (sizes_rows d) (no_number Intx ns frame can.values can.bytes));
+  good = (record { few = good.1; region = good.2; queue = good.3; wired = tt }, good.0.acts_none, omega (arith, ap length good.0.honest_none, good.1.0));
+}
+adds Honest ns frame d at good can = adds_peer d true _ at (same_row Honest _ ns frame (next_number (length d.honest) (codes "peer") _ ns frame can.values (either_false _ _ can.order).1) (sym can.bytes)) good _ refl
+adds Hostile ns frame d at good can = adds_peer d false _ at (same_row Hostile _ ns frame (next_number (length d.honest) (codes "peer") _ ns frame can.values (either_false _ _ can.order).1) (sym can.bytes)) good _ refl
+adds Begin ns frame d at good can = record {
+  rows = rw (at, good.1) (append-nil _ ∙ then_row (head_so_far d) (no_number Begin ns frame can.values can.bytes));
+  good = (good.0, record { flags = good.2; allowed = rw good.1 (λ k a is. absurd cc); turns = rw good.1 (omega arith) });
+}
+adds End ns frame d at good can = record { rows = rw at (then_row (acts_so_far d) (no_number End ns frame can.values can.bytes)); good = (good.0, record { flags = good.1.flags; allowed = good.1.allowed; turns = good.1.turns }) }
+adds form ns frame d at good can = keeps_item rules d row_of_act (row form ns frame) (act_row form ns frame refl can.values can.bytes) (keeps_act d at good) can
 
 -- A row that can follow preserves the invariant, and adds its line.
 pub are_kept : AreKept rules rows_so_far IsGood
-are_kept d r can good = adds r.form r.numbers r.frame d can good
+are_kept d r can good =
+    let at = same_position (position_of r.form) d.position (not_false _ (either_false _ _ can.order).0) in
+    adds r.form r.numbers r.frame d at (subst (λ (p : Position). PositionHolds p d) at good) can

@@ -1,10 +1,8 @@
--- A row that can follow, and the peer that it names.
+-- The peer of a row without a fault, and the act of a row.
 use Rattle.std.proofs.Common.{◌≡◌, ℕ, ◌+◌, ◌<◌, ◌≤◌, Bool, true, false, cond, ltb, eqb, ◌&&◌, List, Some, Ok, refl, sym, arith}
 use Rattle.std.specs.Prelude.{IsTrue, slice_index}
 use Rattle.std.proofs.lemmas.Bool.{le-ltb, ltb-true}
-use Rattle.line_format.specs.Rows.{Row}
 use Rattle.line_format.specs.Grammar.{added}
-use Rattle.line_format.proofs.RowsFollow as all
 use Rattle.line_format.proofs.SpellingsAreRead.{both_true}
 use Rattle.scenario_text.specs.declared.acts.Act.{Act}
 use Rattle.scenario_text.specs.declared.forms.Form.{Form}
@@ -13,14 +11,7 @@ use Rattle.scenario_text.specs.declared.limits.TheConstants.{MOST_ACTS}
 use Rattle.scenario_text.specs.Acts.{cost, turns_of}
 use Rattle.scenario_text.specs.Judge.{DraftView, fits_sizes, act_of, is_act, with_act, rules}
 
--- The row can follow the lines so far.
-abbrev pub CanFollow : DraftView → Row Form → Type 0
-CanFollow d r = all.CanFollow rules d r
-
-abbrev pub with_row : Row Form → DraftView → DraftView
-with_row r d = all.with_row rules r d
-
--- ---- the peer of a row without a fault
+-- ---- the peer
 
 pub below : (p peers : ℕ) → peers ≤ 8 → ltb p peers ≡ true → p < 8
 below p peers few is = let lt : p < peers = ltb-true p peers is in omega arith

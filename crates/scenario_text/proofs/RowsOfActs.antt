@@ -9,6 +9,8 @@ use Rattle.line_format.specs.Forms.{Fit, FitBytes}
 use Rattle.line_format.specs.Rows.{row, fields_of_row}
 use Rattle.line_format.proofs.NumbersFit.{counted, list_1, list_2, list_3, list_4, same_row}
 use Rattle.line_format.proofs.PartLaws.{rule_of}
+use Rattle.line_format.proofs.RowsFollow.{CanFollow, with_row}
+use Rattle.line_format.proofs.RowTexts.{HasItem}
 use Rattle.scenario_text.specs.declared.acts.Act.{Act}
 use Rattle.scenario_text.specs.declared.acts.Act.TheVariants as acts
 use Rattle.scenario_text.specs.declared.forms.Form.{Form}
@@ -19,37 +21,31 @@ use Rattle.scenario_text.specs.Acts.{cost, turns_of, peer_of}
 use Rattle.scenario_text.specs.Table.{pieces_of}
 use Rattle.scenario_text.specs.ActRows.{row_of_act}
 use Rattle.scenario_text.specs.Scenario.{is_too_late, IsAllowed}
-use Rattle.scenario_text.specs.Judge.{DraftView, world_of_draft, is_out_of_turn, is_out_of_order, act_of, is_act, fits_sizes}
-use Rattle.scenario_text.proofs.RowTests.{CanFollow}
+use Rattle.scenario_text.specs.Judge.{DraftView, world_of_draft, is_out_of_turn, is_out_of_order, act_of, is_act, fits_sizes, with_act, rules}
 
 -- ---- the act of a row
 
-pub record ActRow (form : Form) (ns frame : List ℕ) : Type 0 where
-  pub act : Act
-  pub is_act_of : act_of form ns frame ≡ Some act
-  pub row_is : row_of_act act ≡ row form ns frame
-
-pub act_row : (form : Form) (ns frame : List ℕ) → is_act form ≡ true → Fit (pieces_of form) ns → FitBytes (pieces_of form) frame → ActRow form ns frame
-act_row Tick ns frame is fit bytes = record { act = acts.Tick (get_or ns 0 0); is_act_of = refl; row_is = same_row Tick _ ns frame (list_1 ns (counted (pieces_of Tick) ns fit)) (sym bytes) }
-act_row Offer ns frame is fit bytes = record { act = acts.Offer (get_or ns 0 0) frame; is_act_of = refl; row_is = ap (λ (ms : List ℕ). row Offer ms frame) (list_1 ns (counted (pieces_of Offer) ns fit)) }
-act_row Poll ns frame is fit bytes = record { act = acts.Poll (get_or ns 0 0); is_act_of = refl; row_is = same_row Poll _ ns frame (list_1 ns (counted (pieces_of Poll) ns fit)) (sym bytes) }
-act_row Stop ns frame is fit bytes = record { act = acts.Stop (get_or ns 0 0); is_act_of = refl; row_is = same_row Stop _ ns frame (list_1 ns (counted (pieces_of Stop) ns fit)) (sym bytes) }
-act_row Auto ns frame is fit bytes = record { act = acts.Auto (get_or ns 0 0) (get_or ns 1 0); is_act_of = refl; row_is = same_row Auto _ ns frame (list_2 ns (counted (pieces_of Auto) ns fit)) (sym bytes) }
-act_row Storm ns frame is fit bytes = record { act = acts.Storm (get_or ns 0 0) (get_or ns 1 0); is_act_of = refl; row_is = same_row Storm _ ns frame (list_2 ns (counted (pieces_of Storm) ns fit)) (sym bytes) }
-act_row Turn ns frame is fit bytes = record { act = acts.Turn (get_or ns 0 0) (get_or ns 1 0); is_act_of = refl; row_is = same_row Turn _ ns frame (list_2 ns (counted (pieces_of Turn) ns fit)) (sym bytes) }
-act_row Reset ns frame is fit bytes = record { act = acts.Reset (get_or ns 0 0); is_act_of = refl; row_is = same_row Reset _ ns frame (list_1 ns (counted (pieces_of Reset) ns fit)) (sym bytes) }
-act_row Poke ns frame is fit bytes = record { act = acts.Poke (get_or ns 0 0) (get_or ns 1 0) (get_or ns 2 0); is_act_of = refl; row_is = same_row Poke _ ns frame (list_3 ns (counted (pieces_of Poke) ns fit)) (sym bytes) }
-act_row Peek ns frame is fit bytes = record { act = acts.Peek (get_or ns 0 0) (get_or ns 1 0); is_act_of = refl; row_is = same_row Peek _ ns frame (list_2 ns (counted (pieces_of Peek) ns fit)) (sym bytes) }
-act_row Set ns frame is fit bytes = record { act = acts.Set (get_or ns 0 0) (get_or ns 1 0); is_act_of = refl; row_is = same_row Set _ ns frame (list_2 ns (counted (pieces_of Set) ns fit)) (sym bytes) }
-act_row Ring ns frame is fit bytes = record { act = acts.Ring (get_or ns 0 0) (get_or ns 1 0) (get_or ns 2 0); is_act_of = refl; row_is = same_row Ring _ ns frame (list_3 ns (counted (pieces_of Ring) ns fit)) (sym bytes) }
-act_row CfgRead ns frame is fit bytes = record { act = acts.CfgRead (get_or ns 0 0) (get_or ns 1 0) (get_or ns 2 0); is_act_of = refl; row_is = same_row CfgRead _ ns frame (list_3 ns (counted (pieces_of CfgRead) ns fit)) (sym bytes) }
-act_row CfgWrite ns frame is fit bytes = record { act = acts.CfgWrite (get_or ns 0 0) (get_or ns 1 0) (get_or ns 2 0) (get_or ns 3 0); is_act_of = refl; row_is = same_row CfgWrite _ ns frame (list_4 ns (counted (pieces_of CfgWrite) ns fit)) (sym bytes) }
-act_row MmioRead ns frame is fit bytes = record { act = acts.MmioRead (get_or ns 0 0) (get_or ns 1 0); is_act_of = refl; row_is = same_row MmioRead _ ns frame (list_2 ns (counted (pieces_of MmioRead) ns fit)) (sym bytes) }
-act_row MmioWrite ns frame is fit bytes = record { act = acts.MmioWrite (get_or ns 0 0) (get_or ns 1 0) (get_or ns 2 0); is_act_of = refl; row_is = same_row MmioWrite _ ns frame (list_3 ns (counted (pieces_of MmioWrite) ns fit)) (sym bytes) }
-act_row MsixRead ns frame is fit bytes = record { act = acts.MsixRead (get_or ns 0 0) (get_or ns 1 0); is_act_of = refl; row_is = same_row MsixRead _ ns frame (list_2 ns (counted (pieces_of MsixRead) ns fit)) (sym bytes) }
-act_row MsixWrite ns frame is fit bytes = record { act = acts.MsixWrite (get_or ns 0 0) (get_or ns 1 0) (get_or ns 2 0); is_act_of = refl; row_is = same_row MsixWrite _ ns frame (list_3 ns (counted (pieces_of MsixWrite) ns fit)) (sym bytes) }
-act_row Lose ns frame is fit bytes = record { act = acts.Lose (get_or ns 0 0); is_act_of = refl; row_is = same_row Lose _ ns frame (list_1 ns (counted (pieces_of Lose) ns fit)) (sym bytes) }
-act_row Again ns frame is fit bytes = record { act = acts.Again (get_or ns 0 0) (get_or ns 1 0); is_act_of = refl; row_is = same_row Again _ ns frame (list_2 ns (counted (pieces_of Again) ns fit)) (sym bytes) }
+pub act_row : (form : Form) (ns frame : List ℕ) → is_act form ≡ true → Fit (pieces_of form) ns → FitBytes (pieces_of form) frame → HasItem row_of_act (row form ns frame)
+act_row Tick ns frame is fit bytes = record { item = acts.Tick (get_or ns 0 0); row_is = same_row Tick _ ns frame (list_1 ns (counted (pieces_of Tick) ns fit)) (sym bytes) }
+act_row Offer ns frame is fit bytes = record { item = acts.Offer (get_or ns 0 0) frame; row_is = ap (λ (ms : List ℕ). row Offer ms frame) (list_1 ns (counted (pieces_of Offer) ns fit)) }
+act_row Poll ns frame is fit bytes = record { item = acts.Poll (get_or ns 0 0); row_is = same_row Poll _ ns frame (list_1 ns (counted (pieces_of Poll) ns fit)) (sym bytes) }
+act_row Stop ns frame is fit bytes = record { item = acts.Stop (get_or ns 0 0); row_is = same_row Stop _ ns frame (list_1 ns (counted (pieces_of Stop) ns fit)) (sym bytes) }
+act_row Auto ns frame is fit bytes = record { item = acts.Auto (get_or ns 0 0) (get_or ns 1 0); row_is = same_row Auto _ ns frame (list_2 ns (counted (pieces_of Auto) ns fit)) (sym bytes) }
+act_row Storm ns frame is fit bytes = record { item = acts.Storm (get_or ns 0 0) (get_or ns 1 0); row_is = same_row Storm _ ns frame (list_2 ns (counted (pieces_of Storm) ns fit)) (sym bytes) }
+act_row Turn ns frame is fit bytes = record { item = acts.Turn (get_or ns 0 0) (get_or ns 1 0); row_is = same_row Turn _ ns frame (list_2 ns (counted (pieces_of Turn) ns fit)) (sym bytes) }
+act_row Reset ns frame is fit bytes = record { item = acts.Reset (get_or ns 0 0); row_is = same_row Reset _ ns frame (list_1 ns (counted (pieces_of Reset) ns fit)) (sym bytes) }
+act_row Poke ns frame is fit bytes = record { item = acts.Poke (get_or ns 0 0) (get_or ns 1 0) (get_or ns 2 0); row_is = same_row Poke _ ns frame (list_3 ns (counted (pieces_of Poke) ns fit)) (sym bytes) }
+act_row Peek ns frame is fit bytes = record { item = acts.Peek (get_or ns 0 0) (get_or ns 1 0); row_is = same_row Peek _ ns frame (list_2 ns (counted (pieces_of Peek) ns fit)) (sym bytes) }
+act_row Set ns frame is fit bytes = record { item = acts.Set (get_or ns 0 0) (get_or ns 1 0); row_is = same_row Set _ ns frame (list_2 ns (counted (pieces_of Set) ns fit)) (sym bytes) }
+act_row Ring ns frame is fit bytes = record { item = acts.Ring (get_or ns 0 0) (get_or ns 1 0) (get_or ns 2 0); row_is = same_row Ring _ ns frame (list_3 ns (counted (pieces_of Ring) ns fit)) (sym bytes) }
+act_row CfgRead ns frame is fit bytes = record { item = acts.CfgRead (get_or ns 0 0) (get_or ns 1 0) (get_or ns 2 0); row_is = same_row CfgRead _ ns frame (list_3 ns (counted (pieces_of CfgRead) ns fit)) (sym bytes) }
+act_row CfgWrite ns frame is fit bytes = record { item = acts.CfgWrite (get_or ns 0 0) (get_or ns 1 0) (get_or ns 2 0) (get_or ns 3 0); row_is = same_row CfgWrite _ ns frame (list_4 ns (counted (pieces_of CfgWrite) ns fit)) (sym bytes) }
+act_row MmioRead ns frame is fit bytes = record { item = acts.MmioRead (get_or ns 0 0) (get_or ns 1 0); row_is = same_row MmioRead _ ns frame (list_2 ns (counted (pieces_of MmioRead) ns fit)) (sym bytes) }
+act_row MmioWrite ns frame is fit bytes = record { item = acts.MmioWrite (get_or ns 0 0) (get_or ns 1 0) (get_or ns 2 0); row_is = same_row MmioWrite _ ns frame (list_3 ns (counted (pieces_of MmioWrite) ns fit)) (sym bytes) }
+act_row MsixRead ns frame is fit bytes = record { item = acts.MsixRead (get_or ns 0 0) (get_or ns 1 0); row_is = same_row MsixRead _ ns frame (list_2 ns (counted (pieces_of MsixRead) ns fit)) (sym bytes) }
+act_row MsixWrite ns frame is fit bytes = record { item = acts.MsixWrite (get_or ns 0 0) (get_or ns 1 0) (get_or ns 2 0); row_is = same_row MsixWrite _ ns frame (list_3 ns (counted (pieces_of MsixWrite) ns fit)) (sym bytes) }
+act_row Lose ns frame is fit bytes = record { item = acts.Lose (get_or ns 0 0); row_is = same_row Lose _ ns frame (list_1 ns (counted (pieces_of Lose) ns fit)) (sym bytes) }
+act_row Again ns frame is fit bytes = record { item = acts.Again (get_or ns 0 0) (get_or ns 1 0); row_is = same_row Again _ ns frame (list_2 ns (counted (pieces_of Again) ns fit)) (sym bytes) }
 act_row _ ns frame is fit bytes = absurd cc
 
 pub act_of-row : (a : Act) → act_of (row_of_act a).form (row_of_act a).numbers (row_of_act a).frame ≡ Some a
@@ -73,6 +69,10 @@ act_of-row (acts.MsixRead p offset) = refl
 act_of-row (acts.MsixWrite p offset value) = refl
 act_of-row (acts.Lose p) = refl
 act_of-row (acts.Again p vector) = refl
+
+-- The row of an act adds the act.
+pub act_gives : (d : DraftView) (a : Act) → with_row rules (row_of_act a) d ≡ with_act a d
+act_gives d a = rw (act_of-row a) refl
 
 sizes_fit : (d : DraftView) (a : Act) → fits_sizes d (row_of_act a).form (row_of_act a).numbers ≡ true
 sizes_fit d (acts.Tick p) = refl
@@ -150,10 +150,10 @@ pub order_is : (d : DraftView) (a : Act) → d.position ≡ AtActs → Fit (piec
     → is_out_of_order d (row_of_act a).form (fields_of_row pieces_of (row_of_act a)) ≡ is_too_late d.acts (row_of_act a).form (peer_of a)
 order_is d a at fit = is_at d a at _ _ refl (turn_is d a fit)
 
-pub allowed_act : (d : DraftView) (a : Act) → d.position ≡ AtActs → CanFollow d (row_of_act a) → IsAllowed (world_of_draft d) d.acts a
+pub allowed_act : (d : DraftView) (a : Act) → d.position ≡ AtActs → CanFollow rules d (row_of_act a) → IsAllowed (world_of_draft d) d.acts a
 allowed_act d a at can = record { values = can.values; bytes = can.bytes; order = sym (order_is d a at can.values) ∙ can.order; range = can.range; peer = can.peer; frame = can.size }
 
-pub follows_act : (d : DraftView) (a : Act) → d.position ≡ AtActs → IsAllowed (world_of_draft d) d.acts a → turns_of d.acts + cost a ≤ MOST_ACTS → CanFollow d (row_of_act a)
+pub follows_act : (d : DraftView) (a : Act) → d.position ≡ AtActs → IsAllowed (world_of_draft d) d.acts a → turns_of d.acts + cost a ≤ MOST_ACTS → CanFollow rules d (row_of_act a)
 follows_act d a at is few = record {
   values = is.values;
   bytes = is.bytes;

@@ -2,7 +2,6 @@ pub mod FormsAreTable
 pub mod RowTests
 pub mod PositionInvariant
 pub mod ReadIsSpelled
-pub mod ReadIffSpelled
 pub mod SpelledIsRead
 pub mod GrowingLists
 pub mod OneMoreArrival

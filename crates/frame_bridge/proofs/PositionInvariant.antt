@@ -1,5 +1,5 @@
 -- The invariant of the lines so far at each position. Each row that can follow preserves it.
-use Rattle.std.proofs.Common.{◌≡◌, ℕ, ◌<◌, ◌≤◌, true, eqb, List, [], ◌∷◌, ◌++◌, length, get_or, take, map, Some, refl, sym, ap, subst, arith}
+use Rattle.std.proofs.Common.{◌≡◌, ℕ, ◌<◌, ◌≤◌, List, [], ◌∷◌, ◌++◌, length, get_or, take, map, Some, refl, sym, ap, subst, arith}
 use Rattle.std.specs.Prelude.{All, slice_get}
 use Rattle.std.proofs.lemmas.Bool.{leb-false}
 use Rattle.std.proofs.lemmas.List.{length-append}
@@ -47,15 +47,12 @@ PositionHolds Ended d = IsWorld (world_of_draft d)
 
 -- ---- positions
 
-abbrev positions : List Position
+abbrev pub positions : List Position
 positions = AtVersion ∷ AtPorts ∷ AtRounds ∷ AtBegin ∷ AtFrames ∷ Ended ∷ []
 
-listed : (s : Position) → slice_get positions (ordinal_of s) ≡ Some s
+pub listed : (s : Position) → slice_get positions (ordinal_of s) ≡ Some s
 listed AtVersion = refl
 listed _ = refl
-
-pub same_position : (s t : Position) → eqb (ordinal_of s) (ordinal_of t) ≡ true → t ≡ s
-same_position s t e = same_place positions ordinal_of listed s t e
 
 -- ---- frames
 
@@ -100,5 +97,5 @@ adds End ns frame d at good can = record { rows = rw at (then_row (head_rows d +
 -- A row that can follow preserves the invariant, and adds its line.
 pub are_kept : AreKept rules (λ d. rows_before d.position d) (λ d. PositionHolds d.position d)
 are_kept d r can good =
-    let at = same_position (position_of r.form) d.position (not_false _ can.order) in
+    let at = same_place positions ordinal_of listed (position_of r.form) d.position (not_false _ can.order) in
     adds r.form r.numbers r.frame d at (subst (λ (p : Position). PositionHolds p d) at good) can

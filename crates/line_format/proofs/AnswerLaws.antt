@@ -9,38 +9,27 @@ use Rattle.line_format.specs.Texts.{Sense, said, answer}
 use Rattle.line_format.specs.Answers.{Unless, Refuses, Answers, fault_of_text}
 use Rattle.line_format.proofs.LawsOfTexts.{IsForward, spelled_is_read}
 
--- The fault of a failed allocation is that alone, and no fault of a text.
-pub record IsApart {S C W E : Type 0} (s : Sense S C W E) (is_no_memory : E → Bool) (no_memory : E) : Type 0 where
-  pub itself : is_no_memory no_memory ≡ true
-  pub at : (cause : C) (n : ℕ) → is_no_memory (s.at cause n) ≡ false
-  pub after : (n : ℕ) → is_no_memory (s.after n) ≡ false
-  pub no_end : is_no_memory s.no_end ≡ false
-
-free : (b : Bool) (Fact : Type 0) → b ≡ true → Unless b Fact
-free true Fact e = tt
-free false Fact e = absurd cc
-
-bound : (b : Bool) (Fact : Type 0) → b ≡ false → Fact → Unless b Fact
-bound true Fact e is = absurd cc
-bound false Fact e is = is
+unless : (b : Bool) (Fact : Type 0) → Fact → Unless b Fact
+unless true Fact is = tt
+unless false Fact is = is
 
 -- The fault of the lines is the fault that is returned.
-refuses : {S C W E : Type 0} (s : Sense S C W E) (is_no_memory : E → Bool) (no_memory : E) → IsApart s is_no_memory no_memory → (d : S) (fault : TextFault C) (r : Result S (Wrong C)) → Reads {U = Unit {0}} d (Err fault) r → Refuses is_no_memory (fault_of_text s no_memory fault) (said s r)
-refuses s is_no_memory no_memory apart d texts.NoMemory r is = free _ _ apart.itself
-refuses s is_no_memory no_memory apart d (texts.At cause n) r is = bound _ _ (apart.at cause n) (ap (λ x. said s x) is)
-refuses s is_no_memory no_memory apart d (texts.After n) r is = bound _ _ (apart.after n) (ap (λ x. said s x) is)
-refuses s is_no_memory no_memory apart d texts.NoEnd r is = bound _ _ apart.no_end (ap (λ x. said s x) is)
+refuses : {S C W E : Type 0} (s : Sense S C W E) (is_no_memory : E → Bool) (no_memory : E) → is_no_memory no_memory ≡ true → (d : S) (fault : TextFault C) (r : Result S (Wrong C)) → Reads {U = Unit {0}} d (Err fault) r → Refuses is_no_memory (fault_of_text s no_memory fault) (said s r)
+refuses s is_no_memory no_memory free d texts.NoMemory r is = rw free tt
+refuses s is_no_memory no_memory free d (texts.At cause n) r is = unless _ _ (ap (λ x. said s x) is)
+refuses s is_no_memory no_memory free d (texts.After n) r is = unless _ _ (ap (λ x. said s x) is)
+refuses s is_no_memory no_memory free d texts.NoEnd r is = unless _ _ (ap (λ x. said s x) is)
 
 -- The answer for a text that was read from `start`, up to `d`.
 pub exact_ok : {S C W E : Type 0} (m : Machine S C) (s : Sense S C W E) (bytes : List ℕ) {start d : S} {found : W} → start ≡ s.start → read m start bytes ≡ Ok d → s.value d ≡ Ok found → answer m s bytes ≡ Ok found
 exact_ok m s bytes at is value = ap (λ x. said s x) (rw at at is) ∙ value
 
 -- The fault of a text that was refused is that of the definition, unless an allocation failed.
-pub exact_err : {S C W E X : Type 0} (m : Machine S C) {s : Sense S C W E} {is_no_memory : E → Bool} {no_memory : E} → IsApart s is_no_memory no_memory
+pub exact_err : {S C W E X : Type 0} (m : Machine S C) (s : Sense S C W E) (is_no_memory : E → Bool) (no_memory : E) → is_no_memory no_memory ≡ true
     → (view : X → W) (bytes : List ℕ) (d : S) (fault : TextFault C) (r : Result X E) → IsErrAnd r (λ e. e ≡ fault_of_text s no_memory fault)
     → {start : S} → start ≡ s.start → Reads {U = Unit {0}} d (Err fault) (read m start bytes) → Answers is_no_memory view r (answer m s bytes)
-exact_err m apart view bytes d fault (Ok x) gives at is = absurd gives
-exact_err {S} {C} {W} {E} {X} m {s} {is_no_memory} {no_memory} apart view bytes d fault (Err e) gives at is = rw gives (refuses s is_no_memory no_memory apart d fault (read m s.start bytes) (rw at at is))
+exact_err m s is_no_memory no_memory free view bytes d fault (Ok x) gives at is = absurd gives
+exact_err m s is_no_memory no_memory free view bytes d fault (Err e) gives at is = rw gives (refuses s is_no_memory no_memory free d fault (read m s.start bytes) (rw at at is))
 
 -- The exact answer for a spelling is the value that it spells.
 pub only_answer : {S C W E X : Type 0} {m : Machine S C} {s : Sense S C W E} {Spells : W → List ℕ → Type 0} {line_count : W → ℕ} → IsForward m s Spells line_count

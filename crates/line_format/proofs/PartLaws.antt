@@ -1,5 +1,5 @@
 -- A text written part by part, and rows with numbers.
-use Rattle.std.proofs.Common.{◌≡◌, ℕ, ◌+◌, ◌-◌, ◌^◌, ◌<◌, ◌≤◌, Bool, false, eqb, not, List, [], ◌∷◌, ◌++◌, length, get_or, take, map, Option, Some, None, refl, sym, ap, ◌∙◌, append_assoc, arith, eq-eqb, inl, inr}
+use Rattle.std.proofs.Common.{◌≡◌, ℕ, zero, suc, ◌+◌, ◌-◌, ◌^◌, ◌<◌, ◌≤◌, Bool, false, eqb, not, List, [], ◌∷◌, ◌++◌, length, get_or, take, map, Option, Some, None, refl, sym, ap, ◌∙◌, append_assoc, arith, eq-eqb, inl, inr}
 use Rattle.std.specs.Prelude.{option_and_then, slice_get, decimal}
 use Rattle.std.specs.Option.{option_map_or}
 use Rattle.std.proofs.lemmas.Bool.{eqb-true, eqb-false, cases_lt}
@@ -61,6 +61,16 @@ still_fewer items item n less other =
       | inl lt ↦ lt
       | inr ge ↦ absurd (eqb-false _ _ other (omega arith))
     ]
+
+-- The rows before position n of a text: head lines, the rows of peers, `begin`, the rows of acts and
+-- `end`. The peers have two positions, as the one after the last peer is another.
+abbrev pub rows_at : {F : Type 0} → (head peers : List (Row F)) → Row F → List (Row F) → Row F → ℕ → List (Row F)
+rows_at (r ∷ head) peers begin acts last zero = []
+rows_at (r ∷ head) peers begin acts last (suc n) = r ∷ rows_at head peers begin acts last n
+rows_at [] peers begin acts last zero = peers
+rows_at [] peers begin acts last (suc zero) = peers
+rows_at [] peers begin acts last (suc (suc zero)) = (peers ++ begin ∷ []) ++ acts
+rows_at [] peers begin acts last (suc (suc (suc n))) = ((peers ++ begin ∷ []) ++ acts) ++ last ∷ []
 
 -- ---- rules about the number in a field
 

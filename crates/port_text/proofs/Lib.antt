@@ -4,6 +4,5 @@ pub mod RowTests
 pub mod RowsOfActs
 pub mod PositionInvariant
 pub mod ReadIsSpelled
-pub mod ReadIffSpelled
 pub mod SpelledIsRead
 pub mod PrintedParts

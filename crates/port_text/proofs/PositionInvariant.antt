@@ -1,5 +1,5 @@
 -- The invariant of the lines so far at each position. Each row that can follow preserves it.
-use Rattle.std.proofs.Common.{◌≡◌, ℕ, ◌+◌, ◌<◌, ◌≤◌, Bool, true, false, cond, eqb, List, [], ◌∷◌, ◌++◌, length, take, map, Some, refl, sym, ap, subst, ◌∙◌, arith}
+use Rattle.std.proofs.Common.{◌≡◌, ℕ, ◌+◌, ◌<◌, ◌≤◌, Bool, true, false, cond, eqb, List, [], ◌∷◌, ◌++◌, length, map, Some, refl, sym, ap, subst, ◌∙◌, arith}
 use Rattle.std.specs.Prelude.{slice_get, codes, All}
 use Rattle.std.proofs.lemmas.Bool.{eqb-true, ltb-false}
 use Rattle.std.proofs.lemmas.List.{append-nil}
@@ -8,7 +8,7 @@ use Rattle.std.proofs.lemmas.List.Sums.{sum_by_push}
 use Rattle.line_format.specs.Rows.{Row, row}
 use Rattle.line_format.proofs.NumbersFit.{in_range, one_alone, same_row, the_number, no_number}
 use Rattle.line_format.proofs.ListLaws.{all_push}
-use Rattle.line_format.proofs.PartLaws.{then_row, numbers-push, rows-push, still_fewer, next_number}
+use Rattle.line_format.proofs.PartLaws.{then_row, rows_at, numbers-push, rows-push, still_fewer, next_number}
 use Rattle.line_format.proofs.TestChains.{either_false, not_false, not_true}
 use Rattle.line_format.proofs.RowsFollow.{CanFollow, with_row}
 use Rattle.line_format.proofs.RowTexts.{Adds, keeps_item, AreKept}
@@ -29,26 +29,22 @@ use Rattle.port_text.specs.Judge.{DraftView, world_of_draft, ordinal_of, positio
 use Rattle.port_text.proofs.SizeTests.{HasPort, port_of}
 use Rattle.port_text.proofs.RowsOfActs.{act_row, act_of-row, act_gives, allowed_act}
 
+-- ---- positions
+
+abbrev pub positions : List Position
+positions = AtVersion ∷ AtPeers ∷ AtOut ∷ AtLongest ∷ AtPeer ∷ AtBegin ∷ AtActs ∷ Ended ∷ []
+
+pub listed : (s : Position) → slice_get positions (ordinal_of s) ≡ Some s
+listed AtVersion = refl
+listed _ = refl
+
 -- ---- the rows before a position
 
 abbrev sizes_rows : DraftView → List (Row Form)
 sizes_rows d = row Version (1 ∷ []) [] ∷ row Peers (d.peers ∷ []) [] ∷ row Out (d.out ∷ []) [] ∷ row Longest (d.most ∷ []) [] ∷ []
 
-abbrev head_so_far : DraftView → List (Row Form)
-head_so_far d = sizes_rows d ++ rows_of_peers 0 d.honest
-
-abbrev acts_so_far : DraftView → List (Row Form)
-acts_so_far d = head_so_far d ++ row Begin [] [] ∷ [] ++ map row_of_act d.acts
-
 abbrev pub rows_before : Position → DraftView → List (Row Form)
-rows_before AtVersion d = []
-rows_before AtPeers d = take 1 (sizes_rows d)
-rows_before AtOut d = take 2 (sizes_rows d)
-rows_before AtLongest d = take 3 (sizes_rows d)
-rows_before AtPeer d = head_so_far d
-rows_before AtBegin d = head_so_far d
-rows_before AtActs d = acts_so_far d
-rows_before Ended d = acts_so_far d ++ row End [] [] ∷ []
+rows_before s d = rows_at (sizes_rows d) (rows_of_peers 0 d.honest) (row Begin [] []) (map row_of_act d.acts) (row End [] []) (ordinal_of s)
 
 -- ---- the invariant of a position
 
@@ -77,18 +73,6 @@ PositionHolds AtBegin d = IsMeasured d × (d.acts ≡ []) × (length d.honest �
 PositionHolds AtActs d = IsMeasured d × Acted d
 PositionHolds Ended d = IsMeasured d × Acted d
 
--- ---- positions
-
-abbrev positions : List Position
-positions = AtVersion ∷ AtPeers ∷ AtOut ∷ AtLongest ∷ AtPeer ∷ AtBegin ∷ AtActs ∷ Ended ∷ []
-
-listed : (s : Position) → slice_get positions (ordinal_of s) ≡ Some s
-listed AtVersion = refl
-listed _ = refl
-
-pub same_position : (s t : Position) → eqb (ordinal_of s) (ordinal_of t) ≡ true → t ≡ s
-same_position s t e = same_place positions ordinal_of listed s t e
-
 -- ---- acts
 
 -- Whether an act is allowed doesn't depend on the acts.
@@ -103,7 +87,7 @@ keeps_act : (d : DraftView) → d.position ≡ AtActs → PositionHolds AtActs d
 keeps_act d at good a can =
     let few : turns_of d.acts + cost a ≤ MOST_TURNS = ltb-false _ _ (not_true _ (rw (act_of-row a) at can.room)) in
     subst (λ (e : DraftView). Added d (row_of_act a) e) (sym (act_gives d a)) (record {
-      rows = rw at (rows-push (head_so_far d ++ row Begin [] [] ∷ []) row_of_act d.acts a (row_of_act a) refl);
+      rows = rw at (rows-push (rows_before AtBegin d ++ row Begin [] [] ∷ []) row_of_act d.acts a (row_of_act a) refl);
       good = rw at (good.0, record { flags = good.1.flags; allowed = allowed-push (world_of_draft d) a good.1.allowed (allowed_act d a can); turns = rw (sum_by_push cost d.acts a) few });
     })
 
@@ -128,14 +112,14 @@ adds Longest ns frame d at good can = record {
 adds Honest ns frame d at good can = adds_peer d true _ at (same_row Honest _ ns frame (next_number (length d.honest) (codes "peer") _ ns frame can.values (either_false _ _ can.order).1) (sym can.bytes)) good _ refl
 adds Hostile ns frame d at good can = adds_peer d false _ at (same_row Hostile _ ns frame (next_number (length d.honest) (codes "peer") _ ns frame can.values (either_false _ _ can.order).1) (sym can.bytes)) good _ refl
 adds Begin ns frame d at good can = record {
-  rows = rw (at, good.1) (append-nil _ ∙ then_row (head_so_far d) (no_number Begin ns frame can.values can.bytes));
+  rows = rw (at, good.1) (append-nil (rows_before AtBegin d ++ row Begin [] [] ∷ []) ∙ then_row (rows_before AtBegin d) (no_number Begin ns frame can.values can.bytes));
   good = (good.0, record { flags = good.2; allowed = rw good.1 (All-nil _); turns = rw good.1 (omega arith) });
 }
-adds End ns frame d at good can = record { rows = rw at (then_row (acts_so_far d) (no_number End ns frame can.values can.bytes)); good = (good.0, record { flags = good.1.flags; allowed = good.1.allowed; turns = good.1.turns }) }
+adds End ns frame d at good can = record { rows = rw at (then_row (rows_before AtActs d) (no_number End ns frame can.values can.bytes)); good = (good.0, record { flags = good.1.flags; allowed = good.1.allowed; turns = good.1.turns }) }
 adds form ns frame d at good can = keeps_item rules d row_of_act (row form ns frame) (act_row form ns frame refl can.values can.bytes) (keeps_act d at good) can
 
 -- A row that can follow preserves the invariant, and adds its line.
 pub are_kept : AreKept rules (λ d. rows_before d.position d) (λ d. PositionHolds d.position d)
 are_kept d r can good =
-    let at = same_position (position_of r.form) d.position (not_false _ (either_false _ _ can.order).0) in
+    let at = same_place positions ordinal_of listed (position_of r.form) d.position (not_false _ (either_false _ _ can.order).0) in
     adds r.form r.numbers r.frame d at (subst (λ (p : Position). PositionHolds p d) at good) can

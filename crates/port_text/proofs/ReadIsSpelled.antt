@@ -2,19 +2,22 @@
 use Rattle.std.proofs.Common.{◌≡◌, ℕ, ◌*◌, ◌/◌, List, [], ◌∷◌, ◌++◌, map, Ok, refl, sym, ap, subst, ◌∙◌, arith}
 use Rattle.line_format.specs.Rows.{Row, row, text_of}
 use Rattle.line_format.specs.Machine.{read}
+use Rattle.line_format.proofs.FormsOfRows.{same_place}
 use Rattle.line_format.proofs.RowTexts as all
+use Rattle.scenario_text.proofs.SizeTests.{is_geometry-true}
 use Rattle.scenario_text.proofs.ReadIsSpelled.{whole_pages, shape_is}
 use Rattle.port_text.specs.declared.forms.Form.{Form}
 use Rattle.port_text.specs.declared.forms.Form.TheVariants.{Version, Peers, Out, Longest, Begin, End}
 use Rattle.port_text.specs.declared.positions.Position.{Position}
 use Rattle.port_text.specs.declared.positions.Position.TheVariants.{Ended}
+use Rattle.port_text.specs.Drafts.{IsWhole}
 use Rattle.port_text.specs.Table.{pieces_of}
 use Rattle.port_text.specs.ActRows.{row_of_act}
-use Rattle.port_text.specs.Scenario.{IsWorld}
-use Rattle.port_text.specs.Spelling.{rows_of_peers, rows_of, spelling}
-use Rattle.port_text.specs.Judge.{DraftView, world_of_draft, at_start, rules, machine}
+use Rattle.port_text.specs.Scenario.{World, IsWorld}
+use Rattle.port_text.specs.Spelling.{rows_of_peers, rows_of, spelling, IsSpelling}
+use Rattle.port_text.specs.Judge.{DraftView, world_of_draft, ordinal_of, at_start, rules, machine}
 use Rattle.port_text.proofs.FormsAreTable.{is_table}
-use Rattle.port_text.proofs.PositionInvariant.{PositionHolds, rows_before, are_kept, same_position}
+use Rattle.port_text.proofs.PositionInvariant.{PositionHolds, rows_before, are_kept, positions, listed}
 
 -- ---- a schedule
 
@@ -52,6 +55,13 @@ pub record IsRead (bytes : List ℕ) (e : DraftView) : Type 0 where
 pub is_read : (bytes : List ℕ) (e : DraftView) → read machine at_start bytes ≡ Ok e → IsRead bytes e
 is_read bytes e is =
     let r = all.is_read rules is_table (λ d. rows_before d.position d) (λ d. PositionHolds d.position d) are_kept at_start (record { honest_none = refl; acts_none = refl }) refl bytes e is in
-    let at : e.position ≡ Ended = sym (same_position e.position Ended r.ended) in
+    let at : e.position ≡ Ended = sym (same_place positions ordinal_of listed e.position Ended r.ended) in
     let good : PositionHolds Ended e = subst (λ (s : Position). PositionHolds s e) at r.good in
     record { good = good; text = r.text ∙ ap (λ (s : Position). text_of pieces_of (rows_before s e)) at ∙ ap (text_of pieces_of) (rows_are e good) }
+
+-- At the end the value of the lines is a schedule.
+pub is_whole : (bytes : List ℕ) (e : DraftView) → read machine at_start bytes ≡ Ok e → IsWhole e
+is_whole bytes e is = let r = is_read bytes e is in record { geometry = is_geometry-true _ _ _ _ r.good.0.region; world = is_world e r.good }
+
+pub is_spelled : (bytes : List ℕ) (e : DraftView) (w : World) → read machine at_start bytes ≡ Ok e → w ≡ world_of_draft e → IsSpelling w bytes
+is_spelled bytes e w is same = let r = is_read bytes e is in subst (λ (x : World). IsSpelling x bytes) (sym same) (is_world e r.good, r.text)

@@ -75,20 +75,16 @@ peer_joins w front false small more next = record { follows = record { values = 
 
 -- ---- the acts
 
--- At the acts of this world, after these.
-abbrev at_acts : World → List Act → DraftView
-at_acts w front = so_far w AtActs w.honest front
-
 -- The sizes in bytes are those in words.
-world_is : (w : World) (front : List Act) → IsWorld w → world_of_draft (at_acts w front) ≡ record w { acts = front }
+world_is : (w : World) (front : List Act) → IsWorld w → world_of_draft (so_far w AtActs w.honest front) ≡ record w { acts = front }
 world_is w front is = rw (quarter w.geometry.out, is.table, is.common) refl
 
-acts_join : (w : World) → IsWorld w → EachJoins rules (at_acts w) (λ k a. row_of_act a) w.acts
+acts_join : (w : World) → IsWorld w → EachJoins rules (so_far w AtActs w.honest) (λ k a. row_of_act a) w.acts
 acts_join w is front rest a all =
     let here = all_at (IsAllowed w) front rest a (subst (λ (acts : List Act). All (IsAllowed w) acts) all is.allowed) in
     let now : IsAllowed (record w { acts = front }) a = record { values = here.values; bytes = here.bytes; range = here.range; peer = here.peer; message = here.message } in
-    let then_ : IsAllowed (world_of_draft (at_acts w front)) a = subst (λ (x : World). IsAllowed x a) (sym (world_is w front is)) now in
-    record { follows = follows_act (at_acts w front) a refl then_ (sum_up_to cost w.acts front rest a MOST_TURNS all is.turns); gives = act_gives (at_acts w front) a; continues = refl }
+    let then_ : IsAllowed (world_of_draft (so_far w AtActs w.honest front)) a = subst (λ (x : World). IsAllowed x a) (sym (world_is w front is)) now in
+    record { follows = follows_act (so_far w AtActs w.honest front) a refl then_ (sum_up_to cost w.acts front rest a MOST_TURNS all is.turns); gives = act_gives (so_far w AtActs w.honest front) a; continues = refl }
 
 -- ---- the whole text
 
@@ -99,10 +95,10 @@ at_end w = so_far w Ended w.honest w.acts
 spelled_reaches : (w : World) → IsWorld w → Reaches rules at_start (rows_of w) (at_end w)
 spelled_reaches w is =
     let full : eqb (length w.honest) w.geometry.peers ≡ true = eq-eqb _ _ is.flags in
-    let begins : Along rules (at_peers w w.honest) (row Begin [] [] ∷ []) (at_acts w []) = (record { values = tt; bytes = refl; order = rw full refl; range = refl; peer = refl; size = refl; sizes = refl; room = refl }, refl, refl) in
+    let begins : Along rules (at_peers w w.honest) (row Begin [] [] ∷ []) (so_far w AtActs w.honest []) = (record { values = tt; bytes = refl; order = rw full refl; range = refl; peer = refl; size = refl; sizes = refl; room = refl }, refl, refl) in
     let peers = flags_join rules (at_peers w) row_of_peer w.honest w.geometry.peers is.flags is.few (peer_joins w) in
-    mapped_reach rules at_start ((sizes_rows w ++ rows_of_peers 0 w.honest) ++ row Begin [] [] ∷ []) (at_acts w) row_of_act w.acts (row End [] []) (at_end w)
-    (numbered_then rules at_start (sizes_rows w) (at_peers w) row_of_peer w.honest (row Begin [] []) (at_acts w []) (head_along w is) peers begins)
+    mapped_reach rules at_start ((sizes_rows w ++ rows_of_peers 0 w.honest) ++ row Begin [] [] ∷ []) (so_far w AtActs w.honest) row_of_act w.acts (row End [] []) (at_end w)
+    (numbered_then rules at_start (sizes_rows w) (at_peers w) row_of_peer w.honest (row Begin [] []) (so_far w AtActs w.honest []) (head_along w is) peers begins)
     (acts_join w is) (record { values = tt; bytes = refl; order = refl; range = refl; peer = refl; size = refl; sizes = refl; room = refl }) refl refl
 
 pub is_forward : IsForward machine sense IsSpelling line_count

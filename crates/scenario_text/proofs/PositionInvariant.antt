@@ -6,7 +6,7 @@ use Rattle.std.proofs.lemmas.List.{append-nil}
 use Rattle.std.proofs.lemmas.List.Sums.{sum_by_push}
 use Rattle.line_format.specs.Rows.{Row, row}
 use Rattle.line_format.proofs.NumbersFit.{in_range, same_row, the_number, no_number}
-use Rattle.line_format.proofs.PartLaws.{then_row, numbers-push, rows-push, still_fewer, next_number}
+use Rattle.line_format.proofs.PartLaws.{then_row, rows_at, numbers-push, rows-push, still_fewer, next_number}
 use Rattle.line_format.proofs.TestChains.{either_false, not_false, not_true, same_some}
 use Rattle.line_format.proofs.RowsFollow.{CanFollow}
 use Rattle.line_format.proofs.RowTexts.{Adds, Keeps, keeps_item, AreKept}
@@ -33,24 +33,8 @@ use Rattle.scenario_text.proofs.RowsOfActs.{act_row, act_of-row, act_gives, allo
 abbrev sizes_rows : DraftView → List (Row Form)
 sizes_rows d = row Version (d.version ∷ []) [] ∷ row Peers (d.peers ∷ []) [] ∷ row Table (d.table ∷ []) [] ∷ row Common (d.common ∷ []) [] ∷ row Out (d.out ∷ []) [] ∷ row Mtu (d.mtu ∷ []) [] ∷ []
 
-abbrev head_so_far : DraftView → List (Row Form)
-head_so_far d = sizes_rows d ++ row_of_wiring d.wiring ∷ rows_of_peers 0 d.honest
-
-abbrev acts_so_far : DraftView → List (Row Form)
-acts_so_far d = head_so_far d ++ row Begin [] [] ∷ [] ++ map row_of_act d.acts
-
 abbrev pub rows_before : Position → DraftView → List (Row Form)
-rows_before AtVersion d = []
-rows_before AtPeers d = take 1 (sizes_rows d)
-rows_before AtTable d = take 2 (sizes_rows d)
-rows_before AtCommon d = take 3 (sizes_rows d)
-rows_before AtOut d = take 4 (sizes_rows d)
-rows_before AtMtu d = take 5 (sizes_rows d)
-rows_before AtWiring d = sizes_rows d
-rows_before AtPeer d = head_so_far d
-rows_before AtBegin d = head_so_far d
-rows_before AtActs d = acts_so_far d
-rows_before Ended d = acts_so_far d ++ row End [] [] ∷ []
+rows_before s d = rows_at (sizes_rows d ++ row_of_wiring d.wiring ∷ []) (rows_of_peers 0 d.honest) (row Begin [] []) (map row_of_act d.acts) (row End [] []) (ordinal_of s)
 
 -- ---- the invariant of a position
 
@@ -104,15 +88,12 @@ IsGood d = PositionHolds d.position d
 
 -- ---- positions
 
-abbrev positions : List Position
+abbrev pub positions : List Position
 positions = AtVersion ∷ AtPeers ∷ AtTable ∷ AtCommon ∷ AtOut ∷ AtMtu ∷ AtWiring ∷ AtPeer ∷ AtBegin ∷ AtActs ∷ Ended ∷ []
 
-listed : (s : Position) → slice_get positions (ordinal_of s) ≡ Some s
+pub listed : (s : Position) → slice_get positions (ordinal_of s) ≡ Some s
 listed AtVersion = refl
 listed _ = refl
-
-pub same_position : (s t : Position) → eqb (ordinal_of s) (ordinal_of t) ≡ true → t ≡ s
-same_position s t e = same_place positions ordinal_of listed s t e
 
 -- ---- acts
 
@@ -143,7 +124,7 @@ keeps_act d at good a can =
     let few : turns_of d.acts + cost a ≤ MOST_ACTS = ltb-false _ _ (not_true _ (rw (act_of-row a) at can.room)) in
     let allowed = allowed-push (world_of_draft d) a good.1.allowed (allowed_act d a at can) in
     subst (λ (e : DraftView). Adds rows_so_far IsGood d (row_of_act a) e) (sym (act_gives d a)) (record {
-      rows = rw at (rows-push (head_so_far d ++ row Begin [] [] ∷ []) row_of_act d.acts a (row_of_act a) refl);
+      rows = rw at (rows-push (rows_before AtBegin d ++ row Begin [] [] ∷ []) row_of_act d.acts a (row_of_act a) refl);
       good = rw at (good.0, record { flags = good.1.flags; allowed = allowed; turns = rw (sum_by_push cost d.acts a) few });
     })
 
@@ -169,24 +150,24 @@ adds Common ns frame d at good can = record { rows = rw at (then_row (rows_befor
 adds Out ns frame d at good can = record { rows = rw at (then_row (rows_before AtOut d) (the_number Out _ _ ns frame can.values can.bytes)); good = (good.0, good.1, has_region _ _ _ _ can.sizes) }
 adds Mtu ns frame d at good can = record { rows = rw at (then_row (rows_before AtMtu d) (the_number Mtu _ _ ns frame can.values can.bytes)); good = (good.0, good.1, good.2, has_queue _ good.0.known (small_section _ _ _ _ good.2) can.sizes) }
 adds Msix ns frame d at good can = record {
-  rows = rw (at, good.0.honest_none) (then_row (sizes_rows d) (the_number Msix _ _ ns frame can.values can.bytes));
+  rows = rw (at, good.0.honest_none) (then_row (rows_before AtWiring d) (the_number Msix _ _ ns frame can.values can.bytes));
   good = (record { few = good.1; region = good.2; queue = good.3; wired = in_range 1 64 [] ns can.values }, good.0.acts_none, omega (arith, ap length good.0.honest_none, good.1.0));
 }
 adds Intx ns frame d at good can = record {
-  rows = rw (at, good.0.honest_none) (then_row (sizes_rows d) (no_number Intx ns frame can.values can.bytes));
+  rows = rw (at, good.0.honest_none) (then_row (rows_before AtWiring d) (no_number Intx ns frame can.values can.bytes));
   good = (record { few = good.1; region = good.2; queue = good.3; wired = tt }, good.0.acts_none, omega (arith, ap length good.0.honest_none, good.1.0));
 }
 adds Honest ns frame d at good can = adds_peer d true _ at (same_row Honest _ ns frame (next_number (length d.honest) (codes "peer") _ ns frame can.values (either_false _ _ can.order).1) (sym can.bytes)) good _ refl
 adds Hostile ns frame d at good can = adds_peer d false _ at (same_row Hostile _ ns frame (next_number (length d.honest) (codes "peer") _ ns frame can.values (either_false _ _ can.order).1) (sym can.bytes)) good _ refl
 adds Begin ns frame d at good can = record {
-  rows = rw (at, good.1) (append-nil _ ∙ then_row (head_so_far d) (no_number Begin ns frame can.values can.bytes));
+  rows = rw (at, good.1) (append-nil (rows_before AtBegin d ++ row Begin [] [] ∷ []) ∙ then_row (rows_before AtBegin d) (no_number Begin ns frame can.values can.bytes));
   good = (good.0, record { flags = good.2; allowed = rw good.1 (λ k a is. absurd cc); turns = rw good.1 (omega arith) });
 }
-adds End ns frame d at good can = record { rows = rw at (then_row (acts_so_far d) (no_number End ns frame can.values can.bytes)); good = (good.0, record { flags = good.1.flags; allowed = good.1.allowed; turns = good.1.turns }) }
+adds End ns frame d at good can = record { rows = rw at (then_row (rows_before AtActs d) (no_number End ns frame can.values can.bytes)); good = (good.0, record { flags = good.1.flags; allowed = good.1.allowed; turns = good.1.turns }) }
 adds form ns frame d at good can = keeps_item rules d row_of_act (row form ns frame) (act_row form ns frame refl can.values can.bytes) (keeps_act d at good) can
 
 -- A row that can follow preserves the invariant, and adds its line.
 pub are_kept : AreKept rules rows_so_far IsGood
 are_kept d r can good =
-    let at = same_position (position_of r.form) d.position (not_false _ (either_false _ _ can.order).0) in
+    let at = same_place positions ordinal_of listed (position_of r.form) d.position (not_false _ (either_false _ _ can.order).0) in
     adds r.form r.numbers r.frame d at (subst (λ (p : Position). PositionHolds p d) at good) can

@@ -1,7 +1,8 @@
 -- A value that is read is a scenario, and the text is its spelling.
-use Rattle.std.proofs.Common.{◌≡◌, ℕ, ◌*◌, ◌/◌, ◌%◌, true, List, [], ◌∷◌, ◌++◌, map, Ok, refl, sym, ap, subst, ◌∙◌, arith}
+use Rattle.std.proofs.Common.{◌≡◌, ◌==◌, ℕ, ◌*◌, ◌/◌, ◌%◌, true, List, [], ◌∷◌, ◌++◌, map, Ok, refl, sym, ap, subst, ◌∙◌, arith}
 use Rattle.line_format.specs.Rows.{Row, row, text_of}
 use Rattle.line_format.specs.Machine.{read}
+use Rattle.line_format.proofs.FormsOfRows.{same_place}
 use Rattle.line_format.proofs.RowTexts as all
 use Rattle.section_map.specs.Geometry.{IsShape}
 use Rattle.section_map.specs.Faults.{shape_of}
@@ -11,12 +12,12 @@ use Rattle.scenario_text.specs.declared.positions.Position.{Position}
 use Rattle.scenario_text.specs.declared.positions.Position.TheVariants.{Ended}
 use Rattle.scenario_text.specs.Table.{pieces_of}
 use Rattle.scenario_text.specs.ActRows.{row_of_act}
-use Rattle.scenario_text.specs.Scenario.{IsWorld}
-use Rattle.scenario_text.specs.Spelling.{row_of_wiring, rows_of_peers, rows_of, spelling}
-use Rattle.scenario_text.specs.Judge.{DraftView, world_of_draft, at_start, has_ended, rules, step, machine}
+use Rattle.scenario_text.specs.Scenario.{World, IsWorld}
+use Rattle.scenario_text.specs.Spelling.{row_of_wiring, rows_of_peers, rows_of, spelling, IsSpelling}
+use Rattle.scenario_text.specs.Judge.{DraftView, world_of_draft, ordinal_of, at_start, has_ended, rules, step, machine}
 use Rattle.scenario_text.proofs.SizeTests.{HasRegion}
 use Rattle.scenario_text.proofs.FormsAreTable.{is_table}
-use Rattle.scenario_text.proofs.PositionInvariant.{PositionHolds, rows_before, rows_so_far, IsGood, are_kept, same_position}
+use Rattle.scenario_text.proofs.PositionInvariant.{PositionHolds, rows_before, rows_so_far, IsGood, are_kept, positions, listed}
 
 -- The facts after a line that was taken.
 pub after : (d : DraftView) (line : List ℕ) (e : DraftView) → PositionHolds d.position d → step d line ≡ Ok e → all.Later rules rows_so_far IsGood d line e
@@ -78,7 +79,7 @@ rows_are e good =
     ap (λ (rs : List (Row Form)). rs ++ row Begin [] [] ∷ [] ++ map row_of_act e.acts ++ row End [] [] ∷ []) head
 
 pub ended_is : (e : DraftView) → has_ended e ≡ true → e.position ≡ Ended
-ended_is e is = sym (same_position e.position Ended is)
+ended_is e is = sym (same_place positions ordinal_of listed e.position Ended is)
 
 -- The text that was read: the lines up to the end have a scenario as their value, and the text is
 -- its spelling.
@@ -93,3 +94,10 @@ is_read bytes e is =
     let at = ended_is e r.ended in
     let good : PositionHolds Ended e = subst (λ (s : Position). PositionHolds s e) at r.good in
     record { ended = at; good = good; text = r.text ∙ ap (λ (s : Position). text_of pieces_of (rows_before s e)) at ∙ ap (text_of pieces_of) (rows_are e good) }
+
+-- At the end the value of the lines is a scenario.
+pub is_whole : (bytes : List ℕ) (e : DraftView) → read machine at_start bytes ≡ Ok e → (has_ended e ≡ true) × IsWorld (world_of_draft e)
+is_whole bytes e is = let r = is_read bytes e is in (ap (λ (p : Position). ordinal_of p == 10) r.ended, is_world e r.good)
+
+pub is_spelled : (bytes : List ℕ) (e : DraftView) (w : World) → read machine at_start bytes ≡ Ok e → w ≡ world_of_draft e → IsSpelling w bytes
+is_spelled bytes e w is same = let r = is_read bytes e is in subst (λ (x : World). IsSpelling x bytes) (sym same) (is_world e r.good, r.text)

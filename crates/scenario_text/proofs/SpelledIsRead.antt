@@ -84,15 +84,11 @@ peer_joins w front false small more next = record { follows = record { values = 
 
 -- ---- the acts
 
--- At the acts of this world, after these.
-abbrev at_acts : World → List Act → DraftView
-at_acts w front = so_far w AtActs w.honest front
-
 pub quarter : (n : ℕ) → 4 * n / 4 ≡ n
 quarter n = omega arith
 
 -- The sizes in bytes are those in words.
-pub world_is : (w : World) (front : List Act) → IsWorld w → world_of_draft (at_acts w front) ≡ record w { acts = front }
+pub world_is : (w : World) (front : List Act) → IsWorld w → world_of_draft (so_far w AtActs w.honest front) ≡ record w { acts = front }
 world_is w front is =
     rw (quarter w.geometry.table, quarter w.geometry.common, quarter w.geometry.out, is.version, ← is.out) refl
 
@@ -104,14 +100,14 @@ front_of : (front rest : List Act) → take (length front) (front ++ rest) ≡ f
 front_of [] rest = refl
 front_of (b ∷ front) rest = ap (λ (t : List Act). b ∷ t) (front_of front rest)
 
-acts_join : (w : World) → IsWorld w → EachJoins rules (at_acts w) (λ k a. row_of_act a) w.acts
+acts_join : (w : World) → IsWorld w → EachJoins rules (so_far w AtActs w.honest) (λ k a. row_of_act a) w.acts
 acts_join w is front rest a all =
     let at : slice_get w.acts (length front) ≡ Some a = rw all (act_at front a rest) in
     let here : take (length front) w.acts ≡ front = rw all (front_of front (a ∷ rest)) in
     let allowed : IsAllowed w front a = subst (λ (before : List Act). IsAllowed w before a) here (is.allowed (length front) a at) in
     let allowed' : IsAllowed (record w { acts = front }) front a = record { values = allowed.values; bytes = allowed.bytes; order = allowed.order; range = allowed.range; peer = allowed.peer; frame = allowed.frame } in
-    let allowed'' : IsAllowed (world_of_draft (at_acts w front)) front a = subst (λ (x : World). IsAllowed x front a) (sym (world_is w front is)) allowed' in
-    record { follows = follows_act (at_acts w front) a refl allowed'' (sum_up_to cost w.acts front rest a MOST_ACTS all is.turns); gives = act_gives (at_acts w front) a; continues = refl }
+    let allowed'' : IsAllowed (world_of_draft (so_far w AtActs w.honest front)) front a = subst (λ (x : World). IsAllowed x front a) (sym (world_is w front is)) allowed' in
+    record { follows = follows_act (so_far w AtActs w.honest front) a refl allowed'' (sum_up_to cost w.acts front rest a MOST_ACTS all is.turns); gives = act_gives (so_far w AtActs w.honest front) a; continues = refl }
 
 -- ---- the whole text
 
@@ -173,10 +169,10 @@ head_along w is =
 spelled_reaches : (w : World) → IsWorld w → Reaches rules at_start (rows_of w) (at_end w)
 spelled_reaches w is =
     let full : eqb (length w.honest) w.geometry.peers ≡ true = eq-eqb _ _ is.flags in
-    let begins : Along rules (at_peers w w.honest) (row Begin [] [] ∷ []) (at_acts w []) = (record { values = tt; bytes = refl; order = rw full refl; range = refl; peer = refl; size = refl; sizes = refl; room = refl }, refl, refl) in
+    let begins : Along rules (at_peers w w.honest) (row Begin [] [] ∷ []) (so_far w AtActs w.honest []) = (record { values = tt; bytes = refl; order = rw full refl; range = refl; peer = refl; size = refl; sizes = refl; room = refl }, refl, refl) in
     let peers = flags_join rules (at_peers w) row_of_peer w.honest w.geometry.peers is.flags is.few (peer_joins w) in
-    mapped_reach rules at_start (head_rows w ++ row Begin [] [] ∷ []) (at_acts w) row_of_act w.acts (row End [] []) (at_end w)
-    (numbered_then rules at_start (head w) (at_peers w) row_of_peer w.honest (row Begin [] []) (at_acts w []) (head_along w is) peers begins)
+    mapped_reach rules at_start (head_rows w ++ row Begin [] [] ∷ []) (so_far w AtActs w.honest) row_of_act w.acts (row End [] []) (at_end w)
+    (numbered_then rules at_start (head w) (at_peers w) row_of_peer w.honest (row Begin [] []) (so_far w AtActs w.honest []) (head_along w is) peers begins)
     (acts_join w is) (record { values = tt; bytes = refl; order = refl; range = refl; peer = refl; size = refl; sizes = refl; room = refl }) refl refl
 
 pub is_forward : IsForward machine sense IsSpelling line_count

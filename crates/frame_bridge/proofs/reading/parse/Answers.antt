@@ -1,11 +1,12 @@
-use Rattle.std.proofs.Common.{Ok, sym, ap, rules}
+use Rattle.std.proofs.Common.{Ok, refl, sym, ap, rules}
 use Rattle.line_format.proofs.AnswerLaws.{exact_ok, exact_err, only_answer}
+use Rattle.frame_bridge.specs.declared.faults.BridgeFault.TheVariants.{NoMemory}
 use Rattle.frame_bridge.specs.Spelling.{world_of}
 use Rattle.frame_bridge.specs.Judge.{machine, sense}
 use Rattle.frame_bridge.specs.Drafts.{draft_view}
 use Rattle.frame_bridge.specs.Answers.{is_no_memory}
 use Rattle.frame_bridge.proofs.SpelledIsRead.{is_forward}
-use Rattle.frame_bridge.proofs.ReadIffSpelled.{is_spelled, apart}
+use Rattle.frame_bridge.proofs.ReadIsSpelled.{is_spelled}
 use Rattle.frame_bridge.proofs.reading.parse.Goals as goal
 
 pub returns : goal.returns
@@ -15,5 +16,5 @@ returns c =
 
 pub returns-in_err-read_text : goal.returns-in_err-read_text
 returns-in_err-read_text c =
-    let exact = exact_err machine apart world_of c.args.bytes.now (draft_view c.read_text.new.draft) c.in_err-read_text.field-0.0 c.from_residual.result c.from_residual.ensures.1 c.new-draft.ensures c.in_err-read_text.ensures in
+    let exact = exact_err machine sense is_no_memory NoMemory refl world_of c.args.bytes.now (draft_view c.read_text.new.draft) c.in_err-read_text.field-0.0 c.from_residual.result c.from_residual.ensures.1 c.new-draft.ensures c.in_err-read_text.ensures in
     record { found = search rules; only = only_answer is_forward is_no_memory world_of c.args.bytes.now c.from_residual.result exact; exact = exact }

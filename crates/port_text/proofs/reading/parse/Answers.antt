@@ -1,11 +1,12 @@
-use Rattle.std.proofs.Common.{Ok, sym, ap, rules}
+use Rattle.std.proofs.Common.{Ok, refl, sym, ap, rules}
 use Rattle.line_format.proofs.AnswerLaws.{exact_ok, exact_err, only_answer}
+use Rattle.port_text.specs.declared.faults.PortsFault.TheVariants.{NoMemory}
 use Rattle.port_text.specs.Spelling.{world_of}
 use Rattle.port_text.specs.Judge.{machine, sense}
 use Rattle.port_text.specs.Drafts.{draft_view}
 use Rattle.port_text.specs.Answers.{is_no_memory}
 use Rattle.port_text.proofs.SpelledIsRead.{is_forward}
-use Rattle.port_text.proofs.ReadIffSpelled.{is_whole, is_spelled, apart}
+use Rattle.port_text.proofs.ReadIsSpelled.{is_whole, is_spelled}
 use Rattle.port_text.proofs.reading.parse.Goals as goal
 
 pub returns : goal.returns
@@ -18,5 +19,5 @@ finish-requires c = is_whole c.args.bytes.now (draft_view c.read_text.new.draft)
 
 pub returns-in_err-read_text : goal.returns-in_err-read_text
 returns-in_err-read_text c =
-    let exact = exact_err machine apart world_of c.args.bytes.now (draft_view c.read_text.new.draft) c.in_err-read_text.field-0.0 c.from_residual.result c.from_residual.ensures.1 c.new-draft.ensures c.in_err-read_text.ensures in
+    let exact = exact_err machine sense is_no_memory NoMemory refl world_of c.args.bytes.now (draft_view c.read_text.new.draft) c.in_err-read_text.field-0.0 c.from_residual.result c.from_residual.ensures.1 c.new-draft.ensures c.in_err-read_text.ensures in
     record { found = search rules; only = only_answer is_forward is_no_memory world_of c.args.bytes.now c.from_residual.result exact; exact = exact }

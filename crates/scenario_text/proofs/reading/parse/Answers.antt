@@ -1,16 +1,17 @@
-use Rattle.std.proofs.Common.{Ok, sym, ap, rules}
+use Rattle.std.proofs.Common.{Ok, refl, sym, ap, rules}
 use Rattle.line_format.proofs.AnswerLaws.{exact_ok, exact_err, only_answer}
+use Rattle.scenario_text.specs.declared.faults.ScenarioFault.TheVariants.{NoMemory}
 use Rattle.scenario_text.specs.Spelling.{world_of}
 use Rattle.scenario_text.specs.Judge.{machine, sense}
 use Rattle.scenario_text.specs.Drafts.{draft_view}
 use Rattle.scenario_text.specs.Answers.{is_no_memory}
 use Rattle.scenario_text.proofs.SpelledIsRead.{is_forward}
-use Rattle.scenario_text.proofs.ReadIffSpelled.{is_whole, is_spelled, apart}
+use Rattle.scenario_text.proofs.ReadIsSpelled.{is_whole, is_spelled}
 use Rattle.scenario_text.proofs.reading.parse.Goals as goal
 
 pub returns-in_err-read_text : goal.returns-in_err-read_text
 returns-in_err-read_text c =
-    let exact = exact_err machine apart world_of c.args.bytes.now (draft_view c.read_text.new.draft) c.in_err-read_text.field-0.0 c.from_residual.result c.from_residual.ensures.1 c.new-draft.ensures c.in_err-read_text.ensures in
+    let exact = exact_err machine sense is_no_memory NoMemory refl world_of c.args.bytes.now (draft_view c.read_text.new.draft) c.in_err-read_text.field-0.0 c.from_residual.result c.from_residual.ensures.1 c.new-draft.ensures c.in_err-read_text.ensures in
     record { found = search rules; only = only_answer is_forward is_no_memory world_of c.args.bytes.now c.from_residual.result exact; exact = exact }
 
 pub finish-requires-clause-ended : goal.finish-requires-clause-ended

@@ -62,8 +62,8 @@ still_fewer items item n less other =
       | inr ge ↦ absurd (eqb-false _ _ other (omega arith))
     ]
 
--- The rows before position n of a text: head lines, the rows of peers, `begin`, the rows of acts and
--- `end`. The peers have two positions, as the one after the last peer is another.
+-- The rows before position n of a text: head lines, the rows of peers, `begin`, the rows of acts
+-- and `end`. After the last peer comes a position of its own.
 abbrev pub rows_at : {F : Type 0} → (head peers : List (Row F)) → Row F → List (Row F) → Row F → ℕ → List (Row F)
 rows_at (r ∷ head) peers begin acts last zero = []
 rows_at (r ∷ head) peers begin acts last (suc n) = r ∷ rows_at head peers begin acts last n

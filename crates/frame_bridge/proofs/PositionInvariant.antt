@@ -8,7 +8,7 @@ use Rattle.line_format.specs.Rows.{Row, row}
 use Rattle.line_format.proofs.NumbersFit.{counted, list_1, in_range, one_alone, same_row, the_number, no_number}
 use Rattle.line_format.proofs.ListLaws.{all_push}
 use Rattle.line_format.proofs.PartLaws.{then_row, rows-push}
-use Rattle.line_format.proofs.TestChains.{not_false, not_true}
+use Rattle.line_format.proofs.TestChains.{not_false, not_true, either_false}
 use Rattle.line_format.proofs.RowsFollow.{CanFollow}
 use Rattle.line_format.proofs.RowTexts.{Keeps, keeps_item, AreKept}
 use Rattle.line_format.proofs.FormsOfRows.{same_place}
@@ -97,5 +97,5 @@ adds End ns frame d at good can = record { rows = rw at (then_row (head_rows d +
 -- A row that can follow preserves the invariant, and adds its line.
 pub are_kept : AreKept rules (λ d. rows_before d.position d) (λ d. PositionHolds d.position d)
 are_kept d r can good =
-    let at = same_place positions ordinal_of listed (position_of r.form) d.position (not_false _ can.order) in
+    let at = same_place positions ordinal_of listed (position_of r.form) d.position (not_false _ (either_false _ _ can.order).0) in
     adds r.form r.numbers r.frame d at (subst (λ (p : Position). PositionHolds p d) at good) can

@@ -4,6 +4,7 @@ use Rattle.std.specs.Prelude.{All}
 use Rattle.std.proofs.lemmas.Bool.{lt-leb}
 use Rattle.std.proofs.lemmas.List.{length-append}
 use Rattle.line_format.specs.Rows.{Row, row}
+use Rattle.line_format.proofs.PartLaws.{no_rule}
 use Rattle.line_format.proofs.ListLaws.{all_at}
 use Rattle.line_format.proofs.LawsOfTexts.{IsForward}
 use Rattle.line_format.proofs.RowTexts.{Along, EachJoins, Reaches, mapped_reach, rows_forward}
@@ -12,9 +13,8 @@ use Rattle.frame_bridge.specs.declared.scripts.Sent.{Sent}
 use Rattle.frame_bridge.specs.declared.forms.Form.{Form}
 use Rattle.frame_bridge.specs.declared.forms.Form.TheVariants.{Version, Ports, Rounds, Begin, End}
 use Rattle.frame_bridge.specs.declared.positions.Position.TheVariants.{AtFrames, Ended}
-use Rattle.frame_bridge.specs.Spelling.{World, row_of_sent, IsAllowed, IsWorld, rows_of, IsSpelling}
+use Rattle.frame_bridge.specs.Spelling.{World, row_of_sent, IsAllowed, IsWorld, rows_of, IsSpelling, line_count}
 use Rattle.frame_bridge.specs.Judge.{DraftView, at_start, rules, machine, sense}
-use Rattle.frame_bridge.specs.TextLaws.{line_count}
 use Rattle.frame_bridge.proofs.FormsAreTable.{is_table}
 
 -- ---- the head
@@ -31,13 +31,13 @@ head_along w is =
     let least = is.least in
     let most = is.most in
     let rounds = is.rounds in (
-      record { values = (omega arith, omega arith, tt); bytes = refl; order = refl; range = refl; peer = refl; size = refl; sizes = refl; room = refl },
+      record { values = (omega arith, omega arith, tt); bytes = refl; order = no_rule _; range = refl; peer = refl; size = refl; sizes = refl; room = refl },
       refl,
       (
-        record { values = (least, most, tt); bytes = refl; order = refl; range = refl; peer = refl; size = refl; sizes = refl; room = refl },
+        record { values = (least, most, tt); bytes = refl; order = no_rule _; range = refl; peer = refl; size = refl; sizes = refl; room = refl },
         refl,
         (
-          record { values = (omega arith, rounds, tt); bytes = refl; order = refl; range = refl; peer = refl; size = refl; sizes = refl; room = refl },
+          record { values = (omega arith, rounds, tt); bytes = refl; order = no_rule _; range = refl; peer = refl; size = refl; sizes = refl; room = refl },
           refl,
           (record { values = tt; bytes = refl; order = refl; range = refl; peer = refl; size = refl; sizes = refl; room = refl }, refl, refl),
         ),
@@ -51,7 +51,7 @@ sent_joins w is front rest s all =
     let here = all_at (IsAllowed w) front rest s (subst (λ (sent : List Sent). All (IsAllowed w) sent) all is.allowed) in
     let below : length front < MOST_FRAMES = omega (arith, ap length all, length-append front (s ∷ rest), is.few) in
     record {
-      follows = record { values = here.values; bytes = here.bytes; order = refl; range = here.range; peer = refl; size = here.size; sizes = refl; room = rw (lt-leb MOST_FRAMES (length front) below) refl };
+      follows = record { values = here.values; bytes = here.bytes; order = no_rule _; range = here.range; peer = refl; size = here.size; sizes = refl; room = rw (lt-leb MOST_FRAMES (length front) below) refl };
       gives = refl;
       continues = refl;
     }

@@ -47,9 +47,6 @@ position_of Rounds = AtRounds
 position_of Begin = AtBegin
 position_of _ = AtFrames
 
-abbrev pub is_out_of_order : DraftView → Form → Bool
-is_out_of_order d form = not (ordinal_of (position_of form) == ordinal_of d.position)
-
 -- TooManyFrames
 
 abbrev pub is_frame : Form → Bool
@@ -91,7 +88,8 @@ rules = record {
   pieces_of = pieces_of;
   forms = all_forms;
   cause = cause;
-  is_out_of_order = λ d form fields. is_out_of_order d form;
+  is_at = λ d form. ordinal_of (position_of form) == ordinal_of d.position;
+  is_out_of_turn = λ d form p. false;
   is_in_range = λ d form ns. is_in_range (world_of_draft d) form ns;
   is_its_peer = λ d form ns. true;
   fits = λ d form size. is_frame_length form size;
@@ -113,9 +111,13 @@ fault_at BadNumber n = faults.BadNumber n
 fault_at BadFrame n = faults.BadFrame n
 fault_at TooManyFrames n = faults.TooManyFrames n
 
+abbrev pub is_no_memory : BridgeFault → Bool
+is_no_memory faults.NoMemory = true
+is_no_memory _ = false
+
 -- Bytes after the end are a faulty line.
 abbrev pub sense : Sense DraftView Cause World BridgeFault
-sense = record { start = at_start; value = λ d. Ok (world_of_draft d); at = fault_at; after = λ n. faults.BadLine n; no_end = faults.NoEnd }
+sense = record { start = at_start; value = λ d. Ok (world_of_draft d); at = fault_at; after = λ n. faults.BadLine n; no_end = faults.NoEnd; no_memory = faults.NoMemory; is_no_memory = is_no_memory }
 
 -- The run that a text spells, or its first fault.
 abbrev pub answer : List ℕ → Result World BridgeFault

@@ -1,9 +1,7 @@
 pub mod Table
 pub mod Spelling
 pub mod Judge
-pub mod Answers
 pub mod Drafts
-pub mod TextLaws
 pub mod Forwarding
 pub mod BridgeView
 pub mod Representation

@@ -54,6 +54,10 @@ abbrev pub rows_of : World → List (Row Form)
 rows_of w = (row Version (1 ∷ []) [] ∷ row Ports (w.ports ∷ []) [] ∷ row Rounds (w.rounds ∷ []) [] ∷ row Begin [] [] ∷ [])
     ++ map row_of_sent w.sent ++ row End [] [] ∷ []
 
+-- The number of lines of the text.
+abbrev pub line_count : World → ℕ
+line_count w = length (rows_of w)
+
 -- The one text of a run.
 abbrev pub spelling : World → List ℕ
 spelling w = text_of pieces_of (rows_of w)

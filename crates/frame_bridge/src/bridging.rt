@@ -1,14 +1,13 @@
 //! The run of a text, from its bytes to its output.
 ghost use Rattle.std.specs.Prelude.{◌≡◌, ℕ, List, ◌++◌, [], ◌-◌, ◌^◌, ◌<◌, ◌≤◌, length, IfOk, IfErr, OnOk, Some, slice_get};
 ghost use Rattle.std.specs.List.{flat_map};
+ghost use Rattle.line_format.specs.Answers.{Refuses};
 ghost use Rattle.line_format.specs.Rows.{text_of};
 ghost use Rattle.frame_bridge.specs.declared.faults.BridgeFault.TheVariants.{NoMemory as OutOfMemory};
 ghost use Rattle.frame_bridge.specs.declared.scripts.Sent.{Sent as SentFrame};
-ghost use Rattle.frame_bridge.specs.Answers.{Refuses};
-ghost use Rattle.frame_bridge.specs.Judge.{answer};
+ghost use Rattle.frame_bridge.specs.Judge.{answer, sense};
 ghost use Rattle.frame_bridge.specs.Spelling as text;
 ghost use Rattle.frame_bridge.specs.Spelling.{IsSpelling, IsWorld, world_of};
-ghost use Rattle.section_map.specs.Geometry.{Shape};
 ghost use Rattle.frame_bridge.specs.declared.ports.Port.{Port as HeldPort};
 ghost use Rattle.frame_bridge.specs.Forwarding.{first_ports, forward};
 ghost use Rattle.frame_bridge.specs.Links.{link_config};
@@ -173,7 +172,7 @@ pub fn bridge(alloc: Global, bytes: &[u8]) -> Result<Vec<u8>, BridgeFault>
     // For a text that spells a run the one fault is a failed allocation.
     ensures only { (w : text.World) → IsSpelling w bytes.now → IfErr result (λ fault. fault ≡ OutOfMemory) }
     // The fault that is returned.
-    ensures fault { IfErr result (λ fault. Refuses {Y = text.World} fault (answer bytes.now)) }
+    ensures fault { IfErr result (λ fault. Refuses sense fault (answer bytes.now)) }
 {
     let script = match parse(alloc, bytes) {
         Ok(script) => script,

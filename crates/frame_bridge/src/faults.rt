@@ -1,9 +1,9 @@
 //! The faults of a text of a bridge.
 ghost use Rattle.std.specs.Prelude.{◌≡◌};
-ghost use Rattle.frame_bridge.specs.Judge.{fault_at};
-ghost use Rattle.frame_bridge.specs.Answers.{fault_of_text};
+ghost use Rattle.line_format.specs.Answers.{fault_of_text};
+ghost use Rattle.frame_bridge.specs.Judge.{fault_at, sense};
 
-use line_format::TextFault;
+use line_format::{TextFault, fault_of_text};
 use thiserror::Error;
 
 /// The fault of a line: the first of these that applies, in this order.
@@ -66,15 +66,9 @@ pub enum BridgeFault {
 }
 
 impl From<TextFault<Cause>> for BridgeFault {
-    ghost from_gives = { λ fault result. result ≡ fault_of_text fault };
+    ghost from_gives = { λ fault result. result ≡ fault_of_text sense fault };
 
-    /// Returns the fault of the text. Bytes after the end are a line that matches no form.
     fn from(fault: TextFault<Cause>) -> BridgeFault {
-        match fault {
-            TextFault::NoMemory => BridgeFault::NoMemory,
-            TextFault::At(cause, line) => cause.at(line),
-            TextFault::After(line) => BridgeFault::BadLine(line),
-            TextFault::NoEnd => BridgeFault::NoEnd,
-        }
+        fault_of_text!(fault, BridgeFault)
     }
 }

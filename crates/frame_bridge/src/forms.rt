@@ -4,7 +4,7 @@ ghost use Rattle.line_format.specs.Forms.{pieces};
 ghost use Rattle.frame_bridge.specs.Table.{pieces_of};
 
 use crate::limits::MOST_ROUNDS;
-use line_format::FieldKind;
+use line_format::{ANY, FieldKind};
 
 /// A form of a line.
 #[derive(Clone, Copy, Debug, PartialEq, Eq)]
@@ -46,11 +46,7 @@ impl Form {
                 FieldKind::Number(0, MOST_ROUNDS),
             ],
             Form::Begin => &[FieldKind::Word(b"begin")],
-            Form::Frame => &[
-                FieldKind::Word(b"frame"),
-                FieldKind::Number(0, u64::MAX),
-                FieldKind::Hex,
-            ],
+            Form::Frame => &[FieldKind::Word(b"frame"), ANY, FieldKind::Hex],
             Form::End => &[FieldKind::Word(b"end")],
         }
     }

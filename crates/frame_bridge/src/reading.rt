@@ -1,47 +1,14 @@
 //! Reading a text of a bridge.
-ghost use Rattle.std.specs.Prelude.{◌≡◌, IfOk};
+ghost use Rattle.std.specs.Prelude.{IfOk};
+ghost use Rattle.line_format.specs.Answers.{Answers};
 ghost use Rattle.frame_bridge.specs.Spelling.{World, world_of, IsSpelling};
-ghost use Rattle.frame_bridge.specs.Judge.{world_of_draft, at_start, answer};
-ghost use Rattle.frame_bridge.specs.Answers.{Answers};
-ghost use Rattle.frame_bridge.specs.Drafts.{draft_view};
+ghost use Rattle.frame_bridge.specs.Judge.{sense, answer};
 
 use crate::drafts::Draft;
 use crate::faults::BridgeFault;
-use crate::positions::Position;
-use crate::scripts::{Script, SentFrames};
+use crate::scripts::Script;
 use line_format::read_text;
 use std::alloc::Global;
-
-impl Draft {
-    /// Returns the draft of a text before its first line.
-    pub fn new(alloc: Global) -> Draft
-        ensures { draft_view result ≡ at_start }
-    {
-        Draft {
-            position: Position::AtVersion,
-            ports: 0,
-            rounds: 0,
-            sent: SentFrames::new(alloc),
-        }
-    }
-
-    /// Returns the value of the lines up to the end.
-    pub fn finish(self) -> Script
-        ensures { world_of result ≡ world_of_draft (draft_view self) }
-    {
-        let Draft {
-            ports,
-            rounds,
-            sent,
-            ..
-        } = self;
-        Script {
-            ports,
-            rounds,
-            sent,
-        }
-    }
-}
 
 /// Returns the run that the text spells, or the first fault of the text, in one pass over it.
 /// Returns `NoMemory` if an allocation fails.
@@ -54,11 +21,9 @@ pub fn parse(alloc: Global, bytes: &[u8]) -> Result<Script, BridgeFault>
     // The text is a spelling of the run that is read.
     ensures found { IfOk result (λ script. IsSpelling (world_of script) bytes.now) }
     // A spelling of a run is read as that run, unless an allocation fails.
-    ensures only { (w : World) → IsSpelling w bytes.now → Answers result (Ok w) }
+    ensures only { (w : World) → IsSpelling w bytes.now → Answers sense world_of result (Ok w) }
     // The fault that is returned.
-    ensures exact { Answers result (answer bytes.now) }
+    ensures exact { Answers sense world_of result (answer bytes.now) }
 {
-    let mut draft = Draft::new(alloc);
-    read_text(alloc, &mut draft, bytes)?;
-    Ok(draft.finish())
+    Ok(read_text(alloc, Draft::new(alloc), bytes)?.finish())
 }

@@ -1,17 +1,50 @@
 //! A text of a bridge as a grammar: the tests of a line, and its effect on a draft.
 ghost use Rattle.std.proofs.Common.{rules as found};
-ghost use Rattle.frame_bridge.specs.Judge.{DraftView, rules};
+ghost use Rattle.frame_bridge.specs.Judge.{DraftView, rules, world_of_draft, at_start};
 ghost use Rattle.frame_bridge.specs.Drafts.{draft_view};
+ghost use Rattle.std.specs.Prelude.{◌≡◌};
+ghost use Rattle.frame_bridge.specs.Spelling.{world_of};
 
 use crate::drafts::Draft;
 use crate::faults::Cause;
 use crate::forms::{FORMS, Form};
 use crate::limits::MOST_FRAMES;
 use crate::positions::Position;
-use crate::scripts::Sent;
+use crate::scripts::{Script, Sent, SentFrames};
 use ivs_base::Frame;
 use line_format::{FieldKind, Grammar, LineFault, Test, number_at};
 use std::alloc::Global;
+
+impl Draft {
+    /// Returns the draft of a text before its first line.
+    pub fn new(alloc: Global) -> Draft
+        ensures { draft_view result ≡ at_start }
+    {
+        Draft {
+            position: Position::AtVersion,
+            ports: 0,
+            rounds: 0,
+            sent: SentFrames::new(alloc),
+        }
+    }
+
+    /// Returns the value of the lines up to the end.
+    pub fn finish(self) -> Script
+        ensures { world_of result ≡ world_of_draft (draft_view self) }
+    {
+        let Draft {
+            ports,
+            rounds,
+            sent,
+            ..
+        } = self;
+        Script {
+            ports,
+            rounds,
+            sent,
+        }
+    }
+}
 
 impl Grammar for Draft {
     type Form = Form;
@@ -44,8 +77,12 @@ impl Grammar for Draft {
         }
     }
 
-    fn is_out_of_order(&self, form: Form, _fields: &[&[u8]]) -> bool {
-        Position::of(form) != self.position
+    fn is_at(&self, form: Form) -> bool {
+        Position::of(form) == self.position
+    }
+
+    fn is_out_of_turn(&self, _form: Form, _p: u64) -> bool {
+        false
     }
 
     /// Whether the run has the port of a frame.

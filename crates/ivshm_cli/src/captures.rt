@@ -1,7 +1,7 @@
 //! Capture files: what a lawful record delivers as a capture file, and the scenario made from a
 //! capture file.
 
-ghost use Rattle.std.specs.Prelude.{◌≡◌, ◌<◌, ◌^◌, ℕ, Some, None, IfOk, OnOk, IsErrOf, length};
+ghost use Rattle.std.specs.Prelude.{◌≡◌, ◌<◌, ◌^◌, ℕ, None, IfOk, OnOk, length};
 ghost use Rattle.scenario_text.specs.Scenario.{IsWorld};
 ghost use Rattle.scenario_text.specs.Spelling.{world_of};
 ghost use Rattle.lawful_history.specs.Lawful.{IsLawfulIn};
@@ -13,7 +13,7 @@ ghost use Rattle.program_edge.specs.declared.words.Command.{Command};
 ghost use Rattle.ivshm_cli.specs.declared.refusals.Fault.{Fault};
 
 use crate::refusals::Fault;
-use crate::replies::NoReply;
+use crate::replies::{NoReply, or_refused};
 use frame_capture::{Capture, CaptureFault, FeedFault, captured, parse, scenario_of};
 use history_laws::delivered_frames_are_read;
 use ivs_base::NoMemory;
@@ -40,11 +40,7 @@ fn capture_in(alloc: Global, bytes: &[u8]) -> Result<Capture, NoReply>
     ensures file { IfOk result (λ capture. IsCaptureFile capture bytes.now) }
     ensures refused { (peer : ℕ) → RefusesBy (Command.Feed peer) bytes.now result }
 {
-    match parse(alloc, bytes) {
-        Ok(capture) => Ok(capture),
-        Err(CaptureFault::NoMemory) => Err(NoReply::NoMemory),
-        Err(fault) => Err(NoReply::Refused(Fault::Packets(fault))),
-    }
+    Ok(or_refused!(parse(alloc, bytes), CaptureFault => Packets))
 }
 
 /// Returns the text of the scenario in which `peer`, 0 or 1, offers the frames of the capture file

@@ -10,9 +10,6 @@ ghost use Rattle.ivshm_cli.specs.Due.{IsDue};
 ghost use Rattle.scenario_text.specs.Scenario.{World};
 ghost use Rattle.scenario_text.specs.Spelling.{IsSpelling, world_of};
 ghost use Rattle.scenario_text.specs.Judge.{answer as judged};
-ghost use Rattle.section_dump.specs.Listing.{IsListing};
-ghost use Rattle.sampling_port.specs.Record.{IsRecord as IsPortRecord};
-ghost use Rattle.frame_bridge.specs.Output.{IsBridged};
 ghost use Rattle.ivshm_cli.specs.Headline.{IsRecordOf};
 ghost use Rattle.ivshm_cli.specs.Replay.{Spells, status_of};
 ghost use Rattle.ivshm_cli.specs.Configuration.{IsConfigurationOf};
@@ -76,6 +73,20 @@ impl From<AllocError> for NoReply {
     }
 }
 
+/// The value of a result. Otherwise the function returns that there is no reply, for the fault or
+/// for want of memory.
+macro_rules! or_refused {
+    ($result:expr, $faults:ident => $kind:ident) => {
+        match $result {
+            Ok(value) => value,
+            Err($faults::NoMemory) => return Err(NoReply::NoMemory),
+            Err(fault) => return Err(NoReply::Refused(Fault::$kind(fault))),
+        }
+    };
+}
+
+pub(crate) use or_refused;
+
 /// Returns the scenario that the bytes spell.
 pub(crate) fn scenario_in(alloc: Global, bytes: &[u8]) -> Result<Scenario, NoReply>
     ensures spelled { IfOk result (λ scenario. IsSpelling (world_of scenario) bytes.now) }
@@ -83,11 +94,7 @@ pub(crate) fn scenario_in(alloc: Global, bytes: &[u8]) -> Result<Scenario, NoRep
     ensures refused { (fault : Fault) → IsErrOf result (NoReply.Refused fault)
         → (fault_in : World → Option Fault) → scenario_fault fault_in (judged bytes.now) ≡ Some fault }
 {
-    match parse(alloc, bytes) {
-        Ok(scenario) => Ok(scenario),
-        Err(ScenarioFault::NoMemory) => Err(NoReply::NoMemory),
-        Err(fault) => Err(NoReply::Refused(Fault::Text(fault))),
-    }
+    Ok(or_refused!(parse(alloc, bytes), ScenarioFault => Text))
 }
 
 /// Returns the record of the scenario that the bytes spell and of its lawful history.
@@ -107,11 +114,7 @@ fn record_in(alloc: Global, bytes: &[u8]) -> Result<Trace, NoReply>
     ensures few { IfOk result (λ trace. length trace.lines ≤ length bytes.now) }
     ensures refused { RefusesBy Command.Replay bytes.now result }
 {
-    match parse_record(alloc, bytes) {
-        Ok(trace) => Ok(trace),
-        Err(RecordFault::NoMemory) => Err(NoReply::NoMemory),
-        Err(fault) => Err(NoReply::Refused(Fault::Trace(fault))),
-    }
+    Ok(or_refused!(parse_record(alloc, bytes), RecordFault => Trace))
 }
 
 /// Returns the status of a verdict.
@@ -132,11 +135,7 @@ fn replayed(alloc: Global, bytes: &[u8]) -> Result<Reply, NoReply>
     ensures left { IfOk result (λ r. r.ran ≡ None) }
     ensures refused { RefusesBy Command.Replay bytes.now result }
 {
-    let verdict = match replay_text(alloc, bytes) {
-        Ok(verdict) => verdict,
-        Err(RecordFault::NoMemory) => return Err(NoReply::NoMemory),
-        Err(fault) => return Err(NoReply::Refused(Fault::Trace(fault))),
-    };
+    let verdict = or_refused!(replay_text(alloc, bytes), RecordFault => Trace);
     let text = verdict_line(alloc, verdict)?;
     Ok(Reply {
         status: verdict_status(verdict),
@@ -175,47 +174,6 @@ fn captured(alloc: Global, peer: u32, bytes: &[u8]) -> Result<Reply, NoReply>
     match replay(alloc, &trace)? {
         Verdict::Same => Ok(done(capture_file(alloc, peer, &trace)?)),
         Verdict::Differs(fault) => Ok(differs(difference_line(alloc, fault)?)),
-    }
-}
-
-/// Returns the listing of the image `bytes`.
-fn listed(alloc: Global, bytes: &[u8]) -> Result<Vec<u8>, NoReply>
-    ensures accepted { OnOk result (IsTextVerdict Command.Dump bytes.now None) }
-    ensures listing { IfOk result (λ text. IsListing bytes.now text.items) }
-    ensures refused { RefusesBy Command.Dump bytes.now result }
-{
-    match dump(alloc, bytes) {
-        Ok(text) => Ok(text),
-        Err(DumpFault::NoMemory) => Err(NoReply::NoMemory),
-        Err(fault) => Err(NoReply::Refused(Fault::Image(fault))),
-    }
-}
-
-/// Returns the record of the schedule of ports that the bytes spell.
-fn sampled(alloc: Global, bytes: &[u8]) -> Result<Vec<u8>, NoReply>
-    ensures accepted { OnOk result (IsTextVerdict Command.Ports bytes.now None) }
-    ensures record { IfOk result (λ text. IsPortRecord bytes.now text.items) }
-    ensures refused { RefusesBy Command.Ports bytes.now result }
-{
-    printed_is_read_again();
-    match ports(alloc, bytes) {
-        Ok(text) => Ok(text),
-        Err(PortsFault::NoMemory) => Err(NoReply::NoMemory),
-        Err(fault) => Err(NoReply::Refused(Fault::PortText(fault))),
-    }
-}
-
-/// Returns the output of the bridge run that the bytes spell.
-fn bridged(alloc: Global, bytes: &[u8]) -> Result<Vec<u8>, NoReply>
-    ensures accepted { OnOk result (IsTextVerdict Command.Bridge bytes.now None) }
-    ensures output { IfOk result (λ text. IsBridged bytes.now text.items) }
-    ensures refused { RefusesBy Command.Bridge bytes.now result }
-{
-    spelled_is_read();
-    match bridge(alloc, bytes) {
-        Ok(text) => Ok(text),
-        Err(BridgeFault::NoMemory) => Err(NoReply::NoMemory),
-        Err(fault) => Err(NoReply::Refused(Fault::BridgeText(fault))),
     }
 }
 
@@ -303,13 +261,19 @@ fn reply_for<R: Threads + Sync, G: Gate + Sync>(
         Command::Run => Ok(ran(run(rt, alloc, bytes, gate)?)),
         Command::Replay => replayed(alloc, bytes),
         Command::Renew => renewed(alloc, bytes),
-        Command::Dump => Ok(done(listed(alloc, bytes)?)),
+        Command::Dump => Ok(done(or_refused!(dump(alloc, bytes), DumpFault => Image))),
         Command::Config(peer) => Ok(done(configured(alloc, peer, bytes)?)),
         Command::Load(count) => Ok(done(loaded(alloc, count)?)),
         Command::Capture(peer) => captured(alloc, peer, bytes),
         Command::Feed(peer) => Ok(done(fed(alloc, peer, bytes)?)),
-        Command::Ports => Ok(done(sampled(alloc, bytes)?)),
-        Command::Bridge => Ok(done(bridged(alloc, bytes)?)),
+        Command::Ports => {
+            printed_is_read_again();
+            Ok(done(or_refused!(ports(alloc, bytes), PortsFault => PortText)))
+        }
+        Command::Bridge => {
+            spelled_is_read();
+            Ok(done(or_refused!(bridge(alloc, bytes), BridgeFault => BridgeText)))
+        }
     }
 }
 

@@ -1,14 +1,14 @@
 -- The number of lines of a scenario.
 use Rattle.std.proofs.Common.{◌≡◌, ℕ, ◌+◌, List, [], ◌∷◌, ◌++◌, Bool, map, length, refl, ◌∙◌, arith, length-append}
 use Rattle.std.proofs.lemmas.List.{length-map}
-use Rattle.line_format.specs.Rows.{Row, row}
+use Rattle.line_format.specs.Rows.{Row, row, flag_rows}
 use Rattle.scenario_text.specs.declared.forms.Form.{Form}
-use Rattle.scenario_text.specs.declared.forms.Form.TheVariants.{Begin, End}
+use Rattle.scenario_text.specs.declared.forms.Form.TheVariants.{Begin, End, Honest, Hostile}
 use Rattle.scenario_text.specs.ActRows.{row_of_act}
 use Rattle.scenario_text.specs.Scenario.{World}
-use Rattle.scenario_text.specs.Spelling.{rows_of_peers, head_rows, rows_of}
+use Rattle.scenario_text.specs.Spelling.{head_rows, rows_of}
 
-peer_count : (p : ℕ) (honest : List Bool) → length (rows_of_peers p honest) ≡ length honest
+peer_count : (p : ℕ) (honest : List Bool) → length (flag_rows Honest Hostile p honest) ≡ length honest
 peer_count p [] = refl
 peer_count p (b ∷ bs) = let rest = peer_count (p + 1) bs in omega (arith, rest)
 

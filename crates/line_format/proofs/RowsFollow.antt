@@ -7,7 +7,7 @@ use Rattle.line_format.specs.declared.grammar.Test.TheVariants.{Line, Order, Num
 use Rattle.line_format.specs.Forms.{matches, numbers_of, hex_of, hex_bytes, fields_of, Fit, FitBytes, is_printable}
 use Rattle.line_format.specs.Rows.{Row, row, fields_of_row, find_form}
 use Rattle.line_format.specs.Steps.{some_or}
-use Rattle.line_format.specs.Grammar.{Rules, pass_or, bytes_in, judge, step}
+use Rattle.line_format.specs.Grammar.{Rules, pass_or, bytes_in, judge, step, is_out_of_order}
 use Rattle.line_format.proofs.SpellingsAreRead.{numbers_of-spell, IsSpelled, spelled}
 use Rattle.line_format.proofs.TestChains.{bind_ok, guard_ok, pass_ok, some_or-ok, if_some, same_ok}
 use Rattle.line_format.proofs.FormsOfRows.{IsTable, finds, found}
@@ -17,7 +17,7 @@ use Rattle.line_format.proofs.LinesOfRows.{IsRow, bare, row_printable, row_cut, 
 pub record CanFollow {S F C : Type 0} (g : Rules S F C) (d : S) (r : Row F) : Type 0 where
   pub values : Fit (g.pieces_of r.form) r.numbers
   pub bytes : FitBytes (g.pieces_of r.form) r.frame
-  pub order : g.is_out_of_order d r.form (fields_of_row g.pieces_of r) ≡ false
+  pub order : is_out_of_order g d r.form (fields_of_row g.pieces_of r) ≡ false
   pub range : g.is_in_range d r.form r.numbers ≡ true
   pub peer : g.is_its_peer d r.form r.numbers ≡ true
   pub size : g.fits d r.form (length r.frame) ≡ true
@@ -60,7 +60,7 @@ judge-ok : {S F C : Type 0} (g : Rules S F C) → IsTable g.pieces_of g.forms �
 unfolding judge
 judge-ok {S} {F} {C} g table d form line e has is =
     let fs = fields_of line in
-    let a = guard_ok (g.is_out_of_order d form fs) (g.cause Order) _ e is in
+    let a = guard_ok (is_out_of_order g d form fs) (g.cause Order) _ e is in
     let b = bind_ok (some_or (g.cause Number) (numbers_of (g.pieces_of form) fs)) _ e a.1 in
     let n = bind_ok (pass_or (g.cause Number) (g.is_in_range d form b.0)) _ e b.2 in
     let p = bind_ok (pass_or (g.cause Peer) (g.is_its_peer d form b.0)) _ e n.2 in

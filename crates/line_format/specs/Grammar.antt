@@ -1,5 +1,5 @@
 -- A text as a table: its forms, the tests of a line in their order, and the effect of a line.
-use Rattle.std.specs.Prelude.{ℕ, if◌then◌else◌, Bool, true, false, List, length, slice_get, Option, Some, None, Result, Ok, Err, option_and_then}
+use Rattle.std.specs.Prelude.{ℕ, ◌||◌, not, if◌then◌else◌, Bool, true, false, List, length, slice_get, Option, Some, None, Result, Ok, Err, option_and_then}
 use Rattle.std.specs.List.{list_all}
 use Rattle.std.specs.Option.{option_map_or}
 use Rattle.line_format.specs.declared.grammar.Test.{Test}
@@ -16,8 +16,10 @@ pub record Rules (S F C : Type 0) : Type 0 where
   pub pieces_of : F → List Piece
   pub forms : List F
   pub cause : Test → C
-  -- the form is forbidden at this position
-  pub is_out_of_order : S → F → List (List ℕ) → Bool
+  -- lines of the form can come at this position
+  pub is_at : S → F → Bool
+  -- the form is forbidden at this position for this peer
+  pub is_out_of_turn : S → F → ℕ → Bool
   -- the numbers are in their ranges; each is in the form's own range
   pub is_in_range : S → F → List ℕ → Bool
   -- the text has the peer that the line names, and the peer can do this
@@ -32,10 +34,10 @@ pub record Rules (S F C : Type 0) : Type 0 where
   pub add : F → List ℕ → List ℕ → S → S
   pub ended : S → Bool
 
--- Whether a rule about the number in field 1 forbids the line. The rule applies only if the field
--- is a number.
-abbrev pub is_forbidden_by : (ℕ → Bool) → List (List ℕ) → Bool
-is_forbidden_by rule fields = option_map_or rule (option_and_then number_of (slice_get fields 1)) false
+-- The line is out of order: its form can't come at this position, or not for the peer in field 1.
+-- The rule about the peer applies only if the field is a number.
+abbrev pub is_out_of_order : {S F C : Type 0} → Rules S F C → S → F → List (List ℕ) → Bool
+is_out_of_order g d form fields = not (g.is_at d form) || option_map_or (g.is_out_of_turn d form) (option_and_then number_of (slice_get fields 1)) false
 
 -- The test passes, or this is the fault.
 abbrev pub pass_or : {C : Type 0} → C → Bool → Result (Unit {0}) C
@@ -56,7 +58,7 @@ bytes_in g d form fields = option_and_then (λ bytes. if g.fits d form (length b
 -- The tests of a line that has the form, in their order.
 unfoldable pub judge : {S F C : Type 0} → Rules S F C → S → F → List (List ℕ) → Result S C
 judge g d form fields =
-    if g.is_out_of_order d form fields then Err (g.cause Order) else do
+    if is_out_of_order g d form fields then Err (g.cause Order) else do
       ns ← some_or (g.cause Number) (numbers_of (g.pieces_of form) fields)
       range ← pass_or (g.cause Number) (g.is_in_range d form ns)
       peer ← pass_or (g.cause Peer) (g.is_its_peer d form ns)

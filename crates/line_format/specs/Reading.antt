@@ -17,11 +17,11 @@ abbrev pub Gives : {S C U : Type 0} → S → Result U (LineFault C) → Result 
 Gives now (Ok done) said = said ≡ Ok now
 Gives now (Err fault) said = Fails fault said
 
--- After a text that was read the value is `now`; otherwise this is its first fault, unless an
--- allocation failed.
-abbrev pub Reads : {S C U : Type 0} → S → Result U (TextFault C) → Result S (Wrong C) → Type 0
-Reads now (Ok done) said = said ≡ Ok now
-Reads now (Err texts.NoMemory) said = Unit {0}
-Reads now (Err (texts.At cause n)) said = said ≡ Err (At cause n)
-Reads now (Err (texts.After n)) said = said ≡ Err (After n)
-Reads now (Err texts.NoEnd) said = said ≡ Err NoEnd
+-- The draft of a text that was read has its value, through the view; otherwise this is the text's
+-- first fault, unless an allocation failed.
+abbrev pub Reads : {D S C : Type 0} → (D → S) → Result D (TextFault C) → Result S (Wrong C) → Type 0
+Reads view (Ok draft) said = said ≡ Ok (view draft)
+Reads view (Err texts.NoMemory) said = Unit {0}
+Reads view (Err (texts.At cause n)) said = said ≡ Err (At cause n)
+Reads view (Err (texts.After n)) said = said ≡ Err (After n)
+Reads view (Err texts.NoEnd) said = said ≡ Err NoEnd

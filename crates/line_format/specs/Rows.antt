@@ -51,3 +51,7 @@ flag_row set clear n false = row clear (n ∷ []) []
 abbrev pub numbered : {A F : Type 0} → (ℕ → A → Row F) → ℕ → List A → List (Row F)
 numbered row_of n [] = []
 numbered row_of n (item ∷ items) = row_of n item ∷ numbered row_of (n + 1) items
+
+-- A row for each flag, from number n on.
+abbrev pub flag_rows : {F : Type 0} → (set clear : F) → ℕ → List Bool → List (Row F)
+flag_rows set clear n flags = numbered (flag_row set clear) n flags

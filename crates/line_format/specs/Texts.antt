@@ -1,15 +1,18 @@
 -- Texts that a machine reads line by line: their answers, and the laws of all of them.
-use Rattle.std.specs.Prelude.{◌≡◌, ℕ, ◌+◌, ◌<◌, List, ◌++◌, length, take, Result, Ok, Err}
+use Rattle.std.specs.Prelude.{◌≡◌, ℕ, ◌+◌, ◌<◌, Bool, List, ◌++◌, length, take, Result, Ok, Err}
 use Rattle.line_format.specs.Forms.{cuts}
 use Rattle.line_format.specs.Machine.{Machine, Wrong, At, After, NoEnd, read, IsFirstWrong}
 
--- The value W of the lines of a whole text, and the fault E of a text.
+-- The value W of the lines of a whole text, and the fault E of a text. One of the faults is that of
+-- a failed allocation.
 pub record Sense (S C W E : Type 0) : Type 0 where
   pub start : S
   pub value : S → Result W E
   pub at : C → ℕ → E
   pub after : ℕ → E
   pub no_end : E
+  pub no_memory : E
+  pub is_no_memory : E → Bool
 
 abbrev pub fault_of : {S C W E : Type 0} → Sense S C W E → Wrong C → E
 fault_of s (At cause n) = s.at cause n
@@ -29,6 +32,10 @@ answer m s bytes = said s (read m s.start bytes)
 -- The spelling of a value is read as that value.
 abbrev pub SpelledIsRead : {S C W E : Type 0} → Machine S C → Sense S C W E → (W → List ℕ → Type 0) → Type 0
 SpelledIsRead {S} {C} {W} m s Spells = (w : W) (bytes : List ℕ) → Spells w bytes → answer m s bytes ≡ Ok w
+
+-- What is written for a value is read as that value.
+abbrev pub IsReadAgain : {X S C W E : Type 0} → Machine S C → Sense S C W E → (X → W) → (W → List ℕ) → Type 0
+IsReadAgain {X} m s world_of spelling = (x : X) → answer m s (spelling (world_of x)) ≡ Ok (world_of x)
 
 -- A text that is cut at any byte has no end.
 abbrev pub CutIsNoEnd : {S C W E : Type 0} → Machine S C → Sense S C W E → (W → List ℕ → Type 0) → Type 0

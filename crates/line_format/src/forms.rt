@@ -27,6 +27,12 @@ pub enum FieldKind {
     Hex,
 }
 
+/// The kind of a field that can be every number.
+pub const ANY: FieldKind = FieldKind::Number(0, u64::MAX);
+
+/// The kind of a field that is a number of 32 bits.
+pub const U32: FieldKind = FieldKind::Number(0, u32::MAX as u64);
+
 /// Returns the fields of a line, or `None` if there are more than six, the most of any form.
 pub fn fields<'a>(line: &'a [u8]) -> Option<ArrayVec<&'a [u8], 6>>
     ensures { MatchOption result (6 < length (fields_of line.now)) (λ v. texts v.items ≡ fields_of line.now) }

@@ -1,12 +1,11 @@
 //! A text as a table of forms and tests, and the taking of one line of it, for every such table.
-ghost use Rattle.std.specs.Prelude.{◌≡◌, ◌≤◌, ℕ, length, List, true, false, IfOk, option_map};
-ghost use Rattle.std.specs.List.{list_all};
-ghost use Rattle.line_format.specs.Forms.{pieces, texts, AreInRange, Piece};
+ghost use Rattle.std.specs.Prelude.{◌≡◌, ◌≤◌, length, true, false, IfOk, option_map};
+ghost use Rattle.line_format.specs.Forms.{pieces, texts, AreInRange};
 ghost use Rattle.line_format.specs.Rows.{find_form};
 ghost use Rattle.line_format.specs.Reading.{Gives};
-ghost use Rattle.line_format.specs.Grammar.{Rules, added, bytes_in, judge, machine_of, step};
+ghost use Rattle.line_format.specs.Grammar.{Rules, added, bytes_in, is_out_of_order, judge, machine_of, step};
 
-use crate::forms::{FieldKind, fields, has_form, hex_field, is_printable, numbers_in};
+use crate::forms::{FieldKind, fields, has_form, hex_field, is_printable, number_in, numbers_in};
 use crate::hex_digits::read_hex;
 use crate::reading::{LineFault, TakeLines};
 use std::alloc::{AllocError, Global};
@@ -56,9 +55,13 @@ pub trait Grammar {
     fn cause(test: Test) -> Self::Cause
         ensures { result ≡ rules.cause test };
 
-    /// Whether the form is forbidden at this position.
-    fn is_out_of_order(&self, form: Self::Form, fields: &[&[u8]]) -> bool
-        ensures { result ≡ rules.is_out_of_order (draft_view self.now) form (texts fields.now) };
+    /// Whether lines of the form can come at this position.
+    fn is_at(&self, form: Self::Form) -> bool
+        ensures { result ≡ rules.is_at (draft_view self.now) form };
+
+    /// Whether the form is forbidden at this position for peer `p`.
+    fn is_out_of_turn(&self, form: Self::Form, p: u64) -> bool
+        ensures { result ≡ rules.is_out_of_turn (draft_view self.now) form p };
 
     /// Whether the numbers, each in the form's own range, are in the ranges at this position.
     fn is_in_range(&self, form: Self::Form, numbers: &[u64]) -> bool
@@ -81,7 +84,7 @@ pub trait Grammar {
         numbers: &[u64],
         bytes: Vec<u8>,
     ) -> Result<(), LineFault<Self::Cause>>
-        requires order { rules.is_out_of_order (draft_view self.old) form (texts fields.now) ≡
+        requires order { is_out_of_order rules (draft_view self.old) form (texts fields.now) ≡
             false }
         requires limits { AreInRange (rules.pieces_of form) numbers.now }
         requires range { rules.is_in_range (draft_view self.old) form numbers.now ≡ true }
@@ -105,6 +108,19 @@ fn form_of<G: Grammar>(fields: &[&[u8]]) -> Option<G::Form>
         .iter()
         .copied()
         .find(|form| has_form(G::slots(*form), fields))
+}
+
+/// Whether the form can't come at this position, or not for the peer that the line names.
+fn is_out_of_order<G: Grammar>(draft: &G, form: G::Form, fields: &[&[u8]]) -> bool
+    ensures { result ≡ is_out_of_order G.rules (G.draft_view draft.now) form (texts fields.now) }
+{
+    if !draft.is_at(form) {
+        return true;
+    }
+    match number_in(fields, 1) {
+        None => false,
+        Some(p) => draft.is_out_of_turn(form, p),
+    }
 }
 
 /// Returns the bytes of the line, if its digits spell some that fit. Digits of a wrong number are
@@ -135,7 +151,7 @@ fn judge<G: Grammar>(
 ) -> Result<(), LineFault<G::Cause>>
     ensures { Gives (G.draft_view draft.new) result (judge G.rules (G.draft_view draft.old) form (texts fields.now)) }
 {
-    if draft.is_out_of_order(form, fields) {
+    if is_out_of_order(draft, form, fields) {
         return Err(LineFault::Wrong(G::cause(Test::Order)));
     }
     let Some(numbers) = numbers_in(G::slots(form), fields) else {
@@ -155,10 +171,10 @@ fn judge<G: Grammar>(
 
 /// Takes the next line, without its newline: the tests in their order, and the effect of the line.
 // claim with Grammar::forms, Grammar::slots.value, Grammar::slots.few, Grammar::cause,
-//    Grammar::is_out_of_order, Grammar::is_in_range, Grammar::is_its_peer, Grammar::fits,
-//    Grammar::add, Grammar::is_ended: For every table of forms a line is judged by the same tests
-//    in the same order: its form, its position, its numbers, its peer, its bytes, the sizes, the
-//    count. The first test that fails gives the fault.
+//    Grammar::is_at, Grammar::is_out_of_turn, Grammar::is_in_range, Grammar::is_its_peer,
+//    Grammar::fits, Grammar::add, Grammar::is_ended: For every table of forms a line is judged by
+//    the same tests in the same order: its form, its position, its numbers, its peer, its bytes,
+//    the sizes, the count. The first test that fails gives the fault.
 #[tactic(auto, unfolding(crate::specs::Grammar::step))]
 pub fn take_line<G: Grammar>(
     draft: &mut G,

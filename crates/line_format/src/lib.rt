@@ -16,6 +16,7 @@ mod grammar;
 mod hex_digits;
 mod line_tail;
 mod list;
+mod macros;
 mod numbers;
 mod reading;
 mod short_lines;
@@ -23,7 +24,8 @@ mod writing;
 
 pub use cuts::cut;
 pub use forms::{
-    FieldKind, fields, flag_at, has_form, hex_field, is_printable, number_at, number_in, numbers_in,
+    ANY, FieldKind, U32, fields, flag_at, has_form, hex_field, is_printable, number_at, number_in,
+    numbers_in,
 };
 pub use grammar::{Grammar, Test, take_line};
 pub use hex_digits::read_hex;
@@ -32,4 +34,4 @@ pub use list::List;
 pub use numbers::number;
 pub use reading::{LineFault, TakeLines, TextFault, read_text};
 pub use short_lines::{put_four, put_named, put_one, put_three, put_two, put_with_bytes};
-pub use writing::{put_flags, put_line};
+pub use writing::{HasRow, put_flags, put_line, put_rows};

@@ -1,6 +1,6 @@
 //! The tail of a line. It grows towards its front in a small buffer on the stack, so that the line
 //! is appended at once.
-ghost use Rattle.std.specs.Prelude.{◌≡◌, ℕ, ◌+◌, ◌*◌, ◌<◌, ◌≤◌, ◌^◌, ◌++◌, [], ◌∷◌, OnOk, length, decimal};
+ghost use Rattle.std.specs.Prelude.{◌≡◌, ℕ, ◌+◌, ◌*◌, ◌<◌, ◌≤◌, ◌++◌, [], ◌∷◌, OnOk, length, decimal};
 ghost use Rattle.hex.specs.Hex.{encode_lower};
 
 use itoa::write_digits;

@@ -1,7 +1,6 @@
 //! Reading a text line by line, for every kind of line.
 ghost use Rattle.std.specs.Prelude.{◌≡◌};
 ghost use Rattle.line_format.specs.declared.reading.LineFault.TheVariants.{NoMemory as OutOfMemory};
-ghost use Rattle.line_format.specs.Forms.{cuts};
 ghost use Rattle.line_format.specs.Machine.{Machine, read};
 ghost use Rattle.line_format.specs.Reading.{Gives, Reads};
 
@@ -77,17 +76,16 @@ pub trait TakeLines {
         ensures { result ≡ machine.ended (draft_view self.now) };
 }
 
-/// Takes each line of a text, up to its end. After an error the draft has the lines before the
-/// faulty one.
+/// Returns the draft with each line of a text, up to its end.
 // claim with TakeLines::take, TakeLines::has_ended: Each line of a text is taken up to its end. The
 //    first wrong line is named by its number from 1, bytes after the end by other_start, and a text
 //    without an end is refused.
-pub fn read_text<D: TakeLines>(
+pub fn read_text<D: TakeLines + Drop>(
     alloc: Global,
-    draft: &mut D,
+    mut draft: D,
     bytes: &[u8],
-) -> Result<(), TextFault<D::Cause>>
-    ensures { Reads (D.draft_view draft.new) result (read D.machine (D.draft_view draft.old) bytes.now) }
+) -> Result<D, TextFault<D::Cause>>
+    ensures { Reads D.draft_view result (read D.machine (D.draft_view draft) bytes.now) }
 {
     let mut rest = bytes;
     let mut number: u64 = 0;
@@ -99,7 +97,7 @@ pub fn read_text<D: TakeLines>(
         }
         if draft.has_ended() {
             if more.is_empty() {
-                return Ok(());
+                return Ok(draft);
             }
             return Err(TextFault::After(number + 2));
         }

@@ -1,7 +1,7 @@
 //! Writing a line of a form: its fields with a space between them, and a newline.
-ghost use Rattle.std.specs.Prelude.{◌≡◌, ◌++◌, [], ◌∷◌, OnOk, if◌then◌else◌};
-ghost use Rattle.line_format.specs.Forms.{pieces, spell, line_of, spaced};
-ghost use Rattle.line_format.specs.Rows.{flag_row, line_of_row, numbered, text_of};
+ghost use Rattle.std.specs.Prelude.{◌≡◌, ◌++◌, List, [], ◌∷◌, OnOk, map, if◌then◌else◌};
+ghost use Rattle.line_format.specs.Forms.{Piece, pieces, spell, line_of, spaced};
+ghost use Rattle.line_format.specs.Rows.{Row, flag_row, flag_rows, line_of_row, text_of};
 
 use crate::forms::FieldKind;
 use crate::grammar::Grammar;
@@ -98,10 +98,37 @@ pub fn put_flags<G: Grammar>(
     flags: &[bool],
 ) -> Result<(), AllocError>
     ensures { OnOk result (out.new.items ≡
-        out.old.items ++ text_of G.rules.pieces_of (numbered (flag_row set clear) 0 flags.now)) }
+        out.old.items ++ text_of G.rules.pieces_of (flag_rows set clear 0 flags.now)) }
 {
     for (number, flag) in flags.iter().enumerate() {
         put_flag::<G>(out, set, clear, number as u64, *flag)?;
+    }
+    Ok(())
+}
+
+/// A value that is one line of a text.
+pub trait HasRow {
+    /// The forms of the text's lines.
+    type Form;
+
+    ghost pieces_of: { Self.Form → List Piece };
+
+    ghost row_of: { Self → Row Self.Form };
+
+    /// Appends the line of the value.
+    fn put_row(&self, out: &mut Vec<u8>) -> Result<(), AllocError>
+        ensures { OnOk result (out.new.items ≡
+            out.old.items ++ line_of_row pieces_of (row_of self.now)) };
+}
+
+/// Appends the line of each value.
+// claim with HasRow::put_row: Each value is written as its line, in the order of the values.
+pub fn put_rows<R: HasRow>(out: &mut Vec<u8>, values: &[R]) -> Result<(), AllocError>
+    ensures { OnOk result (out.new.items ≡
+        out.old.items ++ text_of R.pieces_of (map R.row_of values.now)) }
+{
+    for value in values {
+        value.put_row(out)?;
     }
     Ok(())
 }

@@ -5,7 +5,7 @@ use Rattle.std.proofs.lemmas.Bool.{eqb-true, ltb-false}
 use Rattle.std.proofs.lemmas.List.{append-nil}
 use Rattle.std.proofs.lemmas.List.Elements.{All-nil}
 use Rattle.std.proofs.lemmas.List.Sums.{sum_by_push}
-use Rattle.line_format.specs.Rows.{Row, row}
+use Rattle.line_format.specs.Rows.{Row, row, flag_row, flag_rows}
 use Rattle.line_format.proofs.NumbersFit.{in_range, one_alone, same_row, the_number, no_number}
 use Rattle.line_format.proofs.ListLaws.{all_push}
 use Rattle.line_format.proofs.PartLaws.{then_row, rows_at, numbers-push, rows-push, still_fewer, next_number}
@@ -24,7 +24,6 @@ use Rattle.port_text.specs.declared.limits.TheConstants.{MOST_TURNS}
 use Rattle.port_text.specs.Acts.{cost, turns_of}
 use Rattle.port_text.specs.ActRows.{row_of_act}
 use Rattle.port_text.specs.Scenario.{World, IsAllowed}
-use Rattle.port_text.specs.Spelling.{row_of_peer, rows_of_peers}
 use Rattle.port_text.specs.Judge.{DraftView, world_of_draft, ordinal_of, position_of, rules}
 use Rattle.port_text.proofs.SizeTests.{HasPort, port_of}
 use Rattle.port_text.proofs.RowsOfActs.{act_row, act_of-row, act_gives, allowed_act}
@@ -44,7 +43,7 @@ abbrev sizes_rows : DraftView → List (Row Form)
 sizes_rows d = row Version (1 ∷ []) [] ∷ row Peers (d.peers ∷ []) [] ∷ row Out (d.out ∷ []) [] ∷ row Longest (d.most ∷ []) [] ∷ []
 
 abbrev pub rows_before : Position → DraftView → List (Row Form)
-rows_before s d = rows_at (sizes_rows d) (rows_of_peers 0 d.honest) (row Begin [] []) (map row_of_act d.acts) (row End [] []) (ordinal_of s)
+rows_before s d = rows_at (sizes_rows d) (flag_rows Honest Hostile 0 d.honest) (row Begin [] []) (map row_of_act d.acts) (row End [] []) (ordinal_of s)
 
 -- ---- the invariant of a position
 
@@ -94,10 +93,10 @@ keeps_act d at good a can =
 -- ---- peers
 
 -- The line of a peer adds its row. After the last peer `begin` comes next.
-adds_peer : (d : DraftView) (b : Bool) (r : Row Form) → d.position ≡ AtPeer → row_of_peer (length d.honest) b ≡ r → PositionHolds AtPeer d → (full : Bool) → eqb (length (d.honest ++ b ∷ [])) d.peers ≡ full
+adds_peer : (d : DraftView) (b : Bool) (r : Row Form) → d.position ≡ AtPeer → flag_row Honest Hostile (length d.honest) b ≡ r → PositionHolds AtPeer d → (full : Bool) → eqb (length (d.honest ++ b ∷ [])) d.peers ≡ full
     → Added d r (record d { position = cond full AtBegin AtPeer; honest = d.honest ++ b ∷ [] })
-adds_peer d b r at e good true is = record { rows = rw at (numbers-push (sizes_rows d) row_of_peer d.honest b r e); good = (good.0, good.1, eqb-true _ _ is) }
-adds_peer d b r at e good false is = record { rows = rw at (numbers-push (sizes_rows d) row_of_peer d.honest b r e); good = (good.0, good.1, still_fewer d.honest b d.peers good.2 is) }
+adds_peer d b r at e good true is = record { rows = rw at (numbers-push (sizes_rows d) (flag_row Honest Hostile) d.honest b r e); good = (good.0, good.1, eqb-true _ _ is) }
+adds_peer d b r at e good false is = record { rows = rw at (numbers-push (sizes_rows d) (flag_row Honest Hostile) d.honest b r e); good = (good.0, good.1, still_fewer d.honest b d.peers good.2 is) }
 
 -- ---- each form
 

@@ -1,20 +1,20 @@
 -- A value that is read is a schedule, and the text is its spelling.
 use Rattle.std.proofs.Common.{◌≡◌, ℕ, ◌*◌, ◌/◌, List, [], ◌∷◌, ◌++◌, map, Ok, refl, sym, ap, subst, ◌∙◌, arith}
-use Rattle.line_format.specs.Rows.{Row, row, text_of}
+use Rattle.line_format.specs.Rows.{Row, row, text_of, flag_rows}
 use Rattle.line_format.specs.Machine.{read}
 use Rattle.line_format.proofs.FormsOfRows.{same_place}
 use Rattle.line_format.proofs.RowTexts as all
 use Rattle.scenario_text.proofs.SizeTests.{is_geometry-true}
 use Rattle.scenario_text.proofs.ReadIsSpelled.{whole_pages, shape_is}
 use Rattle.port_text.specs.declared.forms.Form.{Form}
-use Rattle.port_text.specs.declared.forms.Form.TheVariants.{Version, Peers, Out, Longest, Begin, End}
+use Rattle.port_text.specs.declared.forms.Form.TheVariants.{Version, Peers, Out, Longest, Begin, End, Honest, Hostile}
 use Rattle.port_text.specs.declared.positions.Position.{Position}
 use Rattle.port_text.specs.declared.positions.Position.TheVariants.{Ended}
 use Rattle.port_text.specs.Drafts.{IsWhole}
 use Rattle.port_text.specs.Table.{pieces_of}
 use Rattle.port_text.specs.ActRows.{row_of_act}
 use Rattle.port_text.specs.Scenario.{World, IsWorld}
-use Rattle.port_text.specs.Spelling.{rows_of_peers, rows_of, spelling, IsSpelling}
+use Rattle.port_text.specs.Spelling.{rows_of, spelling, IsSpelling}
 use Rattle.port_text.specs.Judge.{DraftView, world_of_draft, ordinal_of, at_start, rules, machine}
 use Rattle.port_text.proofs.FormsAreTable.{is_table}
 use Rattle.port_text.proofs.PositionInvariant.{PositionHolds, rows_before, are_kept, positions, listed}
@@ -41,7 +41,7 @@ is_world e good =
 pub rows_are : (e : DraftView) → PositionHolds Ended e → rows_before Ended e ≡ rows_of (world_of_draft e)
 rows_are e good =
     let o : 4 * (e.out / 4) ≡ e.out = whole_pages e.out good.0.region.out_pages.1 in
-    let peers : List (Row Form) = rows_of_peers 0 e.honest in
+    let peers : List (Row Form) = flag_rows Honest Hostile 0 e.honest in
     let head : (row Version (1 ∷ []) [] ∷ row Peers (e.peers ∷ []) [] ∷ row Out (e.out ∷ []) [] ∷ row Longest (e.most ∷ []) [] ∷ peers)
     ≡ (row Version (1 ∷ []) [] ∷ row Peers (e.peers ∷ []) [] ∷ row Out (4 * (e.out / 4) ∷ []) [] ∷ row Longest (e.most ∷ []) [] ∷ peers) = rw o refl in
     ap (λ (rs : List (Row Form)). rs ++ row Begin [] [] ∷ [] ++ map row_of_act e.acts ++ row End [] [] ∷ []) head

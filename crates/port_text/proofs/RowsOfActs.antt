@@ -8,6 +8,7 @@ use Rattle.line_format.proofs.NumbersFit.{counted, list_1, list_2, list_3, same_
 use Rattle.line_format.proofs.PartLaws.{no_rule}
 use Rattle.line_format.proofs.RowsFollow.{CanFollow, with_row}
 use Rattle.line_format.proofs.RowTexts.{HasItem}
+use Rattle.line_format.specs.Grammar.{is_out_of_order}
 use Rattle.port_text.specs.declared.acts.Act.{Act}
 use Rattle.port_text.specs.declared.acts.Act.TheVariants as acts
 use Rattle.port_text.specs.declared.forms.Form.{Form}
@@ -18,7 +19,7 @@ use Rattle.port_text.specs.Acts.{cost, turns_of}
 use Rattle.port_text.specs.Table.{pieces_of}
 use Rattle.port_text.specs.ActRows.{row_of_act}
 use Rattle.port_text.specs.Scenario.{IsAllowed}
-use Rattle.port_text.specs.Judge.{DraftView, world_of_draft, is_out_of_order, act_of, is_act, fits_sizes, with_act, rules}
+use Rattle.port_text.specs.Judge.{DraftView, world_of_draft, act_of, is_act, fits_sizes, with_act, rules}
 
 -- Each row of an act form has an act.
 pub act_row : (form : Form) (ns bytes : List ℕ) → is_act form ≡ true → Fit (pieces_of form) ns → FitBytes (pieces_of form) bytes → HasItem row_of_act (row form ns bytes)
@@ -47,7 +48,7 @@ sizes_fit d (acts.Turn p k) = refl
 sizes_fit d (acts.Poke p word value) = refl
 
 -- In the position after `begin` each act is in order.
-order_is : (d : DraftView) (a : Act) → d.position ≡ AtActs → is_out_of_order d (row_of_act a).form (fields_of_row pieces_of (row_of_act a)) ≡ false
+order_is : (d : DraftView) (a : Act) → d.position ≡ AtActs → is_out_of_order rules d (row_of_act a).form (fields_of_row pieces_of (row_of_act a)) ≡ false
 order_is d (acts.Publish p message) at = rw at (no_rule _)
 order_is d (acts.Sample p from) at = rw at (no_rule _)
 order_is d (acts.Turn p k) at = rw at (no_rule _)

@@ -2,7 +2,7 @@
 use Rattle.std.proofs.Common.{mul-le-mul_right, ◌≡◌, ℕ, ◌-◌, ◌*◌, ◌^◌, ◌<◌, ◌≤◌, Bool, true, false, cond, eqb, List, [], ◌∷◌, ◌++◌, length, Ok, refl, sym, ap, subst, arith, eq-eqb}
 use Rattle.std.specs.Prelude.{All}
 use Rattle.std.proofs.lemmas.Bool.{ne_eqb}
-use Rattle.line_format.specs.Rows.{row}
+use Rattle.line_format.specs.Rows.{row, flag_row, flag_rows}
 use Rattle.line_format.proofs.ListLaws.{all_at, sum_up_to}
 use Rattle.line_format.proofs.PartLaws.{no_rule, IsNext}
 use Rattle.line_format.proofs.TestChains.{neither}
@@ -11,7 +11,7 @@ use Rattle.line_format.proofs.RowTexts.{Along, Joins, EachJoins, Reaches, flags_
 use Rattle.scenario_text.proofs.SizeTests.{HasRegion, is_geometry-true}
 use Rattle.scenario_text.proofs.SpelledIsRead.{quarter, region_of}
 use Rattle.port_text.specs.declared.acts.Act.{Act}
-use Rattle.port_text.specs.declared.forms.Form.TheVariants.{Begin, End}
+use Rattle.port_text.specs.declared.forms.Form.TheVariants.{Begin, End, Honest, Hostile}
 use Rattle.port_text.specs.declared.positions.Position.{Position}
 use Rattle.port_text.specs.declared.positions.Position.TheVariants.{AtPeer, AtBegin, AtActs, Ended}
 use Rattle.port_text.specs.Sizes.{has_port}
@@ -19,9 +19,8 @@ use Rattle.port_text.specs.declared.limits.TheConstants.{MOST_TURNS}
 use Rattle.port_text.specs.Acts.{cost}
 use Rattle.port_text.specs.ActRows.{row_of_act}
 use Rattle.port_text.specs.Scenario.{World, IsWorld, IsAllowed}
-use Rattle.port_text.specs.Spelling.{row_of_peer, rows_of_peers, sizes_rows, rows_of, IsSpelling}
+use Rattle.port_text.specs.Spelling.{sizes_rows, rows_of, IsSpelling, line_count}
 use Rattle.port_text.specs.Judge.{DraftView, world_of_draft, ordinal_of, at_start, rules, machine, sense}
-use Rattle.port_text.specs.Laws.{line_count}
 use Rattle.port_text.proofs.FormsAreTable.{is_table}
 use Rattle.port_text.proofs.SizeTests.{has_port-true}
 use Rattle.port_text.proofs.RowsOfActs.{act_gives, follows_act}
@@ -69,7 +68,7 @@ head_along w is =
     grows : (p n : ℕ) → 1 ≤ p → n ≤ p * n
     grows p n le = let one : 1 * n ≤ p * n = mul-le-mul_right n le in omega arith
 
-peer_joins : (w : World) (front : List Bool) (b : Bool) → length front ≤ 2 ^ 64 - 1 → eqb (length front) w.geometry.peers ≡ false → IsNext (length front) → Joins rules (at_peers w) row_of_peer front b
+peer_joins : (w : World) (front : List Bool) (b : Bool) → length front ≤ 2 ^ 64 - 1 → eqb (length front) w.geometry.peers ≡ false → IsNext (length front) → Joins rules (at_peers w) (flag_row Honest Hostile) front b
 peer_joins w front true small more next = record { follows = record { values = (omega arith, small, tt); bytes = refl; order = rw more next; range = refl; peer = refl; size = refl; sizes = refl; room = refl }; gives = refl; continues = neither (λ p. eqb (ordinal_of p) 7) AtBegin AtPeer _ refl refl }
 peer_joins w front false small more next = record { follows = record { values = (omega arith, small, tt); bytes = refl; order = rw more next; range = refl; peer = refl; size = refl; sizes = refl; room = refl }; gives = refl; continues = neither (λ p. eqb (ordinal_of p) 7) AtBegin AtPeer _ refl refl }
 
@@ -96,9 +95,9 @@ spelled_reaches : (w : World) → IsWorld w → Reaches rules at_start (rows_of 
 spelled_reaches w is =
     let full : eqb (length w.honest) w.geometry.peers ≡ true = eq-eqb _ _ is.flags in
     let begins : Along rules (at_peers w w.honest) (row Begin [] [] ∷ []) (so_far w AtActs w.honest []) = (record { values = tt; bytes = refl; order = rw full refl; range = refl; peer = refl; size = refl; sizes = refl; room = refl }, refl, refl) in
-    let peers = flags_join rules (at_peers w) row_of_peer w.honest w.geometry.peers is.flags is.few (peer_joins w) in
-    mapped_reach rules at_start ((sizes_rows w ++ rows_of_peers 0 w.honest) ++ row Begin [] [] ∷ []) (so_far w AtActs w.honest) row_of_act w.acts (row End [] []) (at_end w)
-    (numbered_then rules at_start (sizes_rows w) (at_peers w) row_of_peer w.honest (row Begin [] []) (so_far w AtActs w.honest []) (head_along w is) peers begins)
+    let peers = flags_join rules (at_peers w) (flag_row Honest Hostile) w.honest w.geometry.peers is.flags is.few (peer_joins w) in
+    mapped_reach rules at_start ((sizes_rows w ++ flag_rows Honest Hostile 0 w.honest) ++ row Begin [] [] ∷ []) (so_far w AtActs w.honest) row_of_act w.acts (row End [] []) (at_end w)
+    (numbered_then rules at_start (sizes_rows w) (at_peers w) (flag_row Honest Hostile) w.honest (row Begin [] []) (so_far w AtActs w.honest []) (head_along w is) peers begins)
     (acts_join w is) (record { values = tt; bytes = refl; order = refl; range = refl; peer = refl; size = refl; sizes = refl; room = refl }) refl refl
 
 pub is_forward : IsForward machine sense IsSpelling line_count

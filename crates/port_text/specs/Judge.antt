@@ -1,9 +1,9 @@
 -- Reading line by line: the effect of a line, and the fault of a faulty one.
-use Rattle.std.specs.Prelude.{ℕ, ◌+◌, ◌==◌, ◌||◌, not, nat_lt, if◌then◌else◌, Bool, true, false, List, [], ◌∷◌, ◌++◌, length, slice_index, Option, Some, None, Result, Ok}
+use Rattle.std.specs.Prelude.{ℕ, ◌+◌, ◌==◌, not, nat_lt, if◌then◌else◌, Bool, true, false, List, [], ◌∷◌, ◌++◌, length, slice_index, Option, Some, None, Result, Ok}
 use Rattle.line_format.specs.declared.grammar.Test.{Test}
 use Rattle.line_format.specs.declared.grammar.Test.TheVariants.{Line, Order, Number, Peer, Bytes, Sizes, Count}
 use Rattle.line_format.specs.Machine.{Machine}
-use Rattle.line_format.specs.Grammar.{Rules, is_forbidden_by, machine_of}
+use Rattle.line_format.specs.Grammar.{Rules, machine_of}
 use Rattle.line_format.specs.Texts as texts
 use Rattle.line_format.specs.Texts.{Sense}
 use Rattle.scenario_text.specs.Sizes.{is_geometry}
@@ -65,11 +65,6 @@ abbrev pub is_out_of_turn : DraftView → Form → ℕ → Bool
 is_out_of_turn d Honest p = not (p == length d.honest)
 is_out_of_turn d Hostile p = not (p == length d.honest)
 is_out_of_turn d _ p = false
-
--- The line is out of order at this position; the rule about a peer applies only if the peer's field
--- is a number.
-abbrev pub is_out_of_order : DraftView → Form → List (List ℕ) → Bool
-is_out_of_order d form fields = not (ordinal_of (position_of form) == ordinal_of d.position) || is_forbidden_by (is_out_of_turn d form) fields
 
 -- BadGeometry
 
@@ -157,7 +152,8 @@ rules = record {
   pieces_of = pieces_of;
   forms = all_forms;
   cause = cause;
-  is_out_of_order = is_out_of_order;
+  is_at = λ d form. ordinal_of (position_of form) == ordinal_of d.position;
+  is_out_of_turn = is_out_of_turn;
   is_in_range = λ d form ns. is_in_range (world_of_draft d) form ns;
   is_its_peer = λ d form ns. is_its_peer (world_of_draft d) form ns;
   fits = λ d form size. is_message_length (world_of_draft d) form size;
@@ -181,9 +177,13 @@ fault_at BadMessage n = faults.BadMessage n
 fault_at BadGeometry n = faults.BadGeometry n
 fault_at TooManyTurns n = faults.TooManyTurns n
 
+abbrev pub is_no_memory : PortsFault → Bool
+is_no_memory faults.NoMemory = true
+is_no_memory _ = false
+
 -- Bytes after the end are a faulty line.
 abbrev pub sense : Sense DraftView Cause World PortsFault
-sense = record { start = at_start; value = λ d. Ok (world_of_draft d); at = fault_at; after = λ n. faults.BadLine n; no_end = faults.NoEnd }
+sense = record { start = at_start; value = λ d. Ok (world_of_draft d); at = fault_at; after = λ n. faults.BadLine n; no_end = faults.NoEnd; no_memory = faults.NoMemory; is_no_memory = is_no_memory }
 
 -- The schedule that a text spells, or its first fault.
 abbrev pub answer : List ℕ → Result World PortsFault

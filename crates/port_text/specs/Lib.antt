@@ -6,6 +6,4 @@ pub mod Scenario
 pub mod Props
 pub mod Spelling
 pub mod Judge
-pub mod Answers
 pub mod Drafts
-pub mod Laws

@@ -1,7 +1,7 @@
 -- Schedules of ports as texts: the rows of a schedule, one line each. So a schedule has one
 -- spelling.
-use Rattle.std.specs.Prelude.{◌≡◌, ℕ, ◌*◌, Bool, List, [], ◌∷◌, ◌++◌, map}
-use Rattle.line_format.specs.Rows.{Row, row, text_of, flag_row, numbered}
+use Rattle.std.specs.Prelude.{◌≡◌, ℕ, ◌*◌, List, [], ◌∷◌, ◌++◌, length, map}
+use Rattle.line_format.specs.Rows.{Row, row, text_of, flag_rows}
 use Rattle.port_text.specs.declared.forms.Form.{Form}
 use Rattle.port_text.specs.declared.forms.Form.TheVariants.{Version, Peers, Out, Longest, Honest, Hostile, Begin, End}
 use Rattle.port_text.specs.declared.scenarios.Scenario.{Scenario}
@@ -12,13 +12,6 @@ use Rattle.port_text.specs.Scenario.{World, IsWorld}
 -- The value of the schedule.
 abbrev pub world_of : Scenario → World
 world_of s = record { geometry = s.geometry; most = s.most; honest = s.honest; acts = s.acts }
-
-abbrev pub row_of_peer : ℕ → Bool → Row Form
-row_of_peer p is_honest = flag_row Honest Hostile p is_honest
-
--- The peers in their order, from p on.
-abbrev pub rows_of_peers : ℕ → List Bool → List (Row Form)
-rows_of_peers p honest = numbered row_of_peer p honest
 
 -- The version and the sizes, in bytes.
 abbrev pub sizes_rows : World → List (Row Form)
@@ -31,7 +24,11 @@ sizes_rows w =
 
 -- The sizes, the peers, `begin`, the acts, `end`.
 abbrev pub rows_of : World → List (Row Form)
-rows_of w = sizes_rows w ++ rows_of_peers 0 w.honest ++ row Begin [] [] ∷ [] ++ map row_of_act w.acts ++ row End [] [] ∷ []
+rows_of w = sizes_rows w ++ flag_rows Honest Hostile 0 w.honest ++ row Begin [] [] ∷ [] ++ map row_of_act w.acts ++ row End [] [] ∷ []
+
+-- The number of lines of the text.
+abbrev pub line_count : World → ℕ
+line_count w = length (rows_of w)
 
 -- The one text of a schedule.
 abbrev pub spelling : World → List ℕ

@@ -1,5 +1,5 @@
 //! The value of the lines so far.
-ghost use Rattle.std.specs.Prelude.{◌≡◌, ◌≤◌, ◌^◌};
+ghost use Rattle.std.specs.Prelude.{◌≡◌, ◌≤◌};
 ghost use Rattle.section_map.specs.declared.limits.TheConstants.{LARGEST_REGION};
 ghost use Rattle.port_text.specs.declared.limits.TheConstants.{MOST_TURNS};
 ghost use Rattle.port_text.specs.Acts.{turns_of};

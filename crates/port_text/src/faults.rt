@@ -1,9 +1,9 @@
 //! The faults of a text of ports.
 ghost use Rattle.std.specs.Prelude.{◌≡◌};
-ghost use Rattle.port_text.specs.Judge.{fault_at};
-ghost use Rattle.port_text.specs.Answers.{fault_of_text};
+ghost use Rattle.line_format.specs.Answers.{fault_of_text};
+ghost use Rattle.port_text.specs.Judge.{fault_at, sense};
 
-use line_format::TextFault;
+use line_format::{TextFault, fault_of_text};
 use thiserror::Error;
 
 /// The fault of a line: the first of these that applies, in this order.
@@ -78,15 +78,9 @@ pub enum PortsFault {
 }
 
 impl From<TextFault<Cause>> for PortsFault {
-    ghost from_gives = { λ fault result. result ≡ fault_of_text fault };
+    ghost from_gives = { λ fault result. result ≡ fault_of_text sense fault };
 
-    /// Returns the fault of the text. Bytes after the end are a line that matches no form.
     fn from(fault: TextFault<Cause>) -> PortsFault {
-        match fault {
-            TextFault::NoMemory => PortsFault::NoMemory,
-            TextFault::At(cause, line) => cause.at(line),
-            TextFault::After(line) => PortsFault::BadLine(line),
-            TextFault::NoEnd => PortsFault::NoEnd,
-        }
+        fault_of_text!(fault, PortsFault)
     }
 }

@@ -4,7 +4,7 @@ ghost use Rattle.line_format.specs.Forms.{pieces};
 ghost use Rattle.port_text.specs.Table.{pieces_of};
 
 use crate::limits::MOST_TURNS;
-use line_format::FieldKind;
+use line_format::{ANY, FieldKind, U32};
 
 /// A form of a line. Two words at one position make two forms.
 #[derive(Clone, Copy, Debug, PartialEq, Eq)]
@@ -49,10 +49,6 @@ pub const FORMS: [Form; 12] = [
     Form::Poke,
     Form::End,
 ];
-
-const ANY: FieldKind = FieldKind::Number(0, u64::MAX);
-
-const U32: FieldKind = FieldKind::Number(0, u32::MAX as u64);
 
 impl Form {
     /// Returns the fields of the form.

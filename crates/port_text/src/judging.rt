@@ -1,33 +1,23 @@
 //! The parts of the tests of a line, and the act of a line.
-ghost use Rattle.std.specs.Prelude.{◌≡◌, ◌<◌, ◌≤◌, ◌^◌, length, slice_index, slice_index_or, false, IsTrue};
+ghost use Rattle.std.specs.Prelude.{◌≡◌, ◌<◌, slice_index, IsTrue};
 ghost use Rattle.line_format.specs.Forms.{AreInRange};
 ghost use Rattle.section_map.specs.Geometry.{word_count};
 ghost use Rattle.scenario_text.specs.Sizes.{is_geometry};
 ghost use Rattle.port_text.specs.Sizes.{ports_shape, has_port};
 ghost use Rattle.port_text.specs.Table.{pieces_of};
 ghost use Rattle.port_text.specs.Scenario.{is_honest, is_peer, is_hostile};
-ghost use Rattle.port_text.specs.Judge.{world_of_draft, is_out_of_turn, fits_sizes, act_of, is_act, is_sample};
+ghost use Rattle.port_text.specs.Judge.{world_of_draft, fits_sizes, act_of, is_act, is_sample};
 ghost use Rattle.port_text.specs.Drafts.{draft_view};
 
 use crate::acts::{Act, Message};
 use crate::drafts::Draft;
 use crate::forms::Form;
 use crate::limits::LONGEST_MESSAGE;
-use line_format::{flag_at, number_at};
+use line_format::{by_numbers, flag_at, number_at};
 use section_map::{Geometry, PAGE};
 
 /// The size of the region's State Table, in bytes: one page.
 pub const TABLE: u32 = PAGE;
-
-/// Whether the order rules about peer `p` forbid the line here.
-pub fn is_out_of_turn(draft: &Draft, form: Form, p: u64) -> bool
-    ensures { result ≡ is_out_of_turn (draft_view draft.now) form p }
-{
-    match form {
-        Form::Honest | Form::Hostile => p != draft.honest.items().len() as u64,
-        _ => false,
-    }
-}
 
 /// Returns the number of words of the region.
 pub fn words(draft: &Draft) -> u64
@@ -87,24 +77,15 @@ pub fn act_of(form: Form, numbers: &[u64], message: Message) -> Option<Act>
     requires from { IsTrue (is_sample form) → slice_index numbers.now 1 < 8 }
     ensures value { result ≡ act_of form numbers.now message }
 {
-    match form {
+    by_numbers!((form, numbers) Form => Act {
+        Sample(peer: 0, from: 1),
+        Turn(peer: 0, steps: 1),
+        Poke(peer: 0, word: 1, value: 2),
+    } else {
         Form::Publish => Some(Act::Publish {
             peer: number_at(numbers, 0) as u32,
             message,
         }),
-        Form::Sample => Some(Act::Sample {
-            peer: number_at(numbers, 0) as u32,
-            from: number_at(numbers, 1) as u32,
-        }),
-        Form::Turn => Some(Act::Turn {
-            peer: number_at(numbers, 0) as u32,
-            steps: number_at(numbers, 1) as u32,
-        }),
-        Form::Poke => Some(Act::Poke {
-            peer: number_at(numbers, 0) as u32,
-            word: number_at(numbers, 1) as u32,
-            value: number_at(numbers, 2) as u32,
-        }),
         _ => None,
-    }
+    })
 }

@@ -1,5 +1,5 @@
 //! Writing a text of ports.
-ghost use Rattle.std.specs.Prelude.{◌≡◌, ◌++◌, OnOk, map};
+ghost use Rattle.std.specs.Prelude.{◌≡◌, ◌++◌, OnOk};
 ghost use Rattle.line_format.specs.Rows.{row, line_of_row, text_of};
 ghost use Rattle.port_text.specs.Table.{pieces_of};
 ghost use Rattle.port_text.specs.ActRows.{row_of_act};
@@ -9,7 +9,7 @@ use crate::acts::Act;
 use crate::drafts::Draft;
 use crate::forms::Form;
 use crate::scenarios::Scenario;
-use line_format::{put_flags, put_line};
+use line_format::{HasRow, put_flags, put_line, put_numbers, put_rows};
 use std::alloc::AllocError;
 
 /// Appends the line of a form.
@@ -20,41 +20,24 @@ fn put(out: &mut Vec<u8>, form: Form, numbers: &[u64], bytes: &[u8]) -> Result<(
     put_line(out, form.slots(), numbers, bytes)
 }
 
-fn put_act(out: &mut Vec<u8>, act: &Act) -> Result<(), AllocError>
-    ensures { OnOk result (out.new.items ≡ out.old.items ++ line_of_row pieces_of (row_of_act act.now)) }
-{
-    match act {
-        Act::Publish { peer, message } => {
-            put(out, Form::Publish, &[u64::from(*peer)], message.bytes())
-        }
-        Act::Sample { peer, from } => put(
-            out,
-            Form::Sample,
-            &[u64::from(*peer), u64::from(*from)],
-            &[],
-        ),
-        Act::Turn { peer, steps } => put(
-            out,
-            Form::Turn,
-            &[u64::from(*peer), u64::from(*steps)],
-            &[],
-        ),
-        Act::Poke { peer, word, value } => put(
-            out,
-            Form::Poke,
-            &[u64::from(*peer), u64::from(*word), u64::from(*value)],
-            &[],
-        ),
-    }
-}
+impl HasRow for Act {
+    type Form = Form;
 
-fn put_acts(out: &mut Vec<u8>, acts: &[Act]) -> Result<(), AllocError>
-    ensures { OnOk result (out.new.items ≡ out.old.items ++ text_of pieces_of (map row_of_act acts.now)) }
-{
-    for act in acts {
-        put_act(out, act)?;
+    ghost pieces_of = { pieces_of };
+
+    ghost row_of = { row_of_act };
+
+    fn put_row(&self, out: &mut Vec<u8>) -> Result<(), AllocError> {
+        put_numbers!((put, out, self) Act => Form {
+            Sample(peer, from),
+            Turn(peer, steps),
+            Poke(peer, word, value),
+        } else {
+            Act::Publish { peer, message } => {
+                put(out, Form::Publish, &[u64::from(*peer)], message.bytes())
+            }
+        })
     }
-    Ok(())
 }
 
 /// Appends the lines up to the sizes.
@@ -77,7 +60,7 @@ pub fn put_scenario(out: &mut Vec<u8>, scenario: &Scenario) -> Result<(), AllocE
     put_sizes(out, scenario)?;
     put_flags::<Draft>(out, Form::Honest, Form::Hostile, scenario.honest.items())?;
     put(out, Form::Begin, &[], &[])?;
-    put_acts(out, scenario.acts.items())?;
+    put_rows(out, scenario.acts.items())?;
     put(out, Form::End, &[], &[])?;
     Ok(())
 }

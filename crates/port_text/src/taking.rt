@@ -5,21 +5,59 @@ ghost use Rattle.line_format.specs.Forms.{AreInRange};
 ghost use Rattle.port_text.specs.declared.limits.TheConstants.{MOST_TURNS};
 ghost use Rattle.port_text.specs.Table.{pieces_of};
 ghost use Rattle.port_text.specs.Acts.{cost};
-ghost use Rattle.port_text.specs.Judge.{DraftView, add_head, with_act, with_peer, fits_sizes, rules};
-ghost use Rattle.port_text.specs.Drafts.{draft_view};
+ghost use Rattle.port_text.specs.Judge.{DraftView, add_head, with_act, with_peer, fits_sizes, rules, world_of_draft, at_start};
+ghost use Rattle.port_text.specs.Drafts.{draft_view, IsWhole};
+ghost use Rattle.port_text.specs.Spelling.{world_of};
 
-use crate::acts::{Act, Message};
+use crate::acts::{Act, Acts, Message};
 use crate::drafts::Draft;
 use crate::faults::Cause;
 use crate::forms::{FORMS, Form};
-use crate::judging::{act_of, fits_sizes, is_honest, is_hostile, is_out_of_turn, is_peer, words};
+use crate::judging::{TABLE, act_of, fits_sizes, is_honest, is_hostile, is_peer, words};
 use crate::limits::MOST_TURNS;
 use crate::positions::Position;
+use crate::scenarios::Scenario;
 use ivs_base::NoMemory;
-use line_format::{FieldKind, Grammar, LineFault, Test, number_at, number_in};
+use line_format::{FieldKind, Grammar, LineFault, Test, number_at};
+use scenario_text::{Flags, region};
 use std::alloc::Global;
 
 impl Draft {
+    /// Returns the draft of a text before its first line.
+    pub fn new(alloc: Global) -> Draft
+        ensures { draft_view result ≡ at_start }
+    {
+        Draft {
+            position: Position::AtVersion,
+            peers: 0,
+            out: 0,
+            most: 0,
+            honest: Flags::new(alloc),
+            acts: Acts::new(alloc),
+            turns: 0,
+        }
+    }
+
+    /// Returns the value of the lines up to the end.
+    pub fn finish(self) -> Scenario
+        requires { IsWhole (draft_view self) }
+        ensures { world_of result ≡ world_of_draft (draft_view self) }
+    {
+        let geometry = region(self.peers, TABLE, 0, self.out);
+        let Draft {
+            most,
+            honest,
+            acts,
+            ..
+        } = self;
+        Scenario {
+            geometry,
+            most,
+            honest,
+            acts,
+        }
+    }
+
     fn push_peer(&mut self, is_honest: bool) -> Result<(), NoMemory>
         ensures { OnOk result (draft_view self.new ≡ with_peer is_honest (draft_view self.old)) }
     {
@@ -106,13 +144,14 @@ impl Grammar for Draft {
         }
     }
 
-    fn is_out_of_order(&self, form: Form, fields: &[&[u8]]) -> bool {
-        if Position::of(form) != self.position {
-            return true;
-        }
-        match number_in(fields, 1) {
-            None => false,
-            Some(p) => is_out_of_turn(self, form, p),
+    fn is_at(&self, form: Form) -> bool {
+        Position::of(form) == self.position
+    }
+
+    fn is_out_of_turn(&self, form: Form, p: u64) -> bool {
+        match form {
+            Form::Honest | Form::Hostile => p != self.honest.items().len() as u64,
+            _ => false,
         }
     }
 

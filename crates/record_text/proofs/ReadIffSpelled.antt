@@ -6,16 +6,16 @@ use Rattle.line_format.specs.Reading.{Reads}
 use Rattle.lawful_history.specs.declared.line.Line.{Line}
 use Rattle.scenario_text.specs.Scenario.{World}
 use Rattle.scenario_text.specs.Judge.{DraftView, at_start, world_of_draft}
+use Rattle.line_format.proofs.AnswerLaws.{refuses}
 use Rattle.record_text.specs.declared.drafts.RecordPosition.{RecordPosition}
 use Rattle.record_text.specs.declared.drafts.RecordPosition.TheVariants.{AtFirst, AtScenario, AtHistory, Ended}
 use Rattle.record_text.specs.declared.faults.RecordCause.{RecordCause}
 use Rattle.record_text.specs.declared.faults.RecordFault.{RecordFault}
 use Rattle.record_text.specs.declared.trace.Trace.{Trace}
 use Rattle.record_text.specs.Spelling.{Record, IsSpelling}
-use Rattle.record_text.specs.Judge.{Part, Whole, reading}
+use Rattle.record_text.specs.Judge.{Part, Whole, reading, sense}
 use Rattle.record_text.specs.Drafts.{part_at}
 use Rattle.record_text.specs.Answers.{Refuses, Answers, fault_of_text}
-use Rattle.record_text.proofs.FaultResults.{refuses}
 use Rattle.record_text.proofs.SpelledIsRead.{is_answered}
 use Rattle.record_text.proofs.ReadIsSpelled.{Reads as HasSpelling, is_read}
 
@@ -48,6 +48,6 @@ is_spelled position version head lines bytes r is same = subst (λ (x : Record).
 pub only_ok : (bytes : List ℕ) (said r : Record) → IsSpelling said bytes → IsSpelling r bytes → ◌≡◌ {A = Result Record RecordFault} (Ok r) (Ok said)
 only_ok bytes said r is spelled = sym (is_answered r bytes spelled) ∙ is_answered said bytes is
 
-pub only_err : (bytes : List ℕ) (part : Part) (fault : TextFault RecordCause) (result : Result Trace RecordFault) → IsErrAnd result (λ e. e ≡ fault_of_text fault) → Reads {U = Unit {0}} part (Err fault) (reading bytes) → (r : Record) → IsSpelling r bytes → Answers result (Ok r)
-only_err bytes part fault (Ok trace) gives is r spelled = absurd gives
-only_err bytes part fault (Err e) gives is r spelled = rw gives (subst (λ (said : Result Record RecordFault). Refuses (fault_of_text fault) said) (is_answered r bytes spelled) (refuses part fault (reading bytes) is))
+pub only_err : {D : Type 0} (bytes : List ℕ) (view : D → Part) (fault : TextFault RecordCause) (result : Result Trace RecordFault) → IsErrAnd result (λ e. e ≡ fault_of_text fault) → Reads view (Err fault) (reading bytes) → (r : Record) → IsSpelling r bytes → Answers result (Ok r)
+only_err bytes view fault (Ok trace) gives is r spelled = absurd gives
+only_err bytes view fault (Err e) gives is r spelled = rw gives (subst (λ (said : Result Record RecordFault). Refuses (fault_of_text fault) said) (is_answered r bytes spelled) (refuses sense refl view fault (reading bytes) is))

@@ -17,6 +17,7 @@ use Rattle.scenario_text.specs.declared.faults.Cause.{Cause}
 use Rattle.scenario_text.specs.Scenario.{World}
 use Rattle.scenario_text.specs.Judge as scenario_judge
 use Rattle.scenario_text.specs.Judge.{DraftView, at_start, world_of_draft}
+use Rattle.line_format.proofs.AnswerLaws.{refuses}
 use Rattle.record_text.specs.declared.drafts.RecordPosition.{RecordPosition}
 use Rattle.record_text.specs.declared.drafts.RecordPosition.TheVariants.{AtFirst, AtScenario, AtHistory, Ended}
 use Rattle.record_text.specs.declared.faults.RecordCause.{RecordCause}
@@ -28,15 +29,14 @@ use Rattle.record_text.specs.Growing.{history_text}
 use Rattle.record_text.specs.Positions.{is_before_history}
 use Rattle.record_text.specs.Drafts.{part_at}
 use Rattle.record_text.specs.Judge as parts
-use Rattle.record_text.specs.Judge.{Part, InHistory, Whole, is_whole, History, Longer, Counted, after_first, after_scenario, history_step, with_world, step, machine, reading, answer}
+use Rattle.record_text.specs.Judge.{Part, InHistory, Whole, is_whole, History, Longer, Counted, after_first, after_scenario, history_step, with_world, step, machine, reading, answer, sense}
 use Rattle.record_text.specs.Answers.{Refuses, fault_of_text}
-use Rattle.record_text.proofs.FaultResults.{refuses}
 use Rattle.record_text.proofs.SpelledIsRead.{history_goes}
 use Rattle.record_text.proofs.ReadIsSpelled.{is_read, Reads as HasSpelling}
 
 -- The fault of the lines is the fault that is returned.
-pub refused : (bytes : List ℕ) (part : Part) (fault : TextFault RecordCause) → Reads {U = Unit {0}} part (Err fault) (reading bytes) → Refuses (fault_of_text fault) (answer bytes)
-refused bytes part fault is = refuses part fault (reading bytes) is
+pub refused : (bytes : List ℕ) (fault : TextFault RecordCause) → Reads (λ (p : Part). p) (Err fault) (reading bytes) → Refuses (fault_of_text fault) (answer bytes)
+refused bytes fault is = refuses sense refl (λ (p : Part). p) fault (reading bytes) is
 
 abbrev whole_record : Part → Record
 whole_record (Whole version w lines) = record { version = version; world = w; lines = lines }

@@ -27,9 +27,8 @@ use Rattle.lawful_history.specs.Frames.{has_frame, HaveFrames}
 use Rattle.record_text.specs.Versions.{first_line}
 use Rattle.record_text.specs.Table.{pieces_of, all_forms}
 use Rattle.record_text.specs.LineRows.{row_of_line, entry_of, is_frame}
-use Rattle.record_text.specs.Spelling.{Record, Fits, AllFit, IsRecord, history_rows, spelling, IsSpelling}
+use Rattle.record_text.specs.Spelling.{Record, Fits, AllFit, IsRecord, history_rows, spelling, IsSpelling, line_count}
 use Rattle.record_text.specs.Judge.{AtFirst, InScenario, InHistory, Whole, History, Longer, Counted, put, judge, history_step, step, machine, sense, answer}
-use Rattle.record_text.specs.Laws.{line_count}
 use Rattle.record_text.proofs.VersionLines.{IsOneOrTwo, One, Two, one_or_two}
 use Rattle.record_text.proofs.FormsAreTable.{is_table}
 use Rattle.record_text.proofs.RowsOfLines.{entry_of-row, frame_is}

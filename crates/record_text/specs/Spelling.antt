@@ -1,6 +1,6 @@
 -- Records as texts: the scenario's text between `record V` and the history, and last the number of
 -- history lines.
-use Rattle.std.specs.Prelude.{◌≡◌, ℕ, ◌^◌, ◌<◌, true, All, List, [], ◌∷◌, ◌++◌, length, map}
+use Rattle.std.specs.Prelude.{◌≡◌, ℕ, ◌+◌, ◌^◌, ◌<◌, true, All, List, [], ◌∷◌, ◌++◌, length, map}
 use Rattle.line_format.specs.Forms.{Fit, FitBytes}
 use Rattle.line_format.specs.Rows.{Row, row, text_of}
 use Rattle.lawful_history.specs.declared.line.Line.{Line}
@@ -43,6 +43,10 @@ pub record IsRecord (r : Record) : Type 0 where
 -- The history and the count of its lines.
 abbrev pub history_rows : List Line → List (Row LineForm)
 history_rows lines = map row_of_line lines ++ row Count (length lines ∷ []) [] ∷ []
+
+-- The number of lines of the text: the first, the scenario's, the history's and their count.
+abbrev pub line_count : Record → ℕ
+line_count r = 1 + scenario.line_count r.world + length r.lines + 1
 
 -- The one text of a record.
 abbrev pub spelling : Record → List ℕ

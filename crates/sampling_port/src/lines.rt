@@ -5,7 +5,7 @@ ghost use Rattle.line_format.specs.Rows.{row, line_of_row};
 ghost use Rattle.sampling_port.specs.LineRows.{pieces_of_line, refusal_form};
 
 use crate::notes::PortField;
-use line_format::{FieldKind, put_line};
+use line_format::{ANY, FieldKind, U32, put_line};
 use std::alloc::AllocError;
 
 /// A form of a record's lines. Two words at one position make two forms.
@@ -36,10 +36,6 @@ pub enum Form {
     /// `end COUNT`
     End,
 }
-
-const ANY: FieldKind = FieldKind::Number(0, u64::MAX);
-
-const U32: FieldKind = FieldKind::Number(0, u32::MAX as u64);
 
 impl Form {
     /// Returns the form of the line of a refusal.

@@ -1,9 +1,9 @@
 //! A schedule of ports from its text to its record.
 ghost use Rattle.std.specs.Prelude.{◌≡◌, IfOk, IfErr};
+ghost use Rattle.line_format.specs.Answers.{Refuses};
 ghost use Rattle.port_text.specs.Scenario.{World};
 ghost use Rattle.port_text.specs.Spelling.{world_of, IsSpelling};
-ghost use Rattle.port_text.specs.Judge.{answer};
-ghost use Rattle.port_text.specs.Answers.{Refuses};
+ghost use Rattle.port_text.specs.Judge.{answer, sense};
 ghost use Rattle.port_text.specs.declared.faults.PortsFault.TheVariants.{NoMemory as OutOfMemory};
 ghost use Rattle.sampling_port.specs.Record.{record_of, IsRecord};
 ghost use Rattle.sampling_port.specs.History.{history};
@@ -43,7 +43,7 @@ pub fn ports(alloc: Global, bytes: &[u8]) -> Result<Vec<u8>, PortsFault>
     // For a text that spells a schedule the one fault is a failed allocation.
     ensures only { (w : World) → IsSpelling w bytes.now → IfErr result (λ fault. fault ≡ OutOfMemory) }
     // The fault that is returned.
-    ensures fault { IfErr result (λ fault. Refuses fault (answer bytes.now)) }
+    ensures fault { IfErr result (λ fault. Refuses sense fault (answer bytes.now)) }
 {
     history_is_lawful();
     let scenario = parse(alloc, bytes)?;

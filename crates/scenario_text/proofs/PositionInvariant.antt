@@ -4,7 +4,7 @@ use Rattle.std.specs.Prelude.{slice_get, codes, max}
 use Rattle.std.proofs.lemmas.Bool.{eqb-true, ltb-false}
 use Rattle.std.proofs.lemmas.List.{append-nil}
 use Rattle.std.proofs.lemmas.List.Sums.{sum_by_push}
-use Rattle.line_format.specs.Rows.{Row, row}
+use Rattle.line_format.specs.Rows.{Row, row, flag_row, flag_rows}
 use Rattle.line_format.proofs.NumbersFit.{in_range, same_row, the_number, no_number}
 use Rattle.line_format.proofs.PartLaws.{then_row, rows_at, numbers-push, rows-push, still_fewer, next_number}
 use Rattle.line_format.proofs.TestChains.{either_false, not_false, not_true, same_some}
@@ -23,7 +23,7 @@ use Rattle.scenario_text.specs.declared.limits.TheConstants.{MOST_ACTS}
 use Rattle.scenario_text.specs.Acts.{cost, turns_of}
 use Rattle.scenario_text.specs.ActRows.{row_of_act}
 use Rattle.scenario_text.specs.Scenario.{World, IsAllowed, AreAllowed}
-use Rattle.scenario_text.specs.Spelling.{row_of_wiring, row_of_peer, rows_of_peers}
+use Rattle.scenario_text.specs.Spelling.{row_of_wiring}
 use Rattle.scenario_text.specs.Judge.{DraftView, world_of_draft, ordinal_of, position_of, rules}
 use Rattle.scenario_text.proofs.SizeTests.{HasRegion, has_region, has_queue, small_section}
 use Rattle.scenario_text.proofs.RowsOfActs.{act_row, act_of-row, act_gives, allowed_act}
@@ -34,7 +34,7 @@ abbrev sizes_rows : DraftView → List (Row Form)
 sizes_rows d = row Version (d.version ∷ []) [] ∷ row Peers (d.peers ∷ []) [] ∷ row Table (d.table ∷ []) [] ∷ row Common (d.common ∷ []) [] ∷ row Out (d.out ∷ []) [] ∷ row Mtu (d.mtu ∷ []) [] ∷ []
 
 abbrev pub rows_before : Position → DraftView → List (Row Form)
-rows_before s d = rows_at (sizes_rows d ++ row_of_wiring d.wiring ∷ []) (rows_of_peers 0 d.honest) (row Begin [] []) (map row_of_act d.acts) (row End [] []) (ordinal_of s)
+rows_before s d = rows_at (sizes_rows d ++ row_of_wiring d.wiring ∷ []) (flag_rows Honest Hostile 0 d.honest) (row Begin [] []) (map row_of_act d.acts) (row End [] []) (ordinal_of s)
 
 -- ---- the invariant of a position
 
@@ -131,10 +131,10 @@ keeps_act d at good a can =
 -- ---- peers
 
 -- The line of a peer adds its row. After the last peer `begin` comes next.
-adds_peer : (d : DraftView) (b : Bool) (r : Row Form) → d.position ≡ AtPeer → row_of_peer (length d.honest) b ≡ r → PositionHolds AtPeer d → (full : Bool) → eqb (length (d.honest ++ b ∷ [])) d.peers ≡ full
+adds_peer : (d : DraftView) (b : Bool) (r : Row Form) → d.position ≡ AtPeer → flag_row Honest Hostile (length d.honest) b ≡ r → PositionHolds AtPeer d → (full : Bool) → eqb (length (d.honest ++ b ∷ [])) d.peers ≡ full
     → Adds rows_so_far IsGood d r (record d { position = cond full AtBegin AtPeer; honest = d.honest ++ b ∷ [] })
-adds_peer d b r at e good true is = record { rows = rw at (numbers-push (sizes_rows d ++ row_of_wiring d.wiring ∷ []) row_of_peer d.honest b r e); good = (good.0, good.1, eqb-true _ _ is) }
-adds_peer d b r at e good false is = record { rows = rw at (numbers-push (sizes_rows d ++ row_of_wiring d.wiring ∷ []) row_of_peer d.honest b r e); good = (good.0, good.1, still_fewer d.honest b d.peers good.2 is) }
+adds_peer d b r at e good true is = record { rows = rw at (numbers-push (sizes_rows d ++ row_of_wiring d.wiring ∷ []) (flag_row Honest Hostile) d.honest b r e); good = (good.0, good.1, eqb-true _ _ is) }
+adds_peer d b r at e good false is = record { rows = rw at (numbers-push (sizes_rows d ++ row_of_wiring d.wiring ∷ []) (flag_row Honest Hostile) d.honest b r e); good = (good.0, good.1, still_fewer d.honest b d.peers good.2 is) }
 
 -- ---- each form
 

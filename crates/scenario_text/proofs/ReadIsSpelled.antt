@@ -1,19 +1,19 @@
 -- A value that is read is a scenario, and the text is its spelling.
 use Rattle.std.proofs.Common.{◌≡◌, ◌==◌, ℕ, ◌*◌, ◌/◌, ◌%◌, true, List, [], ◌∷◌, ◌++◌, map, Ok, refl, sym, ap, subst, ◌∙◌, arith}
-use Rattle.line_format.specs.Rows.{Row, row, text_of}
+use Rattle.line_format.specs.Rows.{Row, row, text_of, flag_rows}
 use Rattle.line_format.specs.Machine.{read}
 use Rattle.line_format.proofs.FormsOfRows.{same_place}
 use Rattle.line_format.proofs.RowTexts as all
 use Rattle.section_map.specs.Geometry.{IsShape}
 use Rattle.section_map.specs.Faults.{shape_of}
 use Rattle.scenario_text.specs.declared.forms.Form.{Form}
-use Rattle.scenario_text.specs.declared.forms.Form.TheVariants.{Version, Peers, Table, Common, Out, Mtu, Begin, End}
+use Rattle.scenario_text.specs.declared.forms.Form.TheVariants.{Version, Peers, Table, Common, Out, Mtu, Begin, End, Honest, Hostile}
 use Rattle.scenario_text.specs.declared.positions.Position.{Position}
 use Rattle.scenario_text.specs.declared.positions.Position.TheVariants.{Ended}
 use Rattle.scenario_text.specs.Table.{pieces_of}
 use Rattle.scenario_text.specs.ActRows.{row_of_act}
 use Rattle.scenario_text.specs.Scenario.{World, IsWorld}
-use Rattle.scenario_text.specs.Spelling.{row_of_wiring, rows_of_peers, rows_of, spelling, IsSpelling}
+use Rattle.scenario_text.specs.Spelling.{row_of_wiring, rows_of, spelling, IsSpelling}
 use Rattle.scenario_text.specs.Judge.{DraftView, world_of_draft, ordinal_of, at_start, has_ended, rules, step, machine}
 use Rattle.scenario_text.proofs.SizeTests.{HasRegion}
 use Rattle.scenario_text.proofs.FormsAreTable.{is_table}
@@ -73,7 +73,7 @@ rows_are e good =
     let t : 4 * (e.table / 4) ≡ e.table = whole_pages e.table good.0.region.table_pages.1 in
     let c : 4 * (e.common / 4) ≡ e.common = whole_pages e.common good.0.region.common_pages in
     let o : 4 * (e.out / 4) ≡ e.out = whole_pages e.out good.0.region.out_pages.1 in
-    let after_head : List (Row Form) = row_of_wiring e.wiring ∷ rows_of_peers 0 e.honest in
+    let after_head : List (Row Form) = row_of_wiring e.wiring ∷ flag_rows Honest Hostile 0 e.honest in
     let head : (row Version (e.version ∷ []) [] ∷ row Peers (e.peers ∷ []) [] ∷ row Table (e.table ∷ []) [] ∷ row Common (e.common ∷ []) [] ∷ row Out (e.out ∷ []) [] ∷ row Mtu (e.mtu ∷ []) [] ∷ after_head)
     ≡ (row Version (e.version ∷ []) [] ∷ row Peers (e.peers ∷ []) [] ∷ row Table (4 * (e.table / 4) ∷ []) [] ∷ row Common (4 * (e.common / 4) ∷ []) [] ∷ row Out (4 * (e.out / 4) ∷ []) [] ∷ row Mtu (e.mtu ∷ []) [] ∷ after_head) = rw (t, c, o) refl in
     ap (λ (rs : List (Row Form)). rs ++ row Begin [] [] ∷ [] ++ map row_of_act e.acts ++ row End [] [] ∷ []) head

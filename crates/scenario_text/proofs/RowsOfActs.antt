@@ -11,6 +11,7 @@ use Rattle.line_format.proofs.NumbersFit.{counted, list_1, list_2, list_3, list_
 use Rattle.line_format.proofs.PartLaws.{rule_of}
 use Rattle.line_format.proofs.RowsFollow.{CanFollow, with_row}
 use Rattle.line_format.proofs.RowTexts.{HasItem}
+use Rattle.line_format.specs.Grammar.{is_out_of_order}
 use Rattle.scenario_text.specs.declared.acts.Act.{Act}
 use Rattle.scenario_text.specs.declared.acts.Act.TheVariants as acts
 use Rattle.scenario_text.specs.declared.forms.Form.{Form}
@@ -21,7 +22,7 @@ use Rattle.scenario_text.specs.Acts.{cost, turns_of, peer_of}
 use Rattle.scenario_text.specs.Table.{pieces_of}
 use Rattle.scenario_text.specs.ActRows.{row_of_act}
 use Rattle.scenario_text.specs.Scenario.{is_too_late, IsAllowed}
-use Rattle.scenario_text.specs.Judge.{DraftView, world_of_draft, is_out_of_turn, is_out_of_order, act_of, is_act, fits_sizes, with_act, rules}
+use Rattle.scenario_text.specs.Judge.{DraftView, world_of_draft, is_out_of_turn, act_of, is_act, fits_sizes, with_act, rules}
 
 -- ---- the act of a row
 
@@ -123,7 +124,7 @@ turn_is d (acts.Again p vector) fit = rule_of (is_out_of_turn d Again) p fit.1
 
 is_at : (d : DraftView) (a : Act) → d.position ≡ AtActs → (b c : Bool) → b ≡ c
     → option_map_or (is_out_of_turn d (row_of_act a).form) (option_and_then number_of (slice_get (fields_of_row pieces_of (row_of_act a)) 1)) false ≡ b
-    → is_out_of_order d (row_of_act a).form (fields_of_row pieces_of (row_of_act a)) ≡ c
+    → is_out_of_order rules d (row_of_act a).form (fields_of_row pieces_of (row_of_act a)) ≡ c
 is_at d (acts.Tick p) at b c same is = rw at (is ∙ same)
 is_at d (acts.Offer p frame) at b c same is = rw at (is ∙ same)
 is_at d (acts.Poll p) at b c same is = rw at (is ∙ same)
@@ -147,7 +148,7 @@ is_at d (acts.Again p vector) at b c same is = rw at (is ∙ same)
 
 -- At the acts the order is that of the acts before.
 pub order_is : (d : DraftView) (a : Act) → d.position ≡ AtActs → Fit (pieces_of (row_of_act a).form) (row_of_act a).numbers
-    → is_out_of_order d (row_of_act a).form (fields_of_row pieces_of (row_of_act a)) ≡ is_too_late d.acts (row_of_act a).form (peer_of a)
+    → is_out_of_order rules d (row_of_act a).form (fields_of_row pieces_of (row_of_act a)) ≡ is_too_late d.acts (row_of_act a).form (peer_of a)
 order_is d a at fit = is_at d a at _ _ refl (turn_is d a fit)
 
 pub allowed_act : (d : DraftView) (a : Act) → d.position ≡ AtActs → CanFollow rules d (row_of_act a) → IsAllowed (world_of_draft d) d.acts a

@@ -2,7 +2,7 @@
 use Rattle.std.proofs.Common.{◌≡◌, ℕ, ◌-◌, ◌*◌, ◌/◌, ◌%◌, ◌^◌, ◌<◌, ◌≤◌, Bool, true, false, cond, eqb, List, [], ◌∷◌, ◌++◌, length, take, drop, map, Some, Ok, refl, sym, ap, subst, arith, eq-eqb}
 use Rattle.std.specs.Prelude.{slice_get, max}
 use Rattle.std.proofs.lemmas.Bool.{ne_eqb}
-use Rattle.line_format.specs.Rows.{Row, row}
+use Rattle.line_format.specs.Rows.{Row, row, flag_row}
 use Rattle.line_format.specs.Machine.{Leads, text_of_lines}
 use Rattle.line_format.proofs.ListLaws.{sum_up_to}
 use Rattle.line_format.proofs.PartLaws.{no_rule, IsNext}
@@ -17,7 +17,7 @@ use Rattle.pci_space.specs.Wiring.{IsWiring}
 use Rattle.split_ring.specs.Layout.{IsVersion}
 use Rattle.scenario_text.specs.declared.acts.Act.{Act}
 use Rattle.scenario_text.specs.declared.forms.Form.{Form}
-use Rattle.scenario_text.specs.declared.forms.Form.TheVariants.{Begin, End}
+use Rattle.scenario_text.specs.declared.forms.Form.TheVariants.{Begin, End, Honest, Hostile}
 use Rattle.scenario_text.specs.declared.positions.Position.{Position}
 use Rattle.scenario_text.specs.declared.positions.Position.TheVariants.{AtPeers, AtWiring, AtPeer, AtBegin, AtActs, Ended}
 use Rattle.scenario_text.specs.declared.limits.TheConstants.{MOST_ACTS}
@@ -26,9 +26,8 @@ use Rattle.scenario_text.specs.Table.{pieces_of}
 use Rattle.scenario_text.specs.ActRows.{row_of_act}
 use Rattle.scenario_text.specs.Sizes.{is_geometry, is_queue}
 use Rattle.scenario_text.specs.Scenario.{World, IsWorld, IsAllowed}
-use Rattle.scenario_text.specs.Spelling.{row_of_wiring, row_of_peer, sizes_rows, head_rows, rows_of, spelling, IsSpelling}
+use Rattle.scenario_text.specs.Spelling.{row_of_wiring, sizes_rows, head_rows, rows_of, spelling, IsSpelling, line_count}
 use Rattle.scenario_text.specs.Judge.{DraftView, world_of_draft, ordinal_of, at_start, rules, machine, sense, answer}
-use Rattle.scenario_text.specs.Laws.{line_count}
 use Rattle.scenario_text.proofs.FormsAreTable.{is_table}
 use Rattle.scenario_text.proofs.SizeTests.{HasRegion, is_geometry-true, is_queue-true}
 use Rattle.scenario_text.proofs.RowsOfActs.{act_gives, follows_act}
@@ -78,7 +77,7 @@ wiring_along w some (wirings.Msix vectors) same is =
 wiring_along w some wirings.Intx same is =
     (record { values = tt; bytes = refl; order = no_rule _; range = refl; peer = refl; size = refl; sizes = refl; room = refl }, refl, rw (ne_eqb 0 w.geometry.peers (λ none. omega arith), same) refl)
 
-peer_joins : (w : World) (front : List Bool) (b : Bool) → length front ≤ 2 ^ 64 - 1 → eqb (length front) w.geometry.peers ≡ false → IsNext (length front) → Joins rules (at_peers w) row_of_peer front b
+peer_joins : (w : World) (front : List Bool) (b : Bool) → length front ≤ 2 ^ 64 - 1 → eqb (length front) w.geometry.peers ≡ false → IsNext (length front) → Joins rules (at_peers w) (flag_row Honest Hostile) front b
 peer_joins w front true small more next = record { follows = record { values = (omega arith, small, tt); bytes = refl; order = rw more next; range = refl; peer = refl; size = refl; sizes = refl; room = refl }; gives = refl; continues = neither (λ p. eqb (ordinal_of p) 10) AtBegin AtPeer _ refl refl }
 peer_joins w front false small more next = record { follows = record { values = (omega arith, small, tt); bytes = refl; order = rw more next; range = refl; peer = refl; size = refl; sizes = refl; room = refl }; gives = refl; continues = neither (λ p. eqb (ordinal_of p) 10) AtBegin AtPeer _ refl refl }
 
@@ -170,9 +169,9 @@ spelled_reaches : (w : World) → IsWorld w → Reaches rules at_start (rows_of 
 spelled_reaches w is =
     let full : eqb (length w.honest) w.geometry.peers ≡ true = eq-eqb _ _ is.flags in
     let begins : Along rules (at_peers w w.honest) (row Begin [] [] ∷ []) (so_far w AtActs w.honest []) = (record { values = tt; bytes = refl; order = rw full refl; range = refl; peer = refl; size = refl; sizes = refl; room = refl }, refl, refl) in
-    let peers = flags_join rules (at_peers w) row_of_peer w.honest w.geometry.peers is.flags is.few (peer_joins w) in
+    let peers = flags_join rules (at_peers w) (flag_row Honest Hostile) w.honest w.geometry.peers is.flags is.few (peer_joins w) in
     mapped_reach rules at_start (head_rows w ++ row Begin [] [] ∷ []) (so_far w AtActs w.honest) row_of_act w.acts (row End [] []) (at_end w)
-    (numbered_then rules at_start (head w) (at_peers w) row_of_peer w.honest (row Begin [] []) (so_far w AtActs w.honest []) (head_along w is) peers begins)
+    (numbered_then rules at_start (head w) (at_peers w) (flag_row Honest Hostile) w.honest (row Begin [] []) (so_far w AtActs w.honest []) (head_along w is) peers begins)
     (acts_join w is) (record { values = tt; bytes = refl; order = refl; range = refl; peer = refl; size = refl; sizes = refl; room = refl }) refl refl
 
 pub is_forward : IsForward machine sense IsSpelling line_count

@@ -1,10 +1,10 @@
 -- Reading line by line: the effect of a line, and the fault of a faulty one.
-use Rattle.std.specs.Prelude.{ℕ, ◌+◌, ◌==◌, ◌||◌, ◌&&◌, not, nat_lt, if◌then◌else◌, Bool, true, false, List, [], ◌∷◌, ◌++◌, length, slice_index, max, Option, Some, None, Result, Ok, Err}
+use Rattle.std.specs.Prelude.{ℕ, ◌+◌, ◌==◌, ◌&&◌, not, nat_lt, if◌then◌else◌, Bool, true, false, List, [], ◌∷◌, ◌++◌, length, slice_index, max, Option, Some, None, Result, Ok, Err}
 use Rattle.line_format.specs.declared.grammar.Test.{Test}
 use Rattle.line_format.specs.declared.grammar.Test.TheVariants.{Line, Order, Number, Peer, Bytes, Sizes, Count}
 use Rattle.line_format.specs.Machine.{Machine}
 use Rattle.line_format.specs.Grammar as grammar
-use Rattle.line_format.specs.Grammar.{Rules, is_forbidden_by, machine_of}
+use Rattle.line_format.specs.Grammar.{Rules, machine_of}
 use Rattle.line_format.specs.Texts as texts
 use Rattle.line_format.specs.Texts.{Sense}
 use Rattle.section_map.specs.Faults.{shape_of}
@@ -86,11 +86,6 @@ abbrev pub is_out_of_turn : DraftView → Form → ℕ → Bool
 is_out_of_turn d Honest p = not (p == length d.honest)
 is_out_of_turn d Hostile p = not (p == length d.honest)
 is_out_of_turn d form p = is_too_late d.acts form p
-
--- The line is out of order at this position; the rules about a peer apply only if the peer's field
--- is a number.
-abbrev pub is_out_of_order : DraftView → Form → List (List ℕ) → Bool
-is_out_of_order d form fields = not (ordinal_of (position_of form) == ordinal_of d.position) || is_forbidden_by (is_out_of_turn d form) fields
 
 -- ---- BadGeometry
 
@@ -199,7 +194,8 @@ rules = record {
   pieces_of = pieces_of;
   forms = all_forms;
   cause = cause;
-  is_out_of_order = is_out_of_order;
+  is_at = λ d form. ordinal_of (position_of form) == ordinal_of d.position;
+  is_out_of_turn = is_out_of_turn;
   is_in_range = λ d form ns. is_in_range (world_of_draft d) form ns;
   is_its_peer = λ d form ns. is_its_peer (world_of_draft d) form ns;
   fits = λ d form size. is_frame_size (world_of_draft d) form size;
@@ -226,9 +222,13 @@ fault_at BadFrame n = faults.BadFrame n
 fault_at BadGeometry n = faults.BadGeometry n
 fault_at TooManyTurns n = faults.TooManyTurns n
 
+abbrev pub is_no_memory : ScenarioFault → Bool
+is_no_memory faults.NoMemory = true
+is_no_memory _ = false
+
 -- Bytes after the end are a faulty line.
 abbrev pub sense : Sense DraftView Cause World ScenarioFault
-sense = record { start = at_start; value = λ d. Ok (world_of_draft d); at = fault_at; after = λ n. faults.BadLine n; no_end = faults.NoEnd }
+sense = record { start = at_start; value = λ d. Ok (world_of_draft d); at = fault_at; after = λ n. faults.BadLine n; no_end = faults.NoEnd; no_memory = faults.NoMemory; is_no_memory = is_no_memory }
 
 -- The scenario that a text spells, or its first fault.
 abbrev pub answer : List ℕ → Result World ScenarioFault

@@ -6,8 +6,6 @@ pub mod Props
 pub mod Sizes
 pub mod Judge
 pub mod Spelling
-pub mod Answers
 pub mod Drafts
-pub mod Laws
 pub mod Loads
 pub mod Running

@@ -1,6 +1,6 @@
 -- Scenarios as texts: the rows of a scenario, one line each. So a scenario has one spelling.
-use Rattle.std.specs.Prelude.{◌≡◌, ℕ, ◌*◌, Bool, List, [], ◌∷◌, ◌++◌, map}
-use Rattle.line_format.specs.Rows.{Row, row, text_of, flag_row, numbered}
+use Rattle.std.specs.Prelude.{◌≡◌, ℕ, ◌*◌, List, [], ◌∷◌, ◌++◌, length, map}
+use Rattle.line_format.specs.Rows.{Row, row, text_of, flag_rows}
 use Rattle.pci_space.specs.declared.wiring.Wiring.{Wiring}
 use Rattle.pci_space.specs.declared.wiring.Wiring.TheVariants as wirings
 use Rattle.scenario_text.specs.declared.forms.Form.{Form}
@@ -18,13 +18,6 @@ abbrev pub row_of_wiring : Wiring → Row Form
 row_of_wiring (wirings.Msix vectors) = row Msix (vectors ∷ []) []
 row_of_wiring wirings.Intx = row Intx [] []
 
-abbrev pub row_of_peer : ℕ → Bool → Row Form
-row_of_peer p is_honest = flag_row Honest Hostile p is_honest
-
--- The peers in their order, from p on.
-abbrev pub rows_of_peers : ℕ → List Bool → List (Row Form)
-rows_of_peers p honest = numbered row_of_peer p honest
-
 -- The version and the sizes, in bytes.
 abbrev pub sizes_rows : World → List (Row Form)
 sizes_rows w =
@@ -38,11 +31,15 @@ sizes_rows w =
 
 -- The rows before `begin`.
 abbrev pub head_rows : World → List (Row Form)
-head_rows w = sizes_rows w ++ row_of_wiring w.wiring ∷ rows_of_peers 0 w.honest
+head_rows w = sizes_rows w ++ row_of_wiring w.wiring ∷ flag_rows Honest Hostile 0 w.honest
 
 -- The head, `begin`, the acts, `end`.
 abbrev pub rows_of : World → List (Row Form)
 rows_of w = head_rows w ++ row Begin [] [] ∷ [] ++ map row_of_act w.acts ++ row End [] [] ∷ []
+
+-- The number of lines of the text.
+abbrev pub line_count : World → ℕ
+line_count w = length (rows_of w)
 
 -- The one text of a scenario.
 abbrev pub spelling : World → List ℕ

@@ -1,5 +1,5 @@
 //! The value of the lines so far.
-ghost use Rattle.std.specs.Prelude.{◌≡◌, ◌≤◌, ◌<◌, ◌^◌, ℕ, Some, slice_index_or, false};
+ghost use Rattle.std.specs.Prelude.{◌≡◌, ◌≤◌, ◌<◌, ℕ, Some, slice_index_or, false};
 ghost use Rattle.section_map.specs.declared.limits.TheConstants.{LARGEST_REGION};
 ghost use Rattle.section_map.specs.Faults.{shape_of};
 ghost use Rattle.split_ring.specs.Layout.{IsVersion};

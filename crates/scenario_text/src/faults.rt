@@ -1,9 +1,9 @@
 //! The faults of a scenario's text.
 ghost use Rattle.std.specs.Prelude.{◌≡◌};
-ghost use Rattle.scenario_text.specs.Judge.{fault_at};
-ghost use Rattle.scenario_text.specs.Answers.{fault_of_text};
+ghost use Rattle.line_format.specs.Answers.{fault_of_text};
+ghost use Rattle.scenario_text.specs.Judge.{fault_at, sense};
 
-use line_format::TextFault;
+use line_format::{TextFault, fault_of_text};
 use thiserror::Error;
 
 /// The fault of a line: the first of these that applies, in this order.
@@ -78,15 +78,9 @@ pub enum ScenarioFault {
 }
 
 impl From<TextFault<Cause>> for ScenarioFault {
-    ghost from_gives = { λ fault result. result ≡ fault_of_text fault };
+    ghost from_gives = { λ fault result. result ≡ fault_of_text sense fault };
 
-    /// Returns the fault of the text. Bytes after the end are a line that matches no form.
     fn from(fault: TextFault<Cause>) -> ScenarioFault {
-        match fault {
-            TextFault::NoMemory => ScenarioFault::NoMemory,
-            TextFault::At(cause, line) => cause.at(line),
-            TextFault::After(line) => ScenarioFault::BadLine(line),
-            TextFault::NoEnd => ScenarioFault::NoEnd,
-        }
+        fault_of_text!(fault, ScenarioFault)
     }
 }

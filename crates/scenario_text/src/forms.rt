@@ -4,7 +4,7 @@ ghost use Rattle.line_format.specs.Forms.{pieces};
 ghost use Rattle.scenario_text.specs.Table.{pieces_of};
 
 use crate::limits::MOST_ACTS;
-use line_format::FieldKind;
+use line_format::{ANY, FieldKind, U32};
 
 /// A form of a scenario's lines. Two words at one position make two forms.
 #[derive(Clone, Copy, Debug, PartialEq, Eq)]
@@ -109,10 +109,6 @@ pub const FORMS: [Form; 32] = [
     Form::Again,
     Form::End,
 ];
-
-const ANY: FieldKind = FieldKind::Number(0, u64::MAX);
-
-const U32: FieldKind = FieldKind::Number(0, u32::MAX as u64);
 
 const U16: FieldKind = FieldKind::Number(0, u16::MAX as u64);
 

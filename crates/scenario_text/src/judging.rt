@@ -1,32 +1,19 @@
 //! The parts of the tests of a line, and the act of a line.
-ghost use Rattle.std.specs.Prelude.{◌≡◌, ◌<◌, ◌≤◌, ◌^◌, length, slice_index, slice_index_or, false, IfSome, IsTrue};
+ghost use Rattle.std.specs.Prelude.{◌≡◌, ◌<◌, slice_index, IfSome, IsTrue};
 ghost use Rattle.line_format.specs.Forms.{AreInRange};
 ghost use Rattle.section_map.specs.Faults.{shape_of};
 ghost use Rattle.section_map.specs.Geometry.{word_count};
 ghost use Rattle.scenario_text.specs.Acts.{peer_of};
 ghost use Rattle.scenario_text.specs.Table.{pieces_of};
 ghost use Rattle.scenario_text.specs.Scenario.{is_aligned, is_link, is_peer, is_hostile};
-ghost use Rattle.scenario_text.specs.Judge.{world_of_draft, is_out_of_turn, act_of, is_act};
+ghost use Rattle.scenario_text.specs.Judge.{world_of_draft, act_of, is_act};
 ghost use Rattle.scenario_text.specs.Drafts.{draft_view};
 
 use crate::acts::Act;
 use crate::drafts::Draft;
 use crate::forms::Form;
 use ivs_base::Frame;
-use line_format::{flag_at, number_at};
-
-/// Whether the order rules about peer `p` forbid the line here.
-pub fn is_out_of_turn(draft: &Draft, form: Form, p: u64) -> bool
-    ensures { result ≡ is_out_of_turn (draft_view draft.now) form p }
-{
-    match form {
-        Form::Honest | Form::Hostile => p != draft.honest.items().len() as u64,
-        Form::Tick | Form::Poll | Form::Stop => flag_at(&draft.autos, p),
-        Form::Auto => flag_at(&draft.autos, p) || flag_at(&draft.called, p),
-        Form::Storm => flag_at(&draft.storms, p),
-        _ => false,
-    }
-}
+use line_format::{by_numbers, flag_at, number_at};
 
 /// Whether `offset` is that of an aligned field of 1, 2 or 4 bytes.
 pub fn is_aligned(offset: u64, width: u64) -> bool
@@ -67,19 +54,26 @@ pub fn act_of(form: Form, numbers: &[u64], frame: Frame) -> Option<Act>
     ensures value { result ≡ act_of form numbers.now frame }
     ensures peer { IfSome result (λ act. peer_of act < 8) }
 {
-    match form {
-        Form::Tick => Some(Act::Tick {
-            peer: number_at(numbers, 0) as u32,
-        }),
+    by_numbers!((form, numbers) Form => Act {
+        Tick(peer: 0),
+        Poll(peer: 0),
+        Stop(peer: 0),
+        Turn(peer: 0, steps: 1),
+        Reset(peer: 0),
+        Poke(peer: 0, word: 1, value: 2),
+        Peek(peer: 0, word: 1),
+        Set(peer: 0, value: 1),
+        Ring(peer: 0, target: 1, vector: 2),
+        MmioRead(peer: 0, offset: 1),
+        MmioWrite(peer: 0, offset: 1, value: 2),
+        MsixRead(peer: 0, offset: 1),
+        MsixWrite(peer: 0, offset: 1, value: 2),
+        Lose(peer: 0),
+        Again(peer: 0, vector: 1),
+    } else {
         Form::Offer => Some(Act::Offer {
             peer: number_at(numbers, 0) as u32,
             frame,
-        }),
-        Form::Poll => Some(Act::Poll {
-            peer: number_at(numbers, 0) as u32,
-        }),
-        Form::Stop => Some(Act::Stop {
-            peer: number_at(numbers, 0) as u32,
         }),
         Form::Auto => Some(Act::Auto {
             peer: number_at(numbers, 0) as u32,
@@ -88,31 +82,6 @@ pub fn act_of(form: Form, numbers: &[u64], frame: Frame) -> Option<Act>
         Form::Storm => Some(Act::Storm {
             peer: number_at(numbers, 0) as u32,
             seed: number_at(numbers, 1),
-        }),
-        Form::Turn => Some(Act::Turn {
-            peer: number_at(numbers, 0) as u32,
-            steps: number_at(numbers, 1) as u32,
-        }),
-        Form::Reset => Some(Act::Reset {
-            peer: number_at(numbers, 0) as u32,
-        }),
-        Form::Poke => Some(Act::Poke {
-            peer: number_at(numbers, 0) as u32,
-            word: number_at(numbers, 1) as u32,
-            value: number_at(numbers, 2) as u32,
-        }),
-        Form::Peek => Some(Act::Peek {
-            peer: number_at(numbers, 0) as u32,
-            word: number_at(numbers, 1) as u32,
-        }),
-        Form::Set => Some(Act::Set {
-            peer: number_at(numbers, 0) as u32,
-            value: number_at(numbers, 1) as u32,
-        }),
-        Form::Ring => Some(Act::Ring {
-            peer: number_at(numbers, 0) as u32,
-            target: number_at(numbers, 1) as u32,
-            vector: number_at(numbers, 2) as u32,
         }),
         Form::CfgRead => Some(Act::CfgRead {
             peer: number_at(numbers, 0) as u32,
@@ -125,31 +94,6 @@ pub fn act_of(form: Form, numbers: &[u64], frame: Frame) -> Option<Act>
             width: number_at(numbers, 2) as u16,
             value: number_at(numbers, 3) as u32,
         }),
-        Form::MmioRead => Some(Act::MmioRead {
-            peer: number_at(numbers, 0) as u32,
-            offset: number_at(numbers, 1) as u32,
-        }),
-        Form::MmioWrite => Some(Act::MmioWrite {
-            peer: number_at(numbers, 0) as u32,
-            offset: number_at(numbers, 1) as u32,
-            value: number_at(numbers, 2) as u32,
-        }),
-        Form::MsixRead => Some(Act::MsixRead {
-            peer: number_at(numbers, 0) as u32,
-            offset: number_at(numbers, 1) as u32,
-        }),
-        Form::MsixWrite => Some(Act::MsixWrite {
-            peer: number_at(numbers, 0) as u32,
-            offset: number_at(numbers, 1) as u32,
-            value: number_at(numbers, 2) as u32,
-        }),
-        Form::Lose => Some(Act::Lose {
-            peer: number_at(numbers, 0) as u32,
-        }),
-        Form::Again => Some(Act::Again {
-            peer: number_at(numbers, 0) as u32,
-            vector: number_at(numbers, 1) as u32,
-        }),
         _ => None,
-    }
+    })
 }

@@ -1,5 +1,5 @@
 //! Writing a scenario's text.
-ghost use Rattle.std.specs.Prelude.{◌≡◌, ◌++◌, OnOk, IfOk, map};
+ghost use Rattle.std.specs.Prelude.{◌≡◌, ◌++◌, OnOk, IfOk};
 ghost use Rattle.line_format.specs.Rows.{row, line_of_row, text_of};
 ghost use Rattle.scenario_text.specs.Table.{pieces_of};
 ghost use Rattle.scenario_text.specs.ActRows.{row_of_act};
@@ -10,7 +10,7 @@ use crate::drafts::Draft;
 use crate::forms::Form;
 use crate::scenarios::Scenario;
 use ivs_base::NoMemory;
-use line_format::{put_flags, put_line};
+use line_format::{HasRow, put_flags, put_line, put_numbers, put_rows};
 use pci_space::Wiring;
 use std::alloc::{AllocError, Global};
 
@@ -31,126 +31,38 @@ fn put_wiring(out: &mut Vec<u8>, wiring: Wiring) -> Result<(), AllocError>
     }
 }
 
-fn put_act(out: &mut Vec<u8>, act: &Act) -> Result<(), AllocError>
-    ensures { OnOk result (out.new.items ≡ out.old.items ++ line_of_row pieces_of (row_of_act act.now)) }
-{
-    match act {
-        Act::Tick { peer } => put(out, Form::Tick, &[u64::from(*peer)], &[]),
-        Act::Offer { peer, frame } => put(out, Form::Offer, &[u64::from(*peer)], frame.bytes()),
-        Act::Poll { peer } => put(out, Form::Poll, &[u64::from(*peer)], &[]),
-        Act::Stop { peer } => put(out, Form::Stop, &[u64::from(*peer)], &[]),
-        Act::Auto { peer, expect } => put(out, Form::Auto, &[u64::from(*peer), *expect], &[]),
-        Act::Storm { peer, seed } => put(out, Form::Storm, &[u64::from(*peer), *seed], &[]),
-        Act::Turn { peer, steps } => put(
-            out,
-            Form::Turn,
-            &[u64::from(*peer), u64::from(*steps)],
-            &[],
-        ),
-        Act::Reset { peer } => put(out, Form::Reset, &[u64::from(*peer)], &[]),
-        Act::Poke { peer, word, value } => put(
-            out,
-            Form::Poke,
-            &[u64::from(*peer), u64::from(*word), u64::from(*value)],
-            &[],
-        ),
-        Act::Peek { peer, word } => put(
-            out,
-            Form::Peek,
-            &[u64::from(*peer), u64::from(*word)],
-            &[],
-        ),
-        Act::Set { peer, value } => put(
-            out,
-            Form::Set,
-            &[u64::from(*peer), u64::from(*value)],
-            &[],
-        ),
-        Act::Ring {
-            peer,
-            target,
-            vector,
-        } => put(
-            out,
-            Form::Ring,
-            &[u64::from(*peer), u64::from(*target), u64::from(*vector)],
-            &[],
-        ),
-        Act::CfgRead {
-            peer,
-            offset,
-            width,
-        } => put(
-            out,
-            Form::CfgRead,
-            &[u64::from(*peer), u64::from(*offset), u64::from(*width)],
-            &[],
-        ),
-        Act::CfgWrite {
-            peer,
-            offset,
-            width,
-            value,
-        } => put(
-            out,
-            Form::CfgWrite,
-            &[
-                u64::from(*peer),
-                u64::from(*offset),
-                u64::from(*width),
-                u64::from(*value),
-            ],
-            &[],
-        ),
-        Act::MmioRead { peer, offset } => put(
-            out,
-            Form::MmioRead,
-            &[u64::from(*peer), u64::from(*offset)],
-            &[],
-        ),
-        Act::MmioWrite {
-            peer,
-            offset,
-            value,
-        } => put(
-            out,
-            Form::MmioWrite,
-            &[u64::from(*peer), u64::from(*offset), u64::from(*value)],
-            &[],
-        ),
-        Act::MsixRead { peer, offset } => put(
-            out,
-            Form::MsixRead,
-            &[u64::from(*peer), u64::from(*offset)],
-            &[],
-        ),
-        Act::MsixWrite {
-            peer,
-            offset,
-            value,
-        } => put(
-            out,
-            Form::MsixWrite,
-            &[u64::from(*peer), u64::from(*offset), u64::from(*value)],
-            &[],
-        ),
-        Act::Lose { peer } => put(out, Form::Lose, &[u64::from(*peer)], &[]),
-        Act::Again { peer, vector } => put(
-            out,
-            Form::Again,
-            &[u64::from(*peer), u64::from(*vector)],
-            &[],
-        ),
-    }
-}
+impl HasRow for Act {
+    type Form = Form;
 
-fn put_acts(out: &mut Vec<u8>, acts: &[Act]) -> Result<(), AllocError>
-    ensures { OnOk result (out.new.items ≡ out.old.items ++ text_of pieces_of (map row_of_act acts.now)) }
-{
-    for act in acts {
-        put_act(out, act)?;
+    ghost pieces_of = { pieces_of };
+
+    ghost row_of = { row_of_act };
+
+    fn put_row(&self, out: &mut Vec<u8>) -> Result<(), AllocError> {
+        put_numbers!((put, out, self) Act => Form {
+            Tick(peer),
+            Poll(peer),
+            Stop(peer),
+            Turn(peer, steps),
+            Reset(peer),
+            Poke(peer, word, value),
+            Peek(peer, word),
+            Set(peer, value),
+            Ring(peer, target, vector),
+            CfgRead(peer, offset, width),
+            CfgWrite(peer, offset, width, value),
+            MmioRead(peer, offset),
+            MmioWrite(peer, offset, value),
+            MsixRead(peer, offset),
+            MsixWrite(peer, offset, value),
+            Lose(peer),
+            Again(peer, vector),
+        } else {
+            Act::Offer { peer, frame } => put(out, Form::Offer, &[u64::from(*peer)], frame.bytes()),
+            Act::Auto { peer, expect } => put(out, Form::Auto, &[u64::from(*peer), *expect], &[]),
+            Act::Storm { peer, seed } => put(out, Form::Storm, &[u64::from(*peer), *seed], &[]),
+        })
     }
-    Ok(())
 }
 
 /// Appends the lines up to the sizes.
@@ -184,7 +96,7 @@ pub fn put_scenario(out: &mut Vec<u8>, scenario: &Scenario) -> Result<(), AllocE
     put_wiring(out, scenario.wiring)?;
     put_flags::<Draft>(out, Form::Honest, Form::Hostile, scenario.honest.items())?;
     put(out, Form::Begin, &[], &[])?;
-    put_acts(out, scenario.acts.items())?;
+    put_rows(out, scenario.acts.items())?;
     put(out, Form::End, &[], &[])?;
     Ok(())
 }

@@ -1,24 +1,27 @@
 //! A scenario's text as a grammar: the tests of a line, and its effect on a draft.
-ghost use Rattle.std.specs.Prelude.{ℕ, ◌==◌, ◌||◌, ◌&&◌, slice_index_or, false, ◌≡◌, ◌<◌, ◌≤◌, ◌+◌, ◌∷◌, [], OnOk};
+ghost use Rattle.std.specs.Prelude.{ℕ, ◌==◌, ◌||◌, ◌&&◌, slice_index_or, false, ◌≡◌, ◌<◌, ◌≤◌, ◌+◌, ◌∷◌, [], OnOk, true};
 ghost use Rattle.std.proofs.Common.{rules as found};
 ghost use Rattle.line_format.specs.Forms.{AreInRange};
 ghost use Rattle.scenario_text.specs.declared.forms.Form.TheVariants.{Out, Mtu};
 ghost use Rattle.scenario_text.specs.declared.limits.TheConstants.{MOST_ACTS};
 ghost use Rattle.scenario_text.specs.Table.{pieces_of};
 ghost use Rattle.scenario_text.specs.Acts.{cost, peer_of, is_auto, is_storm, is_call};
-ghost use Rattle.scenario_text.specs.Judge.{DraftView, ordinal_of, position_of, head_with, with_act, with_peer, rules};
+ghost use Rattle.scenario_text.specs.Judge.{DraftView, ordinal_of, position_of, head_with, with_act, with_peer, rules, world_of_draft, at_start, has_ended};
 ghost use Rattle.line_format.specs.Reading.{Gives};
 ghost use Rattle.scenario_text.specs.Drafts.{draft_view};
+ghost use Rattle.scenario_text.specs.Scenario.{IsWorld};
+ghost use Rattle.scenario_text.specs.Spelling.{world_of};
 
-use crate::acts::Act;
+use crate::acts::{Act, Acts, Flags};
 use crate::drafts::Draft;
 use crate::faults::Cause;
 use crate::forms::{FORMS, Form};
-use crate::judging::{act_of, is_aligned, is_hostile, is_link, is_out_of_turn, is_peer, words};
+use crate::judging::{act_of, is_aligned, is_hostile, is_link, is_peer, words};
 use crate::limits::MOST_ACTS;
 use crate::positions::Position;
+use crate::scenarios::Scenario;
 use ivs_base::{Frame, NoMemory};
-use line_format::{FieldKind, Grammar, LineFault, Test, number_at, number_in};
+use line_format::{FieldKind, Grammar, LineFault, Test, flag_at, number_at};
 use pci_space::Wiring;
 use section_map::Geometry;
 use split_ring::Queue;
@@ -61,6 +64,59 @@ pub fn mark(flags: &mut [bool; 8], peer: usize, on: bool)
 }
 
 impl Draft {
+    /// Returns the draft of a text before its first line.
+    pub fn new(alloc: Global) -> Draft
+        ensures { draft_view result ≡ at_start }
+    {
+        Draft {
+            position: Position::AtVersion,
+            version: 1,
+            peers: 0,
+            table: 0,
+            common: 0,
+            out: 0,
+            mtu: 0,
+            geometry: None,
+            queue: None,
+            wiring: Wiring::Intx,
+            honest: Flags::new(alloc),
+            acts: Acts::new(alloc),
+            turns: 0,
+            autos: [false; 8],
+            storms: [false; 8],
+            called: [false; 8],
+        }
+    }
+
+    /// Returns the scenario of the lines up to the end.
+    // claim with Draft::new: A draft becomes the scenario of what was read so far.
+    pub fn finish(self) -> Scenario
+        requires ended { has_ended (draft_view self) ≡ true }
+        requires world { IsWorld (world_of_draft (draft_view self)) }
+        ensures { world_of result ≡ world_of_draft (draft_view self) }
+    {
+        let Draft {
+            geometry,
+            version,
+            queue,
+            wiring,
+            honest,
+            acts,
+            ..
+        } = self;
+        let (Some(geometry), Some(queue)) = (geometry, queue) else {
+            unreachable!()
+        };
+        Scenario {
+            geometry,
+            queue,
+            wiring,
+            honest,
+            acts,
+            version,
+        }
+    }
+
     fn push_peer(&mut self, is_honest: bool) -> Result<(), NoMemory>
         requires order { 5 < ordinal_of self.old.position }
         ensures { OnOk result (draft_view self.new ≡ with_peer is_honest (draft_view self.old)) }
@@ -195,13 +251,17 @@ impl Grammar for Draft {
         }
     }
 
-    fn is_out_of_order(&self, form: Form, fields: &[&[u8]]) -> bool {
-        if Position::of(form) != self.position {
-            return true;
-        }
-        match number_in(fields, 1) {
-            None => false,
-            Some(p) => is_out_of_turn(self, form, p),
+    fn is_at(&self, form: Form) -> bool {
+        Position::of(form) == self.position
+    }
+
+    fn is_out_of_turn(&self, form: Form, p: u64) -> bool {
+        match form {
+            Form::Honest | Form::Hostile => p != self.honest.items().len() as u64,
+            Form::Tick | Form::Poll | Form::Stop => flag_at(&self.autos, p),
+            Form::Auto => flag_at(&self.autos, p) || flag_at(&self.called, p),
+            Form::Storm => flag_at(&self.storms, p),
+            _ => false,
         }
     }
 

@@ -1,20 +1,18 @@
 use Rattle.std.proofs.Common.{Ok, refl, sym, ap, rules}
 use Rattle.line_format.proofs.AnswerLaws.{exact_ok, exact_err, only_answer}
-use Rattle.frame_bridge.specs.declared.faults.BridgeFault.TheVariants.{NoMemory}
 use Rattle.frame_bridge.specs.Spelling.{world_of}
 use Rattle.frame_bridge.specs.Judge.{machine, sense}
 use Rattle.frame_bridge.specs.Drafts.{draft_view}
-use Rattle.frame_bridge.specs.Answers.{is_no_memory}
 use Rattle.frame_bridge.proofs.SpelledIsRead.{is_forward}
 use Rattle.frame_bridge.proofs.ReadIsSpelled.{is_spelled}
 use Rattle.frame_bridge.proofs.reading.parse.Goals as goal
 
 pub returns : goal.returns
 returns c =
-    let exact = exact_ok machine sense c.args.bytes.now c.new-draft.ensures c.in_ok-read_text.ensures (ap (λ x. Ok x) (sym c.finish.ensures)) in
-    record { found = is_spelled c.args.bytes.now (draft_view c.read_text.new.draft) _ (rw c.new-draft.ensures at c.in_ok-read_text.ensures) c.finish.ensures; only = only_answer is_forward is_no_memory world_of c.args.bytes.now (Ok c.finish.result) exact; exact = exact }
+    let exact = exact_ok machine sense c.args.bytes.now c.new.ensures c.in_ok-read_text.ensures (ap (λ x. Ok x) (sym c.finish.ensures)) in
+    record { found = is_spelled c.args.bytes.now (draft_view c.in_ok-read_text.field-0) _ (rw c.new.ensures at c.in_ok-read_text.ensures) c.finish.ensures; only = only_answer is_forward world_of c.args.bytes.now (Ok c.finish.result) exact; exact = exact }
 
 pub returns-in_err-read_text : goal.returns-in_err-read_text
 returns-in_err-read_text c =
-    let exact = exact_err machine sense is_no_memory NoMemory refl world_of c.args.bytes.now (draft_view c.read_text.new.draft) c.in_err-read_text.field-0.0 c.from_residual.result c.from_residual.ensures.1 c.new-draft.ensures c.in_err-read_text.ensures in
-    record { found = search rules; only = only_answer is_forward is_no_memory world_of c.args.bytes.now c.from_residual.result exact; exact = exact }
+    let exact = exact_err machine sense refl world_of c.args.bytes.now draft_view c.in_err-read_text.field-0.0 c.from_residual.result c.from_residual.ensures.1 c.new.ensures c.in_err-read_text.ensures in
+    record { found = search rules; only = only_answer is_forward world_of c.args.bytes.now c.from_residual.result exact; exact = exact }

@@ -1,23 +1,21 @@
 use Rattle.std.proofs.Common.{Ok, refl, sym, ap, rules}
 use Rattle.line_format.proofs.AnswerLaws.{exact_ok, exact_err, only_answer}
-use Rattle.port_text.specs.declared.faults.PortsFault.TheVariants.{NoMemory}
 use Rattle.port_text.specs.Spelling.{world_of}
 use Rattle.port_text.specs.Judge.{machine, sense}
 use Rattle.port_text.specs.Drafts.{draft_view}
-use Rattle.port_text.specs.Answers.{is_no_memory}
 use Rattle.port_text.proofs.SpelledIsRead.{is_forward}
 use Rattle.port_text.proofs.ReadIsSpelled.{is_whole, is_spelled}
 use Rattle.port_text.proofs.reading.parse.Goals as goal
 
 pub returns : goal.returns
 returns c =
-    let exact = exact_ok machine sense c.args.bytes.now c.new-draft.ensures c.in_ok-read_text.ensures (ap (λ x. Ok x) (sym c.finish.ensures)) in
-    record { found = is_spelled c.args.bytes.now (draft_view c.read_text.new.draft) _ (rw c.new-draft.ensures at c.in_ok-read_text.ensures) c.finish.ensures; only = only_answer is_forward is_no_memory world_of c.args.bytes.now (Ok c.finish.result) exact; exact = exact }
+    let exact = exact_ok machine sense c.args.bytes.now c.new.ensures c.in_ok-read_text.ensures (ap (λ x. Ok x) (sym c.finish.ensures)) in
+    record { found = is_spelled c.args.bytes.now (draft_view c.in_ok-read_text.field-0) _ (rw c.new.ensures at c.in_ok-read_text.ensures) c.finish.ensures; only = only_answer is_forward world_of c.args.bytes.now (Ok c.finish.result) exact; exact = exact }
 
 pub finish-requires : goal.finish-requires
-finish-requires c = is_whole c.args.bytes.now (draft_view c.read_text.new.draft) (rw c.new-draft.ensures at c.in_ok-read_text.ensures)
+finish-requires c = is_whole c.args.bytes.now (draft_view c.in_ok-read_text.field-0) (rw c.new.ensures at c.in_ok-read_text.ensures)
 
 pub returns-in_err-read_text : goal.returns-in_err-read_text
 returns-in_err-read_text c =
-    let exact = exact_err machine sense is_no_memory NoMemory refl world_of c.args.bytes.now (draft_view c.read_text.new.draft) c.in_err-read_text.field-0.0 c.from_residual.result c.from_residual.ensures.1 c.new-draft.ensures c.in_err-read_text.ensures in
-    record { found = search rules; only = only_answer is_forward is_no_memory world_of c.args.bytes.now c.from_residual.result exact; exact = exact }
+    let exact = exact_err machine sense refl world_of c.args.bytes.now draft_view c.in_err-read_text.field-0.0 c.from_residual.result c.from_residual.ensures.1 c.new.ensures c.in_err-read_text.ensures in
+    record { found = search rules; only = only_answer is_forward world_of c.args.bytes.now c.from_residual.result exact; exact = exact }

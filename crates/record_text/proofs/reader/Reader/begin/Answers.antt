@@ -11,13 +11,13 @@ use Rattle.record_text.proofs.reader.Reader.begin.Goals as goal
 pub returns-in_default-clause-refused : goal.returns-in_default-clause-refused
 returns-in_default-clause-refused c =
     let part = part_view c.loop-rest.draft in
-    refused c.args.bytes.now part texts.NoEnd (no_end machine part c.loop-rest.number c.loop-rest.rest.now (reading c.args.bytes.now) c.in_default.ensures.cuts c.loop-rest.invariant.comes)
+    refused c.args.bytes.now texts.NoEnd (no_end machine part c.loop-rest.number c.loop-rest.rest.now (reading c.args.bytes.now) c.in_default.ensures.cuts c.loop-rest.invariant.comes)
 
 pub returns-in-Err-Wrong-clause-refused : goal.returns-in-Err-Wrong-clause-refused
 returns-in-Err-Wrong-clause-refused c =
     let part = part_view c.loop-rest.draft in
     let wrong = wrong_line machine part c.loop-rest.number c.loop-rest.rest.now c.in-Some.line.now c.in-Some.more.now c.in-Err-Wrong.cause (reading c.args.bytes.now) c.in-Some.ensures.cuts (rw c.in-Err-Wrong.field-0-is at c.in-Err-Wrong.ensures) c.loop-rest.invariant.comes in
-    rw c.at.ensures (rw c.in-Err-Wrong.cause-is (refused c.args.bytes.now part (texts.At c.in-Err-Wrong.cause (c.loop-rest.number + 1)) wrong))
+    rw c.at.ensures (rw c.in-Err-Wrong.cause-is (refused c.args.bytes.now (texts.At c.in-Err-Wrong.cause (c.loop-rest.number + 1)) wrong))
 
 pub loop-rest-preserved : goal.loop-rest-preserved
 loop-rest-preserved c =

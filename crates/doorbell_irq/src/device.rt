@@ -9,6 +9,7 @@ ghost use Rattle.doorbell_irq.specs.DeviceRules.{bytes_after, register_at, msix_
 ghost use Rattle.doorbell_irq.specs.Refinement.{Refines, Adds, HasEffect, peer_count};
 ghost use Rattle.doorbell_irq.specs.Registers.{IsPeer};
 ghost use Rattle.doorbell_irq.specs.Routes.{IsRoute};
+ghost use Rattle.pci_space.specs.declared.sizes.TheConstants.{SPACE_LEN};
 
 use crate::effect::Effect;
 use crate::peers;
@@ -82,7 +83,7 @@ impl Device {
     //    those of the space, at every offset and width.
     pub fn config_read(&self, peer: u32, offset: u16, width: u16) -> Result<u32, BadAccess>
         requires { peer < peer_count self.now }
-        ensures allowed { IsOk result ↔ IsTrue (is_access 256 offset width) }
+        ensures allowed { IsOk result ↔ IsTrue (is_access SPACE_LEN offset width) }
         ensures value { (w : Devices) (events : List Event) → Refines w events self.now →
             IfOk result (λ v. v ≡ number_from (bytes_after w events peer Config) offset width) }
         ensures refused { IfErr result (λ e. e ≡ record { offset = offset; width = width }) }
@@ -109,7 +110,7 @@ impl Device {
         value: u32,
     ) -> Result<(), BadAccess>
         requires { peer < peer_count self.old }
-        ensures allowed { IsOk result ↔ IsTrue (is_access 256 offset width) }
+        ensures allowed { IsOk result ↔ IsTrue (is_access SPACE_LEN offset width) }
         ensures written { (w : Devices) (events : List Event) → Refines w events self.old →
             OnOk result (Refines w (ConfigWritten peer offset width value ∷ events) self.new) }
         ensures refused { IfErr result (λ e. (e ≡ record { offset = offset; width = width }) × (self.new ≡ self.old)) }

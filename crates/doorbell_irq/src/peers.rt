@@ -11,6 +11,7 @@ ghost use Rattle.doorbell_irq.specs.DeviceView.{IsDeviceView};
 ghost use Rattle.doorbell_irq.specs.Refinement.{Refines, Adds, HasEffect, among};
 ghost use Rattle.doorbell_irq.specs.Routes.{IsRoute};
 ghost use Rattle.doorbell_irq.specs.Triggers.{doorbell_effect, KeepsPast};
+ghost use Rattle.pci_space.specs.declared.sizes.TheConstants.{SPACE_LEN};
 
 use crate::doorbell::{REGISTER_STATE, doorbell_target, doorbell_vector};
 use crate::effect::{Delivery, Effect};
@@ -35,7 +36,7 @@ pub fn config_read<E: MsixTable + Drop>(
     requires sound { IsDeviceView (among peers wiring registers.now) }
     requires count { peers ≤ length registers.now }
     requires inside { peer < peers }
-    ensures allowed { IsOk result ↔ IsTrue (is_access 256 offset width) }
+    ensures allowed { IsOk result ↔ IsTrue (is_access SPACE_LEN offset width) }
     ensures value { (w : Devices) (events : List Event) → Refines w events (among peers wiring registers.now) →
         IfOk result (λ v. v ≡ number_from (bytes_after w events peer Config) offset width) }
     ensures refused { IfErr result (λ e. e ≡ record { offset = offset; width = width }) }
@@ -59,7 +60,7 @@ pub fn config_write<E: MsixTable + Drop>(
     requires sound { IsDeviceView (among peers wiring registers.old) }
     requires count { peers ≤ length registers.old }
     requires inside { peer < peers }
-    ensures allowed { IsOk result ↔ IsTrue (is_access 256 offset width) }
+    ensures allowed { IsOk result ↔ IsTrue (is_access SPACE_LEN offset width) }
     ensures written { (w : Devices) (events : List Event) → Refines w events (among peers wiring registers.old) →
         OnOk result (Refines w (ConfigWritten peer offset width value ∷ events) (among peers wiring registers.new)) }
     ensures refused { IfErr result

@@ -10,6 +10,7 @@ ghost use Rattle.doorbell_irq.specs.DeviceRules.{bit, state_in, is_enabled, is_o
 ghost use Rattle.doorbell_irq.specs.Registers.{register_bytes, delivery_at, Writes, Takes, IsPeer, IsReset, IsEntryAtReset};
 ghost use Rattle.doorbell_irq.specs.Triggers.{vector_at};
 ghost use Rattle.doorbell_irq.specs.Routes.{would_be_delivered, is_intx};
+ghost use Rattle.pci_space.specs.declared.sizes.TheConstants.{SPACE_LEN};
 
 use crate::doorbell::{REGISTER_DOORBELL, REGISTER_STATE};
 use crate::msix_table::MsixTable;
@@ -162,7 +163,7 @@ impl<E: MsixTable + Drop> PeerDevice<E> {
 
     /// Reads the configuration space.
     pub(crate) fn read_config(&self, offset: u16, width: u16) -> Result<u32, BadAccess>
-        ensures allowed { IsOk result ↔ IsTrue (is_access 256 offset width) }
+        ensures allowed { IsOk result ↔ IsTrue (is_access SPACE_LEN offset width) }
         ensures value { IfOk result (λ v. v ≡ number_from (slice_index self.now.config.bytes) offset width) }
         ensures refused { IfErr result (λ e. e ≡ record { offset = offset; width = width }) }
     {
@@ -176,7 +177,7 @@ impl<E: MsixTable + Drop> PeerDevice<E> {
         width: u16,
         value: u32,
     ) -> Result<(), BadAccess>
-        ensures allowed { IsOk result ↔ IsTrue (is_access 256 offset width) }
+        ensures allowed { IsOk result ↔ IsTrue (is_access SPACE_LEN offset width) }
         ensures written { OnOk result
             (Writes (Some (record { offset = offset; width = width; value = value })) None (λ n. None) self.old self.new) }
         ensures refused { IfErr result (λ e. (e ≡ record { offset = offset; width = width }) × (self.new ≡ self.old)) }

@@ -1,6 +1,9 @@
 -- The link of a port: its words, a station as end 0 and the bridge's end as end 1. Each end chooses
 -- its own calls (profile).
-use Rattle.std.specs.Prelude.{ℕ, ◌==◌, if◌then◌else◌, List, [], ◌++◌, length}
+use Rattle.std.specs.Prelude.{ℕ, ◌/◌, ◌==◌, if◌then◌else◌, List, [], ◌++◌, length}
+use Rattle.frame_bridge.specs.declared.limits.TheConstants.{PORT_OUT}
+use Rattle.split_ring.specs.declared.sizes.TheConstants.{LEAST_MTU}
+use Rattle.section_map.specs.declared.limits.TheConstants.{PAGE_WORDS}
 use Rattle.split_ring.specs.declared.steps.Access.{Access}
 use Rattle.split_ring.specs.declared.steps.Access.TheVariants as access
 use Rattle.call_grammar.specs.Ends.{End, fresh, end_after}
@@ -10,10 +13,10 @@ use Rattle.call_grammar.specs.Automatic.{Round, Anew, AfterOffer, AfterPoll, Cho
 use Rattle.link_invariant.specs.LinkConfig.{LinkConfig, config_of}
 use Rattle.link_endpoint.specs.Plan.{left_after, delivered_by}
 
--- A region of two peers: a State Table of 4,096 bytes, no common section, and sections of 16,384
--- bytes. Each section has a queue of version 1 for an MTU of 256. Doorbells have vector 1.
+-- A region of two peers: a State Table of one page, no common section, and sections of `PORT_OUT`
+-- bytes. Each section has a queue of version 1 for the least MTU. Doorbells have vector 1.
 abbrev pub link_config : LinkConfig
-link_config = record { first = 1024; words = 4096; sizes = record { version = 1; out = 16384; mtu = 256 }; vector = 1 }
+link_config = record { first = PAGE_WORDS; words = PORT_OUT / 4; sizes = record { version = 1; out = PORT_OUT; mtu = LEAST_MTU }; vector = 1 }
 
 -- The number of deliveries that each end expects; more can't happen, so no end is ever finished.
 abbrev pub expected : ℕ

@@ -1,5 +1,7 @@
 -- The abstract state that the code of a run represents.
 use Rattle.std.specs.Prelude.{ℕ, ◌≡◌, ◌+◌, ◌^◌, ◌==◌, ◌<◌, ◌≤◌, Bool, Some, Result, OnOk, slice_get, true, false, if◌then◌else◌, List, [], ◌∷◌, ◌++◌, length, map, min, slice_index}
+use Rattle.frame_bridge.specs.declared.limits.TheConstants.{PORT_OUT}
+use Rattle.section_map.specs.declared.limits.TheConstants.{PAGE}
 use Rattle.line_format.specs.Rows.{text_of}
 use Rattle.section_map.specs.Geometry.{Shape, Words, word_count}
 use Rattle.section_map.specs.Faults.{shape_of}
@@ -22,7 +24,7 @@ use Rattle.frame_bridge.specs.Links.{link_config, expected, turned, with_copies}
 
 -- The sizes of the region.
 abbrev pub shape : Shape
-shape = shape_of 2 4096 0 16384
+shape = shape_of 2 PAGE 0 PORT_OUT
 
 -- The plan is that of an automatic end.
 pub record IsPlanOf (plan : Plan) (auto_end : links.AutoEnd) : Type 0 where

@@ -1,6 +1,7 @@
 -- The run of a bridge: the links of its ports take turns, and each frame that the bridge's end of a
 -- port delivers arrives.
 use Rattle.std.specs.Prelude.{ℕ, zero, suc, ◌==◌, if◌then◌else◌, List, [], ◌∷◌, ◌++◌, map, filter, fold}
+use Rattle.frame_bridge.specs.declared.limits.TheConstants.{TURNS}
 use Rattle.std.specs.List.{flat_map}
 use Rattle.frame_bridge.specs.declared.scripts.Sent.{Sent}
 use Rattle.frame_bridge.specs.Spelling as text
@@ -28,9 +29,9 @@ unfoldable pub times : ℕ → Turn → List Turn
 times zero t = []
 times (suc count) t = times count t ++ t ∷ []
 
--- A port has 64 turns of its station, then 64 of the bridge's end.
+-- A port has `TURNS` turns of its station, then as many of the bridge's end.
 abbrev pub turns_of : ℕ → List Turn
-turns_of port = times 64 (turn port 0) ++ times 64 (turn port 1)
+turns_of port = times TURNS (turn port 0) ++ times TURNS (turn port 1)
 
 -- In a round each port has its turns, in ascending order.
 abbrev pub schedule : (rounds ports : ℕ) → List Turn

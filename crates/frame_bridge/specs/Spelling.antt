@@ -1,6 +1,7 @@
 -- The value of a text of a bridge, and its one spelling (profile): a head gives the ports and the
 -- rounds; the frames follow.
-use Rattle.std.specs.Prelude.{◌≡◌, ℕ, ◌≤◌, ◌&&◌, nat_lt, nat_le, Bool, true, List, [], ◌∷◌, ◌++◌, length, slice_index, map, All}
+use Rattle.std.specs.Prelude.{◌≡◌, ℕ, ◌+◌, ◌≤◌, ◌&&◌, nat_lt, nat_le, Bool, true, List, [], ◌∷◌, ◌++◌, length, slice_index, map, All}
+use Rattle.split_ring.specs.declared.sizes.TheConstants.{FRAME_OVERHEAD, LEAST_MTU, SHORTEST_FRAME}
 use Rattle.line_format.specs.Forms.{Fit, FitBytes}
 use Rattle.line_format.specs.Rows.{Row, row, text_of}
 use Rattle.frame_bridge.specs.declared.limits.TheConstants.{MOST_FRAMES, MOST_ROUNDS}
@@ -25,9 +26,9 @@ abbrev pub is_in_range : World → Form → List ℕ → Bool
 is_in_range w Frame ns = nat_lt (slice_index ns 0) w.ports
 is_in_range w _ ns = true
 
--- A frame has 14 to 274 bytes.
+-- A frame has a length that the least MTU allows.
 abbrev pub is_frame_length : Form → ℕ → Bool
-is_frame_length Frame size = nat_le 14 size && nat_le size 274
+is_frame_length Frame size = nat_le SHORTEST_FRAME size && nat_le size (LEAST_MTU + FRAME_OVERHEAD)
 is_frame_length _ size = true
 
 abbrev pub row_of_sent : Sent → Row Form

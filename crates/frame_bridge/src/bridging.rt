@@ -17,32 +17,33 @@ ghost use Rattle.frame_bridge.specs.Refinement.{shape, PortRefines, ArePorts, Ru
 
 use crate::faults::BridgeFault;
 use crate::learning::Bridge;
+use crate::limits::PORT_OUT;
 use crate::output::{Line, put};
 use crate::ports::Port;
 use crate::reading::parse;
 use crate::run::Run;
 use crate::scripts::{Script, SentFrames};
 use ivs_base::NoMemory;
-use section_map::Geometry;
-use split_ring::Queue;
+use section_map::{Geometry, PAGE};
+use split_ring::{LEAST_MTU, Queue};
 use std::alloc::Global;
 
-/// Returns the geometry of a port's region: a page for the State Table, and sections of 16,384
+/// Returns the geometry of a port's region: a page for the State Table, and sections of `PORT_OUT`
 /// bytes for two peers.
 fn region() -> Geometry
     ensures { result ≡ shape }
 {
-    match Geometry::new(2, 4096, 0, 16_384) {
+    match Geometry::new(2, PAGE, 0, PORT_OUT) {
         Ok(geometry) => geometry,
         Err(_) => unreachable!(),
     }
 }
 
-/// Returns the queue of such a section, for an MTU of 256.
+/// Returns the queue of such a section, for the least MTU.
 fn section() -> Queue
     ensures { result ≡ link_config.sizes }
 {
-    match Queue::of(16_384, 256) {
+    match Queue::of(PORT_OUT, LEAST_MTU) {
         Ok(queue) => queue,
         Err(_) => unreachable!(),
     }

@@ -9,13 +9,11 @@ ghost use Rattle.frame_bridge.specs.Run.{World, turn, turns_of, schedule, ran, w
 ghost use Rattle.frame_bridge.specs.Refinement.{RunRefines, IsUnderWay, IsUnderWayAt, LeadsTo, with_arrival};
 
 use crate::learning::Bridge;
+use crate::limits::TURNS;
 use crate::output::{Line, put};
 use crate::ports::Port;
 use ivs_base::{Frame, NoMemory};
 use std::alloc::Global;
-
-/// The number of turns of an end in a round.
-const TURNS: u32 = 64;
 
 /// A run so far: the bridge, its ports, and the lines of what arrived.
 #[derive(Debug, Drop)]

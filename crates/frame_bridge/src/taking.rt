@@ -13,6 +13,7 @@ use crate::positions::Position;
 use crate::scripts::{Script, Sent, SentFrames};
 use ivs_base::Frame;
 use line_format::{FieldKind, Grammar, LineFault, Test, number_at};
+use split_ring::{FRAME_OVERHEAD, LEAST_MTU, SHORTEST_FRAME};
 use std::alloc::Global;
 
 impl Draft {
@@ -97,10 +98,12 @@ impl Grammar for Draft {
         true
     }
 
-    /// Whether a frame has 14 to 274 bytes.
+    /// Whether a frame has a length that the least MTU allows.
     fn fits(&self, form: Form, size: u64) -> bool {
         match form {
-            Form::Frame => 14 <= size && size <= 274,
+            Form::Frame => {
+                u64::from(SHORTEST_FRAME) <= size && size <= u64::from(LEAST_MTU) + FRAME_OVERHEAD
+            }
             _ => true,
         }
     }

@@ -8,7 +8,7 @@ use Rattle.scenario_text.specs.Acts.{turns_of}
 use Rattle.scenario_text.specs.Loads.{offering_acts, link_world}
 use Rattle.scenario_text.specs.Scenario.{World}
 use Rattle.scenario_text.specs.Spelling.{spelling}
-use Rattle.frame_capture.specs.declared.feeding.TheConstants.{FEED_MTU, FEED_OUT, FEED_STEPS, LONGEST_OFFERED}
+use Rattle.frame_capture.specs.declared.feeding.TheConstants.{FEED_MTU, FEED_OUT, FEED_ROUNDS, FEED_STEPS, FRAMES_A_ROUND, FRAME_WEIGHT, LONGEST_OFFERED, WEIGHT_A_ROUND}
 use Rattle.frame_capture.specs.declared.packets.Packet.{Packet}
 
 -- A packet is offered if it has its whole frame, of 14 to `LONGEST_OFFERED` bytes.
@@ -19,13 +19,13 @@ is_offered p = length p.frame == p.original && nat_le SHORTEST_FRAME (length p.f
 abbrev pub offered_frames : List Packet → List (List ℕ)
 offered_frames ps = map (λ p. p.frame) (filter is_offered ps)
 
--- The weight of a frame: its number of words, and 12.
+-- The weight of a frame: its number of words, and `FRAME_WEIGHT`.
 abbrev pub weight : List ℕ → ℕ
-weight frame = (length frame + 3) / 4 + 12
+weight frame = (length frame + 3) / 4 + FRAME_WEIGHT
 
 -- The number of rounds.
 abbrev pub round_count : List (List ℕ) → ℕ
-round_count frames = 300 + length frames / 14 + sum_by weight frames / 500
+round_count frames = FEED_ROUNDS + length frames / FRAMES_A_ROUND + sum_by weight frames / WEIGHT_A_ROUND
 
 -- The number of acts of the scenario; a turn counts for its steps.
 abbrev pub act_count : List (List ℕ) → ℕ

@@ -17,6 +17,18 @@ use thiserror::Error;
 /// The number of steps in a turn line of the scenario (profile).
 pub const FEED_STEPS: u32 = 1000;
 
+/// The number of rounds of a scenario without frames (profile).
+pub const FEED_ROUNDS: u32 = 300;
+
+/// The number of frames for which one more round is due (profile).
+pub const FRAMES_A_ROUND: u32 = 14;
+
+/// The weight of frames for which one more round is due (profile).
+pub const WEIGHT_A_ROUND: u32 = 500;
+
+/// The weight of a frame in addition to the number of its words (profile).
+pub const FRAME_WEIGHT: u32 = 12;
+
 /// The size of an output section of the scenario, in bytes: 127 pages (profile).
 pub const FEED_OUT: u64 = 520_192;
 
@@ -74,7 +86,7 @@ fn weigh(packets: &[Packet]) -> (u64, u128)
     for packet in packets {
         if is_offered(packet) {
             frames += 1;
-            weight += (packet.frame.bytes().len() as u128 + 3) / 4 + 12;
+            weight += (packet.frame.bytes().len() as u128 + 3) / 4 + u128::from(FRAME_WEIGHT);
         }
     }
     (frames, weight)
@@ -88,7 +100,9 @@ fn plan_of(packets: &[Packet]) -> Option<Plan>
     ensures many { IfNone result (MOST_ACTS < act_count (offered_frames packets.now)) }
 {
     let (frames, weight) = weigh(packets);
-    let rounds = 300 + u128::from(frames) / 14 + weight / 500;
+    let rounds = u128::from(FEED_ROUNDS)
+        + u128::from(frames) / u128::from(FRAMES_A_ROUND)
+        + weight / u128::from(WEIGHT_A_ROUND);
     if 2 + u128::from(frames) + 2 * u128::from(FEED_STEPS) * rounds > u128::from(MOST_ACTS) {
         return None;
     }

@@ -1,6 +1,6 @@
 -- The exact answer of each export, and its effect on the end of a handle.
 use Rattle.std.specs.Prelude.{ℕ, ◌≡◌, ◌≢◌, ◌+◌, ◌*◌, ◌/◌, ◌%◌, ◌==◌, ◌<◌, ◌≤◌, nat_lt, if◌then◌else◌, List, length, take, drop, Option, Some, None, is_none, IfSome}
-use Rattle.split_ring.specs.declared.sizes.TheConstants.{FRAME_OVERHEAD}
+use Rattle.split_ring.specs.declared.sizes.TheConstants.{FRAME_OVERHEAD, SHORTEST_FRAME}
 use Rattle.section_map.specs.Geometry.{IsShape}
 use Rattle.split_ring.specs.Layout.{IsVersion, IsQueue}
 use Rattle.split_ring.specs.declared.steps.Access as steps
@@ -42,7 +42,7 @@ begin_answer call port =
 
 abbrev pub offer_answer : List ℕ → EndState → Status
 offer_answer frame port =
-    if nat_lt (length frame) 14 then ShortFrame
+    if nat_lt (length frame) SHORTEST_FRAME then ShortFrame
     else if nat_lt (port.endpoint.config.sizes.mtu + FRAME_OVERHEAD) (length frame) then LongFrame
     else if is_busy port.endpoint then CallOpen
     else Done

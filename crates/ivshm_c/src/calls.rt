@@ -15,7 +15,7 @@ use crate::end_state::EndState;
 use crate::{Access, Burst, Bursts, FrameReturn, Notes, Publication};
 use c_status::Status;
 use link_endpoint::Endpoint;
-use split_ring::steps;
+use split_ring::{SHORTEST_FRAME, steps};
 use std::alloc::Global;
 
 /// Makes an end of a link of this version. The tests are in this order: the peer, the version, the
@@ -75,7 +75,7 @@ pub(crate) fn offered(port: &mut EndState, frame: &[u8]) -> Status
     ensures answer { result ≡ offer_answer frame.now port.old }
     ensures step { OffersAnswered frame.now port.old port.new }
 {
-    if frame.len() < 14 {
+    if frame.len() < SHORTEST_FRAME as usize {
         return Status::ShortFrame;
     }
     let longest = port.endpoint.longest() as usize;
@@ -94,7 +94,7 @@ pub(crate) fn offered_again(port: &mut EndState) -> Status
     ensures answer { result ≡ offer_answer (offered port.old.endpoint) port.old }
     ensures step { OffersAnswered (offered port.old.endpoint) port.old port.new }
 {
-    if port.endpoint.offered().len() < 14 {
+    if port.endpoint.offered().len() < SHORTEST_FRAME as usize {
         return Status::ShortFrame;
     }
     if port.endpoint.busy() {

@@ -7,7 +7,7 @@ ghost use Rattle.ivshm_c.specs.Sizes.{no_msix, found_crossed, capability_status,
 use c_status::{Status, geometry_status};
 use pci_space::{CapabilityFault, MsixFound};
 use section_map::Geometry;
-use split_ring::{LONGEST_FRAME, Queue, QueueFault};
+use split_ring::{FRAME_OVERHEAD, LONGEST_FRAME, Queue, QueueFault};
 
 /// The result of a walk over a device's configuration space. Sizes are in bytes.
 ///
@@ -174,7 +174,7 @@ pub(crate) fn layout_of(geometry: &Geometry, queue: &Queue) -> Layout
         used_index: queue.used_word(),
         used_elements: queue.used_id(0),
         available_event: queue.avail_event_word(),
-        longest_offer: queue.mtu() + 18,
+        longest_offer: queue.mtu() + FRAME_OVERHEAD as u32,
         longest_delivery: longest_delivery(queue),
     }
 }

@@ -1,5 +1,6 @@
 -- The exact status of each export, and what the export does to the devices of a handle.
 use Rattle.std.specs.Prelude.{ℕ, ◌||◌, ◌++◌, ◌≡◌, ◌≢◌, ◌+◌, ◌*◌, ◌%◌, ◌^◌, ◌<◌, ◌≤◌, ◌==◌, nat_lt, if◌then◌else◌, Bool, List, [], Option, Some, None}
+use Rattle.pci_space.specs.declared.sizes.TheConstants.{SPACE_LEN, MOST_VECTORS}
 use Rattle.section_map.specs.Geometry.{Shape, IsShape, word_count}
 use Rattle.section_map.specs.Faults.{shape_of, IsFirstFault}
 use Rattle.section_map.specs.declared.sizes.GeometryFault.{GeometryFault}
@@ -45,7 +46,7 @@ peer_answer peer state = if nat_lt peer (peer_count state.device) then Done else
 
 -- The status of an access to a configuration space: 1, 2 or 4 bytes at a multiple of the width.
 abbrev pub access_answer : (peer offset width : ℕ) → DeviceState → Status
-access_answer peer offset width state = if nat_lt peer (peer_count state.device) then (if is_access 256 offset width then Done else BadAccess) else BadPeer
+access_answer peer offset width state = if nat_lt peer (peer_count state.device) then (if is_access SPACE_LEN offset width then Done else BadAccess) else BadPeer
 
 -- A configuration space is written.
 abbrev pub WritesConfig : (peer offset width value : ℕ) → DeviceState → DeviceState → Type 0
@@ -143,7 +144,7 @@ IsPlaceOf bytes base (Bar2 bits) = (base ≡ 0) × ((bytes ≤ 2 ^ bits) × (2 ^
 -- Worlds of which devices are made, unless memory runs out. They have at most 64 vectors, at most 8
 -- peers, the sizes of a region, and a base.
 abbrev pub MayMake : World → Type 0
-MayMake w = (w.vectors ≤ 64) × ((w.peers ≤ 8) × (IsShape (shape_in w) × IsBase w))
+MayMake w = (w.vectors ≤ MOST_VECTORS) × ((w.peers ≤ 8) × (IsShape (shape_in w) × IsBase w))
 
 -- New devices of a world: all peers are connected and at reset.
 abbrev pub IsNew : World → DeviceState → Type 0
@@ -154,11 +155,11 @@ IsNew w state =
 
 -- Why no devices are made: the first of these causes. Memory may run out at any time.
 pub data RefusesNew (w : World) : Status → Type 0 where
-  bad_vectors : 65 ≤ w.vectors → RefusesNew w BadVectors
-  many_peers : w.vectors ≤ 64 → 9 ≤ w.peers → RefusesNew w BadPeers
-  bad_sizes : w.vectors ≤ 64 → w.peers ≤ 8 → (fault : GeometryFault) → IsFirstFault w.peers w.table w.common w.out fault →
+  bad_vectors : MOST_VECTORS < w.vectors → RefusesNew w BadVectors
+  many_peers : w.vectors ≤ MOST_VECTORS → 9 ≤ w.peers → RefusesNew w BadPeers
+  bad_sizes : w.vectors ≤ MOST_VECTORS → w.peers ≤ 8 → (fault : GeometryFault) → IsFirstFault w.peers w.table w.common w.out fault →
       RefusesNew w (geometry_status fault)
-  bad_base : w.vectors ≤ 64 → w.peers ≤ 8 → IsShape (shape_in w) → (IsBase w → ⊥) → RefusesNew w BadBase
+  bad_base : w.vectors ≤ MOST_VECTORS → w.peers ≤ 8 → IsShape (shape_in w) → (IsBase w → ⊥) → RefusesNew w BadBase
   no_memory : MayMake w → RefusesNew w NoMemory
 
 -- The status of a call that makes devices, and the devices of the handle after the call.

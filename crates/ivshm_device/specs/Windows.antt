@@ -1,5 +1,6 @@
 -- Accesses of 1, 2, 4 and 8 bytes to the windows of a peer's device. Values are of 64 bits.
 use Rattle.std.specs.Prelude.{ℕ, ◌+◌, ◌*◌, ◌/◌, ◌%◌, ◌==◌, ◌&&◌, if◌then◌else◌, List, [], ◌∷◌, ◌++◌, None}
+use Rattle.pci_space.specs.declared.sizes.TheConstants.{SPACE_LEN}
 use Rattle.pci_space.specs.declared.wiring.Wiring.{Wiring}
 use Rattle.pci_space.specs.Fields.{is_access}
 use Rattle.pci_space.specs.Numbers.{number_from}
@@ -24,7 +25,7 @@ high_word value = value / 0x1_0000_0000
 
 -- A configuration space reads its aligned 1, 2 and 4 bytes.
 abbrev pub config_at : Bytes → (offset width : ℕ) → ℕ
-config_at byte offset width = if is_access 256 offset width then number_from (byte Config) offset width else 0
+config_at byte offset width = if is_access SPACE_LEN offset width then number_from (byte Config) offset width else 0
 
 -- A register page reads its aligned words.
 abbrev pub page_at : Bytes → (offset width : ℕ) → ℕ
@@ -45,7 +46,7 @@ read_at wiring byte MsixRegion offset width = msix_region_at wiring byte offset 
 
 -- The events of a write, the newest first. A write that a window does not have is no event.
 abbrev pub config_events : (peer offset width value : ℕ) → List Event
-config_events peer offset width value = if is_access 256 offset width then ConfigWritten peer offset width (low_word value) ∷ [] else []
+config_events peer offset width value = if is_access SPACE_LEN offset width then ConfigWritten peer offset width (low_word value) ∷ [] else []
 
 abbrev pub page_events : (peer offset width value : ℕ) → List Event
 page_events peer offset width value = if width == 4 then RegisterWritten peer offset (low_word value) ∷ [] else []

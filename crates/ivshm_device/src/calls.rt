@@ -4,6 +4,7 @@ ghost use Rattle.doorbell_irq.specs.Events.{RegisterWritten, MsixWritten, WasRes
 ghost use Rattle.pci_space.specs.Wiring.{IsWiring};
 ghost use Rattle.pci_space.specs.Place.{IsRegionPlace};
 ghost use Rattle.ivshm_device.specs.Answers.{wiring_of, peer_answer, access_answer, WritesConfig, ReadsConfig, ReadsRegister, ReadsMsix, Changes, Acts, ReportsRoute, ReportsMessage, message_answer, is_width, window_answer, ReadsWindow, WritesWindow, IsPlaceOf, IsNew, RefusesNew};
+ghost use Rattle.pci_space.specs.declared.sizes.TheConstants.{MOST_VECTORS};
 
 use crate::crossing::{
     Access, Effect, Message, Route, World, cross_delivery, cross_effect, message_of, route_crossed,
@@ -13,13 +14,13 @@ use crate::peer_devices::PeerDevices;
 use crate::window::{REGISTER_PAGE, low_word, read_window, window_of, write_window};
 use c_status::{Status, geometry_status};
 use doorbell_irq::REGISTER_DOORBELL;
-use pci_space::{RegionPlace, Wiring};
+use pci_space::{MOST_VECTORS, RegionPlace, Wiring};
 use section_map::Geometry;
 use std::alloc::Global;
 
 /// Returns the wiring of a number of vectors: 0 is INTx.
 fn wiring_of(vectors: u32) -> Wiring
-    requires { vectors ≤ 64 }
+    requires { vectors ≤ MOST_VECTORS }
     ensures wiring { result ≡ wiring_of vectors }
     ensures few { IsWiring result }
 {
@@ -50,7 +51,7 @@ pub(crate) fn made(alloc: Global, world: &World) -> Result<Box<DeviceState>, Sta
     ensures made { IfOk result (λ state. IsNew world.now state.value) }
     ensures refused { IfErr result (RefusesNew world.now) }
 {
-    if world.vectors > 64 {
+    if world.vectors > MOST_VECTORS {
         return Err(Status::BadVectors);
     }
     if world.peers > 8 {

@@ -11,6 +11,7 @@ ghost use Rattle.doorbell_irq.specs.Refinement.{Refines, Adds, HasEffect, peer_c
 ghost use Rattle.doorbell_irq.specs.Registers.{IsPeer};
 ghost use Rattle.doorbell_irq.specs.Routes.{IsRoute};
 ghost use Rattle.doorbell_irq.specs.Triggers.{doorbell_effect};
+ghost use Rattle.pci_space.specs.declared.sizes.TheConstants.{SPACE_LEN, MOST_VECTORS};
 
 use crate::entry_list::EntryList;
 use doorbell_irq::{Delivery, Effect, PeerDevice, Route, peers};
@@ -103,14 +104,14 @@ impl PeerDevices {
     /// Returns the number of MSI-X vectors of each peer: 0 with INTx.
     pub(crate) fn vectors(&self) -> u32
         ensures value { result ≡ vector_count self.now.wiring }
-        ensures few { result ≤ 64 }
+        ensures few { result ≤ MOST_VECTORS }
     {
         vector_count(self.wiring)
     }
 
     pub(crate) fn config_read(&self, peer: u32, offset: u16, width: u16) -> Result<u32, BadAccess>
         requires { peer < peer_count self.now }
-        ensures allowed { IsOk result ↔ IsTrue (is_access 256 offset width) }
+        ensures allowed { IsOk result ↔ IsTrue (is_access SPACE_LEN offset width) }
         ensures value { (w : Devices) (events : List Event) → Refines w events self.now →
             IfOk result (λ v. v ≡ number_from (bytes_after w events peer Config) offset width) }
     {
@@ -132,7 +133,7 @@ impl PeerDevices {
         value: u32,
     ) -> Result<(), BadAccess>
         requires { peer < peer_count self.old }
-        ensures allowed { IsOk result ↔ IsTrue (is_access 256 offset width) }
+        ensures allowed { IsOk result ↔ IsTrue (is_access SPACE_LEN offset width) }
         ensures written { (w : Devices) (events : List Event) → Refines w events self.old →
             OnOk result (Refines w (ConfigWritten peer offset width value ∷ events) self.new) }
         ensures refused { IfErr result (λ e. self.new ≡ self.old) }

@@ -1,5 +1,6 @@
 //! The forms of lines as docs/FORMATS.md writes them, and the ranges of their numbers.
 
+use frame_bridge::MOST_ROUNDS;
 use frame_capture::MOST_ACTS;
 use pci_space::{MOST_VECTORS, SPACE_LEN};
 use section_map::PAGE;
@@ -153,7 +154,7 @@ fn head_range(word: &[u8], name: &[u8]) -> Option<(u64, u64)> {
         b"peers" => Some((2, 8)),
         b"ports" if name == b"K".as_slice() => Some((2, 8)),
         b"ports" | b"bridge" => Some((1, 1)),
-        b"rounds" => Some((0, 4000)),
+        b"rounds" => Some((0, MOST_ROUNDS)),
         b"irq" => Some((1, u64::from(MOST_VECTORS))),
         b"table" | b"mtu" | b"message" => Some((0, U32)),
         _ => None,

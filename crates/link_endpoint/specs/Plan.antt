@@ -1,5 +1,6 @@
 -- The view of an automatic end in contracts.
 use Rattle.std.specs.Prelude.{ℕ, ◌≡◌, ◌+◌, ◌≤◌, min, Bool, true, false, if◌then◌else◌, Option, Some, None, List, [], ◌∷◌, length, drop}
+use Rattle.split_ring.specs.declared.sizes.TheConstants.{FRAME_OVERHEAD, SHORTEST_FRAME}
 use Rattle.call_grammar.specs.Steps.{Mark, Accept, Deliver}
 use Rattle.call_grammar.specs.Ends.{End}
 use Rattle.call_grammar.specs.Calls.{EndConfig, Call}
@@ -89,7 +90,7 @@ call_chosen_by (Some choice) frames = call_of choice frames
 -- The first frame may be offered if it is chosen.
 abbrev pub MayOpen : (mtu : ℕ) → Choice → List (List ℕ) → Type 0
 MayOpen mtu Offer [] = ⊥
-MayOpen mtu Offer (frame ∷ frames) = (14 ≤ length frame) × (length frame ≤ mtu + 18)
+MayOpen mtu Offer (frame ∷ frames) = (SHORTEST_FRAME ≤ length frame) × (length frame ≤ mtu + FRAME_OVERHEAD)
 MayOpen mtu _ frames = Unit {0}
 
 abbrev pub MayOpenIf : (mtu : ℕ) → Option Choice → List (List ℕ) → Type 0

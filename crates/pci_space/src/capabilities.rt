@@ -1,6 +1,7 @@
 //! The walk over configuration bytes that cannot be trusted.
 ghost use Rattle.std.specs.Prelude.{◌≡◌, ℕ, ◌<◌, ◌≤◌, List, [], None};
 ghost use Rattle.pci_space.specs.Walk.{pointer_at, vendor_at, msix_at, listed_with, FollowsList, IsWalk, nothing_listed};
+ghost use Rattle.pci_space.specs.declared.sizes.TheConstants.{SPACE_LEN};
 
 use crate::found::{CapabilityFault, Found, Listed, MsixFound, Vendor};
 use crate::number::number_in;
@@ -17,7 +18,7 @@ const MSIX_ID: u8 = 0x11;
 /// first fault in the order of the list. A walk ends on every input: a pointer that occurs twice is
 /// a fault.
 // claim: A walk over 256 foreign bytes ends, with the answer of its rules.
-pub fn walk(bytes: &[u8; 256]) -> Result<Found, CapabilityFault>
+pub fn walk(bytes: &[u8; SPACE_LEN]) -> Result<Found, CapabilityFault>
     ensures { IsWalk bytes.now result }
 {
     let vendor = number_in(&bytes[..], 0x00, 2) as u16;
@@ -48,10 +49,10 @@ pub fn walk(bytes: &[u8; 256]) -> Result<Found, CapabilityFault>
 }
 
 /// Follows the list of capabilities to its end.
-fn follow_list(bytes: &[u8; 256]) -> Result<Listed, CapabilityFault>
+fn follow_list(bytes: &[u8; SPACE_LEN]) -> Result<Listed, CapabilityFault>
     ensures { FollowsList bytes.now [] (pointer_at bytes.now 0x34) nothing_listed result }
 {
-    let mut met = [false; 256];
+    let mut met = [false; SPACE_LEN];
     let mut so_far = Listed {
         vendor: None,
         msix: None,
@@ -72,8 +73,8 @@ fn follow_list(bytes: &[u8; 256]) -> Result<Listed, CapabilityFault>
 }
 
 /// Returns the pointer at an offset, with its low two bits cleared (PCI 3.0, 6.7).
-fn pointer(bytes: &[u8; 256], at: usize) -> usize
-    requires { at < 256 }
+fn pointer(bytes: &[u8; SPACE_LEN], at: usize) -> usize
+    requires { at < SPACE_LEN }
     ensures is { result ≡ pointer_at bytes.now at }
     ensures small { result ≤ 252 }
 {
@@ -82,7 +83,11 @@ fn pointer(bytes: &[u8; 256], at: usize) -> usize
 }
 
 /// Returns the findings in the list after the capability at `p`.
-fn with_capability(bytes: &[u8; 256], p: usize, so_far: Listed) -> Result<Listed, CapabilityFault>
+fn with_capability(
+    bytes: &[u8; SPACE_LEN],
+    p: usize,
+    so_far: Listed,
+) -> Result<Listed, CapabilityFault>
     requires { p ≤ 252 }
     ensures { result ≡ listed_with bytes.now p so_far }
 {
@@ -104,7 +109,7 @@ fn with_capability(bytes: &[u8; 256], p: usize, so_far: Listed) -> Result<Listed
 }
 
 /// Reads the vendor capability at `p`.
-fn read_vendor(bytes: &[u8; 256], p: usize) -> Result<Vendor, CapabilityFault>
+fn read_vendor(bytes: &[u8; SPACE_LEN], p: usize) -> Result<Vendor, CapabilityFault>
     requires { p ≤ 252 }
     ensures { result ≡ vendor_at bytes.now p }
 {
@@ -130,7 +135,7 @@ fn read_vendor(bytes: &[u8; 256], p: usize) -> Result<Vendor, CapabilityFault>
 }
 
 /// Reads the MSI-X capability at `p`.
-fn read_msix(bytes: &[u8; 256], p: usize) -> Result<MsixFound, CapabilityFault>
+fn read_msix(bytes: &[u8; SPACE_LEN], p: usize) -> Result<MsixFound, CapabilityFault>
     requires { p ≤ 252 }
     ensures { result ≡ msix_at bytes.now p }
 {

@@ -10,16 +10,18 @@ ghost use Rattle.pci_space.specs.declared.place.RegionPlace.{RegionPlace};
 ghost use Rattle.pci_space.specs.Place.{IsRegionPlace};
 ghost use Rattle.pci_space.specs.Device.{device_rows, placed_rows, found_of};
 ghost use Rattle.pci_space.specs.Walk.{IsWalk};
+ghost use Rattle.pci_space.specs.declared.sizes.TheConstants.{SPACE_LEN};
 
 use crate::field::Field;
 use crate::place::RegionPlace;
+use crate::sizes::SPACE_LEN;
 use crate::space::Space;
 use crate::table::table_of;
 use crate::wiring::Wiring;
 use section_map::Geometry;
 
 /// The configuration space of the device: 25 fields in 256 bytes.
-pub type ConfigSpace = Space<25, 256>;
+pub type ConfigSpace = Space<25, SPACE_LEN>;
 
 /// Rows of a table: place, width, reset value and mask; in brackets the row of the region's place.
 macro_rules! rows {
@@ -57,7 +59,10 @@ pub fn placed_space(
     ensures bytes { (k : ℕ) →
         slice_index result.bytes k ≡ reset_byte (placed_rows geometry.now protocol wiring region) k }
 {
-    let table = table_of(rows_of(geometry, protocol, wiring, region), 256);
+    let table = table_of(
+        rows_of(geometry, protocol, wiring, region),
+        SPACE_LEN as u16,
+    );
     Space::new(table)
 }
 
@@ -104,6 +109,6 @@ fn rows_of(geometry: &Geometry, protocol: u16, wiring: Wiring, region: RegionPla
 pub fn walk_finds_the_device()
     ensures { (shape : Shape) (protocol : ℕ) (wiring : Wiring) (region : RegionPlace) (bytes : List ℕ) (answer : _) →
         IsShape shape → protocol < 2 ^ 16 → IsWiring wiring → IsRegionPlace region →
-        ((k : ℕ) → k < 256 → slice_index bytes k ≡ reset_byte (placed_rows shape protocol wiring region) k) →
+        ((k : ℕ) → k < SPACE_LEN → slice_index bytes k ≡ reset_byte (placed_rows shape protocol wiring region) k) →
         IsWalk bytes answer → answer ≡ Ok (found_of shape protocol wiring region) }
 {}

@@ -1,5 +1,6 @@
 -- Reading line by line: the effect of a line, and the fault of a faulty one.
 use Rattle.std.specs.Prelude.{ℕ, ◌+◌, ◌==◌, not, nat_lt, if◌then◌else◌, Bool, true, false, List, [], ◌∷◌, ◌++◌, length, slice_index, Option, Some, None, Result, Ok}
+use Rattle.section_map.specs.declared.limits.TheConstants.{PAGE}
 use Rattle.line_format.specs.declared.grammar.Test.{Test}
 use Rattle.line_format.specs.declared.grammar.Test.TheVariants.{Line, Order, Number, Peer, Bytes, Sizes, Count}
 use Rattle.line_format.specs.Machine.{Machine}
@@ -70,7 +71,7 @@ is_out_of_turn d _ p = false
 
 -- The region is judged on the `out` line, and the ports on the `message` line.
 abbrev pub fits_sizes : DraftView → Form → List ℕ → Bool
-fits_sizes d Out ns = is_geometry d.peers 4096 0 (slice_index ns 0)
+fits_sizes d Out ns = is_geometry d.peers PAGE 0 (slice_index ns 0)
 fits_sizes d Longest ns = has_port (slice_index ns 0) d.out
 fits_sizes d _ ns = true
 

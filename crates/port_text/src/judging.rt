@@ -8,6 +8,7 @@ ghost use Rattle.port_text.specs.Table.{pieces_of};
 ghost use Rattle.port_text.specs.Scenario.{is_honest, is_peer, is_hostile};
 ghost use Rattle.port_text.specs.Judge.{world_of_draft, fits_sizes, act_of, is_act, is_sample};
 ghost use Rattle.port_text.specs.Drafts.{draft_view};
+ghost use Rattle.section_map.specs.declared.limits.TheConstants.{PAGE};
 
 use crate::acts::{Act, Message};
 use crate::drafts::Draft;
@@ -46,7 +47,7 @@ pub fn is_hostile(draft: &Draft, p: u64) -> bool
 
 /// Whether a region of these sizes exists.
 fn is_geometry(peers: u32, out: u64) -> bool
-    ensures { result ≡ is_geometry peers 4096 0 out }
+    ensures { result ≡ is_geometry peers PAGE 0 out }
 {
     Geometry::new(peers, TABLE, 0, out).is_ok()
 }

@@ -4,7 +4,7 @@ use crate::arrows::Arrow;
 use crate::labels::{Folded, folded_of, label_of, state_name};
 use crate::lines::line_at;
 use crate::pictures::Picture;
-use crate::places::{COLUMN, GUTTER, LABEL, NUMBER, ROW, TOP, column_x, row_y};
+use crate::places::{COLUMN, GUTTER, LABEL, MOST_ROWS, NUMBER, ROW, TOP, column_x, row_y};
 use crate::rows::Row;
 use crate::sheets::Sheet;
 use crate::titles::{has_line, left_out_words, shown_by, title_of};
@@ -310,7 +310,7 @@ fn put_start(
 /// Draws faint stripes that help the eye to follow a row.
 fn put_stripes(sheet: &mut Sheet, peers: u32, rows: usize) -> Result<(), NoMemory> {
     let width = column_x(peers) - GUTTER;
-    for at in 0..rows.min(4000) {
+    for at in 0..rows.min(MOST_ROWS) {
         if at % 2 == 1 {
             sheet.rect("stripe", 0, row_y(at), width, ROW)?;
         }

@@ -22,12 +22,15 @@ const LEFT: u64 = 80;
 /// The upper edge of the first row.
 pub const TOP: u64 = 104;
 
+/// The number of rows that are drawn at places of their own.
+pub const MOST_ROWS: usize = 4_000;
+
 /// Returns the upper edge of a row.
 pub fn row_y(row: usize) -> u64
     ensures least { 104 ≤ result }
     ensures most { result ≤ 100000 }
 {
-    TOP + ROW * (row.min(4000) as u64)
+    TOP + ROW * (row.min(MOST_ROWS) as u64)
 }
 
 /// Returns the left edge of a peer's column.

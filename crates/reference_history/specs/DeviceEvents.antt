@@ -1,5 +1,6 @@
 -- The events of the devices.
 use Rattle.std.specs.Prelude.{ℕ, ◌≡◌, ◌<◌, ◌^◌, true, Option, Some, None, List, []}
+use Rattle.pci_space.specs.declared.sizes.TheConstants.{SPACE_LEN}
 use Rattle.std.specs.List.{AllByRecursion}
 use Rattle.pci_space.specs.Fields.{is_access}
 use Rattle.doorbell_irq.specs.declared.effect.Delivery.{Delivery}
@@ -16,7 +17,7 @@ abbrev pub FitsDevices : ℕ → Line → Type 0
 FitsDevices peers (line.State peer value) = peer < peers
 FitsDevices peers (line.Doorbell peer target vector) = (peer < peers) × (target < 2 ^ 16) × (vector < 2 ^ 16)
 FitsDevices peers (line.Reset peer) = peer < peers
-FitsDevices peers (line.ConfigWrite peer offset width value) = (peer < peers) × (offset < 2 ^ 16) × (width < 2 ^ 16) × (is_access 256 offset width ≡ true)
+FitsDevices peers (line.ConfigWrite peer offset width value) = (peer < peers) × (offset < 2 ^ 16) × (width < 2 ^ 16) × (is_access SPACE_LEN offset width ≡ true)
 FitsDevices peers (line.RegisterWrite peer offset value) = peer < peers
 FitsDevices peers (line.MsixWrite peer offset value) = peer < peers
 FitsDevices peers _ = Unit {0}

@@ -1,5 +1,6 @@
 -- The events of a schedule that the events of this crate represent.
 use Rattle.std.specs.Prelude.{ℕ, ◌≡◌, ◌<◌, ◌^◌, true, Option, Some, None, List, [], ◌∷◌}
+use Rattle.pci_space.specs.declared.sizes.TheConstants.{SPACE_LEN}
 use Rattle.pci_space.specs.Fields.{is_access}
 use Rattle.split_ring.specs.declared.steps.Access.{Access}
 use Rattle.split_ring.specs.declared.steps.Access.TheVariants as access
@@ -52,8 +53,8 @@ IsDenied world me a (Some word) = ((past : List Line) → acted_step world me a 
 
 -- An access to the configuration space is one of its places.
 abbrev pub IsPlaced : schedule.DeviceAccess → Type 0
-IsPlaced (schedule.ReadsConfig offset width) = is_access 256 offset width ≡ true
-IsPlaced (schedule.WritesConfig offset width value) = is_access 256 offset width ≡ true
+IsPlaced (schedule.ReadsConfig offset width) = is_access SPACE_LEN offset width ≡ true
+IsPlaced (schedule.WritesConfig offset width value) = is_access SPACE_LEN offset width ≡ true
 IsPlaced _ = Unit {0}
 
 abbrev pub Fits : schedule.Event → Type 0

@@ -1,5 +1,6 @@
 -- Laws of every port, and the faults of a geometry without a port.
 use Rattle.std.specs.Prelude.{ℕ, ◌≡◌, ◌+◌, ◌*◌, ◌<◌, ◌≤◌, ◌⊎◌, true, List, [], ◌∷◌, ◌++◌, length, map, false, slice_index}
+use Rattle.split_ring.specs.declared.sizes.TheConstants.{LEAST_MTU}
 use Rattle.section_map.specs.Geometry.{Shape, section_start}
 use Rattle.section_map.specs.MayWrite.{InSection}
 use Rattle.split_ring.specs.declared.steps.Access.{Access}
@@ -37,7 +38,7 @@ config_of shape me from = record {
   own = section_start shape me;
   other_start = section_start shape from;
   words = shape.out;
-  sizes = record { version = 1; out = 4 * shape.out; mtu = 256 };
+  sizes = record { version = 1; out = 4 * shape.out; mtu = LEAST_MTU };
   vector = 0;
 }
 

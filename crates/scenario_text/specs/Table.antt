@@ -1,5 +1,6 @@
 -- The forms of a scenario's lines, by words and numbers (profile).
 use Rattle.std.specs.Prelude.{◌^◌, ◌-◌, List, [], ◌∷◌, codes}
+use Rattle.pci_space.specs.declared.sizes.TheConstants.{MOST_VECTORS}
 use Rattle.line_format.specs.Forms.{Piece, Word, Number, Hex}
 use Rattle.scenario_text.specs.declared.forms.Form.{Form}
 use Rattle.scenario_text.specs.declared.forms.Form.TheVariants.{Version, Peers, Table, Common, Out, Mtu, Msix, Intx, Honest, Hostile, Begin, Tick, Offer, Poll, Stop, Auto, Storm, Turn, Reset, Poke, Peek, Set, Ring, CfgRead, CfgWrite, MmioRead, MmioWrite, MsixRead, MsixWrite, Lose, Again, End}
@@ -30,7 +31,7 @@ pieces_of Table = Word (codes "table") ∷ u32_number ∷ []
 pieces_of Common = Word (codes "common") ∷ any_number ∷ []
 pieces_of Out = Word (codes "out") ∷ any_number ∷ []
 pieces_of Mtu = Word (codes "mtu") ∷ u32_number ∷ []
-pieces_of Msix = Word (codes "irq") ∷ Word (codes "msix") ∷ Number 1 64 ∷ []
+pieces_of Msix = Word (codes "irq") ∷ Word (codes "msix") ∷ Number 1 MOST_VECTORS ∷ []
 pieces_of Intx = Word (codes "irq") ∷ Word (codes "intx") ∷ []
 pieces_of Honest = Word (codes "peer") ∷ any_number ∷ Word (codes "honest") ∷ []
 pieces_of Hostile = Word (codes "peer") ∷ any_number ∷ Word (codes "hostile") ∷ []

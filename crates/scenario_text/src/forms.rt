@@ -5,6 +5,7 @@ ghost use Rattle.scenario_text.specs.Table.{pieces_of};
 
 use crate::limits::MOST_ACTS;
 use line_format::{ANY, FieldKind, U32};
+use pci_space::MOST_VECTORS;
 
 /// A form of a scenario's lines. Two words at one position make two forms.
 #[derive(Clone, Copy, Debug, PartialEq, Eq)]
@@ -134,7 +135,7 @@ impl Form {
             Form::Msix => &[
                 FieldKind::Word(b"irq"),
                 FieldKind::Word(b"msix"),
-                FieldKind::Number(1, 64),
+                FieldKind::Number(1, MOST_VECTORS as u64),
             ],
             Form::Intx => &[FieldKind::Word(b"irq"), FieldKind::Word(b"intx")],
             Form::Honest => &[FieldKind::Word(b"peer"), ANY, FieldKind::Word(b"honest")],

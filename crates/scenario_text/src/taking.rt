@@ -24,7 +24,7 @@ use ivs_base::{Frame, NoMemory};
 use line_format::{FieldKind, Grammar, LineFault, Test, flag_at, number_at};
 use pci_space::Wiring;
 use section_map::Geometry;
-use split_ring::Queue;
+use split_ring::{FRAME_OVERHEAD, Queue, SHORTEST_FRAME};
 use std::alloc::Global;
 
 impl Act {
@@ -306,10 +306,12 @@ impl Grammar for Draft {
         }
     }
 
-    /// Whether the frame of an offer has 14 to MTU + 18 bytes.
+    /// Whether the frame of an offer has a length that the MTU allows.
     fn fits(&self, form: Form, size: u64) -> bool {
         match form {
-            Form::Offer => 14 <= size && size <= u64::from(self.mtu) + 18,
+            Form::Offer => {
+                u64::from(SHORTEST_FRAME) <= size && size <= u64::from(self.mtu) + FRAME_OVERHEAD
+            }
             _ => true,
         }
     }

@@ -3,7 +3,7 @@ ghost use Rattle.std.specs.Prelude.{◌≡◌, ◌+◌, ◌*◌, ◌<◌, ◌≤
 ghost use Rattle.split_ring.specs.Layout.{size_of};
 ghost use Rattle.ivs_base.specs.Numbers.{distance};
 ghost use Rattle.split_ring.specs.Ranges.{IsAvailIndex};
-ghost use Rattle.split_ring.specs.Spelling.{avail_index, used_index, entry_at, address_at, length_at, flags_at, bytes_from};
+ghost use Rattle.split_ring.specs.Spelling.{avail_index, used_index, entry_at, address_at, length_at, bytes_from};
 ghost use Rattle.section_dump.specs.Image.{words_from};
 ghost use Rattle.section_dump.specs.Listing.{IsAccepted, IsFirstRefused};
 
@@ -96,14 +96,6 @@ impl<'a> Ring<'a> {
         self.word(self.queue.descriptor(i) + 2)
     }
 
-    /// Returns the flags of descriptor `i`.
-    fn flags(&self, i: u32) -> u16
-        requires { i < size_of self.now.queue }
-        ensures { result ≡ flags_at self.now.queue (words_from self.now.image.now self.now.first) i }
-    {
-        desc_flags(self.word(self.queue.descriptor(i) + 3))
-    }
-
     /// Returns the number of items between the other peer's used index and the available index.
     pub fn distance(&self, used: u16, available: u16) -> Result<u16, Refused>
         ensures inside { IfOk result (λ n. IsAvailIndex self.now.queue used available × (n ≡ distance used available)) }
@@ -125,7 +117,8 @@ impl<'a> Ring<'a> {
         let entry = self.queue.check_entry(self.entry(position))?;
         let address = self.queue.check_address(self.address(entry))?;
         let length = self.queue.check_length(address, self.length(entry))?;
-        self.queue.check_flags(self.flags(entry))?;
+        let flags = desc_flags(self.word(self.queue.descriptor(entry) + 3));
+        self.queue.check_flags(flags)?;
         Ok(Item {
             entry,
             address,

@@ -1,5 +1,6 @@
 -- The routes of interrupts to running peers, as the acts of their scenario set the devices.
 use Rattle.std.specs.Prelude.{ℕ, ◌≡◌, ◌<◌, true, false, List, [], ◌∷◌, ◌++◌, length, get_or}
+use Rattle.pci_space.specs.declared.sizes.TheConstants.{SPACE_LEN}
 use Rattle.std.specs.List.{fold}
 use Rattle.doorbell_irq.specs.declared.route.Route.{Route}
 use Rattle.pci_space.specs.Fields.{is_access}
@@ -38,7 +39,7 @@ events_of acts = fold (λ events a. events_in a ++ events) [] acts
 -- An act that sets a device names one of `peers` peers, and a configuration write is a permitted
 -- access.
 abbrev pub MaySet : ℕ → Act → Type 0
-MaySet peers (act.CfgWrite p offset width value) = (p < peers) × (is_access 256 offset width ≡ true)
+MaySet peers (act.CfgWrite p offset width value) = (p < peers) × (is_access SPACE_LEN offset width ≡ true)
 MaySet peers (act.MsixWrite p offset value) = p < peers
 MaySet peers (act.MmioWrite p offset value) = p < peers
 MaySet peers other = Unit {0}

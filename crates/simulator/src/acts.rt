@@ -6,6 +6,7 @@ ghost use Rattle.split_ring.specs.declared.steps.Access.TheVariants.{Read, Write
 ghost use Rattle.lawful_history.specs.Schedule.{RegionAccessed, DeviceAccessed, InterruptDropped, InterruptRepeated, ReadsConfig, WritesConfig, ReadsRegister, WritesRegister, ReadsMsix, WritesMsix, register_event};
 ghost use Rattle.simulator.specs.WorldState.{HasPeer};
 ghost use Rattle.simulator.specs.Simulator.{Happens};
+ghost use Rattle.pci_space.specs.declared.sizes.TheConstants.{SPACE_LEN};
 
 use crate::simulator::Simulator;
 use doorbell_irq::{REGISTER_DOORBELL, REGISTER_STATE, doorbell_target, doorbell_vector};
@@ -51,7 +52,7 @@ impl Simulator {
     /// Plays a read of the peer's configuration space.
     pub fn read_config(&mut self, peer: u32, offset: u16, width: u16) -> Result<(), NoMemory>
         requires seated { HasPeer self.old.world_state peer }
-        requires access { is_access 256 offset width ≡ true }
+        requires access { is_access SPACE_LEN offset width ≡ true }
         ensures { OnOk result (Happens (DeviceAccessed peer (ReadsConfig offset width)) self.old self.new) }
     {
         self.world_state.read_config(peer, offset, width)
@@ -66,7 +67,7 @@ impl Simulator {
         value: u32,
     ) -> Result<(), NoMemory>
         requires seated { HasPeer self.old.world_state peer }
-        requires access { is_access 256 offset width ≡ true }
+        requires access { is_access SPACE_LEN offset width ≡ true }
         ensures { OnOk result (Happens (DeviceAccessed peer (WritesConfig offset width value)) self.old self.new) }
     {
         self.world_state.write_config(peer, offset, width, value)

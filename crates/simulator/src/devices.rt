@@ -6,6 +6,7 @@ ghost use Rattle.lawful_history.specs.declared.line.Line.TheVariants.{Interrupt}
 ghost use Rattle.lawful_history.specs.Schedule.{InterruptDropped, ReadsConfig, WritesConfig, ReadsRegister, WritesRegister, ReadsMsix, WritesMsix};
 ghost use Rattle.lawful_history.specs.Device.{losses_with};
 ghost use Rattle.simulator.specs.WorldState.{InEachWorld, WorldStateAfter, HasPeer, AddsAccess};
+ghost use Rattle.pci_space.specs.declared.sizes.TheConstants.{SPACE_LEN};
 
 use crate::world_state::WorldState;
 use ivs_base::NoMemory;
@@ -15,7 +16,7 @@ impl WorldState {
     /// Reads the peer's configuration space.
     pub fn read_config(&mut self, me: u32, offset: u16, width: u16) -> Result<(), NoMemory>
         requires seated { HasPeer self.old me }
-        requires access { is_access 256 offset width ≡ true }
+        requires access { is_access SPACE_LEN offset width ≡ true }
         ensures after { AddsAccess self.old self.new me (ReadsConfig offset width) result }
         ensures seated { (q : ℕ) → HasPeer self.old q → HasPeer self.new q }
     {
@@ -41,7 +42,7 @@ impl WorldState {
         value: u32,
     ) -> Result<(), NoMemory>
         requires seated { HasPeer self.old me }
-        requires access { is_access 256 offset width ≡ true }
+        requires access { is_access SPACE_LEN offset width ≡ true }
         ensures after { AddsAccess self.old self.new me (WritesConfig offset width value) result }
         ensures seated { (q : ℕ) → HasPeer self.old q → HasPeer self.new q }
     {

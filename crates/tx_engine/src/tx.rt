@@ -24,7 +24,7 @@ use crate::place::{
 use frame_slots::{Slot, Slots};
 use ivs_base::{NoMemory, plus, word_of};
 use split_ring::steps::{Access, Note, Notes, WordKind, leaving};
-use split_ring::{Queue, Refused, high_half, low_half, need_event, of_halves};
+use split_ring::{FRAME_OVERHEAD, Queue, Refused, high_half, low_half, need_event, of_halves};
 use std::alloc::Global;
 use std::marker::Model;
 
@@ -86,7 +86,7 @@ impl Tx {
     {
         let lengths = Vec::from_elem(alloc, 0, queue.limit() as usize)?;
         let entries = Vec::from_elem(alloc, 0, (queue.size() / 2) as usize)?;
-        let buffer = Vec::from_elem(alloc, 0, (queue.mtu() + 18) as usize)?;
+        let buffer = Vec::from_elem(alloc, 0, (u64::from(queue.mtu()) + FRAME_OVERHEAD) as usize)?;
         Ok(Tx {
             queue: *queue,
             own,
@@ -118,7 +118,7 @@ impl Tx {
     pub fn longest(&self) -> u32
         ensures { result ≡ self.now.sizes.mtu + FRAME_OVERHEAD }
     {
-        self.queue.mtu() + 18
+        self.queue.mtu() + FRAME_OVERHEAD as u32
     }
 
     /// Returns the frame offered last: the frame of `begin`, or the frame that `keep` stored for a

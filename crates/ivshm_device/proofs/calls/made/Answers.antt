@@ -4,21 +4,21 @@ use Rattle.ivshm_device.specs.Answers.{shape_in, RefusesNew, bad_vectors, many_p
 use Rattle.ivshm_device.proofs.calls.made.Goals as goal
 use Rattle.ivshm_device.proofs.calls.made.Goals.{then-world-ne0-via-then-world-ne0, then-world-ne0-via-else-world-ne0+then-world-bytes}
 
-pub returns-then-world-gt64-clause-refused : goal.returns-then-world-gt64-clause-refused
-returns-then-world-gt64-clause-refused c = bad_vectors c.if-world-gt64.true
+pub returns-then-world-gt-MOST_VECTORS-clause-refused : goal.returns-then-world-gt-MOST_VECTORS-clause-refused
+returns-then-world-gt-MOST_VECTORS-clause-refused c = bad_vectors c.if-world-gt-MOST_VECTORS.true
 
 pub returns-then-world-gt8-clause-refused : goal.returns-then-world-gt8-clause-refused
-returns-then-world-gt8-clause-refused c = many_peers c.if-world-gt64.false c.if-world-gt8.true
+returns-then-world-gt8-clause-refused c = many_peers c.if-world-gt-MOST_VECTORS.false c.if-world-gt8.true
 
 pub returns-in-Err-clause-refused : goal.returns-in-Err-clause-refused
 returns-in-Err-clause-refused c = subst (RefusesNew c.args.world.now) (sym c.geometry_status.ensures)
-    (bad_sizes c.if-world-gt64.false c.if-world-gt8.false c.in-Err.fault c.in-Err.ensures.fault)
+    (bad_sizes c.if-world-gt-MOST_VECTORS.false c.if-world-gt8.false c.in-Err.fault c.in-Err.ensures.fault)
 
 pub returns-then-world-ne0-clause-refused : goal.returns-then-world-ne0-clause-refused
 returns-then-world-ne0-clause-refused c =
     let shaped : IsShape (shape_in c.args.world.now) = subst IsShape c.in-Ok.ensures.made c.in-Ok.ensures.shape in
     let words = ap word_count c.in-Ok.ensures.made in
-    bad_base c.if-world-gt64.false c.if-world-gt8.false shaped (λ base. elim c.then-world-ne0.branch [
+    bad_base c.if-world-gt-MOST_VECTORS.false c.if-world-gt8.false shaped (λ base. elim c.then-world-ne0.branch [
       | then-world-ne0-via-then-world-ne0 w ↦ absurd (omega (arith, base.0, w.if-world-ne0.true))
       | then-world-ne0-via-else-world-ne0+then-world-bytes w ↦
           absurd (omega (arith, base.1, w.if-world-bytes.true, c.from-bytes.ensures, c.words.ensures.value, words, shaped.table_page))
@@ -28,7 +28,7 @@ pub returns-in_default-clause-refused : goal.returns-in_default-clause-refused
 returns-in_default-clause-refused c =
     let shaped : IsShape (shape_in c.args.world.now) = subst IsShape c.in-Ok.ensures.made c.in-Ok.ensures.shape in
     no_memory (
-      c.if-world-gt64.false,
+      c.if-world-gt-MOST_VECTORS.false,
       (
         c.if-world-gt8.false,
         (
@@ -45,7 +45,7 @@ pub returns-clause-refused : goal.returns-clause-refused
 returns-clause-refused c =
     let shaped : IsShape (shape_in c.args.world.now) = subst IsShape c.in-Ok.ensures.made c.in-Ok.ensures.shape in
     no_memory (
-      c.if-world-gt64.false,
+      c.if-world-gt-MOST_VECTORS.false,
       (
         c.if-world-gt8.false,
         (

@@ -1,0 +1,10 @@
+pub mod RoundsLeft
+pub mod Machine
+pub mod ComeUp
+pub mod Repaired
+pub mod Livelock
+pub mod PollsDeliver
+pub mod OffersFindRoom
+pub mod RestedComeUp
+pub mod FramesGetThrough
+pub mod SleepersAreRung

@@ -190,7 +190,6 @@ const INTERRUPTS: [Act; 13] = [
 
 /// Whether a doorbell is delivered through MSI-X, and one-shot mode lets one interrupt come.
 // claim doorbell_irq.Device.register_write.effect
-// claim reference_history.is_lawful.lawful
 #[test]
 fn interrupts(rt: HostRuntime) -> Result<(), Fail> {
     makes_all(&rt, &mut worked_device(Wiring::Msix(2))?, &INTERRUPTS);

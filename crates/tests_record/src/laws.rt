@@ -1,4 +1,5 @@
 //! Each law may be called: none has a condition for its caller.
+use frame_bridge::{bytes_after_end_are_bad_line, cut_is_no_end, fault_is_first, spelled_is_read};
 use history_laws::{
     accepted_frames_are_spelled, calls_end_within_bounds, delivered_frames_are_read,
     delivered_frames_are_spelled, device_acts_change_nothing, done_polls_deliver_all,
@@ -6,6 +7,7 @@ use history_laws::{
     refused_peers_stay_in_reset, refused_values_are_out_of_range, refused_values_are_read,
     resets_are_quiet, sessions_are_numbered, values_out_of_range_are_refused, wakes_are_rung,
 };
+use record_sizes::records_are_short;
 
 // claim call_grammar.fields_are_read_once
 // claim history_laws.refused_values_are_read
@@ -44,4 +46,19 @@ fn laws_of_histories() {
     calls_end_within_bounds();
     device_acts_change_nothing();
     wakes_are_rung();
+}
+
+#[test]
+fn laws_of_runs_of_a_bridge() {
+    spelled_is_read();
+    cut_is_no_end();
+    bytes_after_end_are_bad_line();
+    fault_is_first();
+}
+
+// claim record_sizes.records_are_short.bound
+// claim record_sizes.records_are_short.limit
+#[test]
+fn law_of_sizes() {
+    records_are_short();
 }

@@ -1,8 +1,9 @@
-//! The answers of calls of the libraries below the top call: readers of texts, the reference
-//! program that judges a history, and pictures.
+//! The answers of calls of the libraries below the top call: readers of texts, ends of the
+//! link, and pictures.
 use crate::answers::{Answer, Question};
+use crate::ends;
 use ivs_base::NoMemory;
-use record_text::{Reader, RecordFault, Trace};
+use record_text::{Reader, RecordFault};
 use scenario_text::MOST_LOAD;
 use std::alloc::Global;
 use std::fmt::Debug;
@@ -170,22 +171,6 @@ fn bridge_run(alloc: Global, input: &[u8]) -> io::Result<Answer> {
     answered(Ok(text.into_bytes()))
 }
 
-/// Prints whether the history of a record is lawful, by the reference program.
-fn lawful(alloc: Global, input: &[u8]) -> io::Result<Answer> {
-    let Trace {
-        version,
-        scenario,
-        lines,
-    } = match record_text::parse(alloc, input) {
-        Ok(trace) => trace,
-        Err(fault) => return refused(alloc, &fault),
-    };
-    let is_lawful = reference_history::is_lawful(alloc, scenario, version, lines).map_err(
-        |_| ErrorKind::OutOfMemory,
-    )?;
-    answered(Ok(format!(in alloc; "{is_lawful}\n")?.into_bytes()))
-}
-
 /// Returns the rows and arrows of a picture of lines of a record, at most the greatest number of
 /// rows.
 fn picture(alloc: Global, input: &[u8], first: u32, last: u32) -> io::Result<Answer> {
@@ -276,7 +261,7 @@ pub(crate) fn answer(alloc: Global, question: &Question) -> io::Result<Answer> {
         "reader" => reader(alloc, input),
         "port_schedule" => port_schedule(alloc, input),
         "bridge_run" => bridge_run(alloc, input),
-        "lawful" => lawful(alloc, input),
+        "ends" => answered(Ok(ends::lines(alloc, input, number(words, 1), number(words, 2))?)),
         "picture" => picture(alloc, input, number(words, 1), number(words, 2)),
         "picture_text" => picture_text(
             alloc,

@@ -1,12 +1,13 @@
 //! Worked rows, which are data. The program reads the pages that standard input names, computes the
 //! answer to each row in them, and writes a line for each row. The line is the row's name, or the
-//! difference of its answer from the page. docs/ROWS.md has the format of a page.
+//! difference of its answer from the page. README.md has the format of a page.
 #![tactic(auto)]
 
 mod answers;
 mod bytes;
 mod calls;
 mod checks;
+mod ends;
 mod pages;
 mod rows;
 mod runs;

@@ -17,3 +17,11 @@ pub mod ItemWords
 pub mod ReplaysAreCalls
 pub mod WordsOfBytes
 pub mod BytesOfWords
+pub mod Joins
+pub mod Tasks
+pub mod OfferPaths
+pub mod PollPaths
+pub mod CallPaths
+pub mod PermittedPaths
+pub mod OfferWrites
+pub mod SamePlaces

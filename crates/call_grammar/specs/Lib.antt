@@ -6,10 +6,15 @@ pub mod Ticks
 pub mod Offers
 pub mod Polls
 pub mod Calls
+pub mod Tasks
+pub mod ItemFields
+pub mod PlaceTable
+pub mod Paths
 pub mod Permitted
 pub mod Returning
 pub mod Rows
 pub mod Places
+pub mod SamePlaces
 pub mod Replays
 pub mod StepBounds
 pub mod ReadsOnce

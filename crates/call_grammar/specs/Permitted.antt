@@ -10,6 +10,8 @@ use Rattle.call_grammar.specs.Trees.{CallTree, Ended, Does, Reads, Goes, GoesAlo
 use Rattle.call_grammar.specs.Ends.{End}
 use Rattle.call_grammar.specs.Ticks.{EndConfig, other_state}
 use Rattle.call_grammar.specs.Calls.{Call, Offer, tree_of}
+use Rattle.call_grammar.specs.PlaceTable.{Place, first_place}
+use Rattle.call_grammar.specs.Paths.{Leads}
 
 -- A word that an end may read: the other's State, or a word of the other's section.
 abbrev pub MayRead : EndConfig → ℕ → Type 0
@@ -60,3 +62,9 @@ pub record CallsArePermitted : Type 0 where
       IsPermittedAccess config step.access × IsPermittedTree config new
   pub steps : (config : EndConfig) (end : End) (call : Call) (steps : List Step) (left : CallTree) → HasSections config → IsPermittedCall config call →
       GoesAlong (tree_of config end call) steps left → All (λ step. IsPermittedAccess config step.access) steps
+
+-- Every step from the first place of a call on is permitted.
+abbrev pub PathsArePermitted : Type 0
+PathsArePermitted = (config : EndConfig) (end : End) (call : Call) (steps : List Step) (left : Place) →
+    HasSections config → IsPermittedCall config call → Leads config (first_place config end call) steps left →
+    All (λ step. IsPermittedAccess config step.access) steps

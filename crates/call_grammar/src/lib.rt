@@ -10,6 +10,9 @@
 //!   needs no other data. The pending offer has the lengths of its session's frames. `pending_of`
 //!   says, at the start of the call, that they are the lengths of the frames accepted and of the
 //!   one offered.
+//! - Between two reads an end does a task: a list of steps of the table of calls. Its place there
+//!   is the number of the next step (`specs/PlaceTable`). `specs/Places` has a name for each of
+//!   these places. The law `places_are_the_same` says that both have the same steps.
 //! - `freed` of an end rises by the whole distance at `reclaim`, before the ids are read. A place
 //!   between the ids has the number of ids left.
 //! - An end stores one bit for its avail_event: whether its last read of the available index in the
@@ -30,10 +33,12 @@ ghost use Rattle.call_grammar.specs.Trees.{CutsBegin};
 ghost use Rattle.call_grammar.specs.Ends.{PhaseFollowsState};
 ghost use Rattle.call_grammar.specs.Calls.{CallsAreLists, CallsTakeAStep};
 ghost use Rattle.call_grammar.specs.Automatic.{RoundsKeepTheRule};
-ghost use Rattle.call_grammar.specs.Permitted.{CallsArePermitted};
+ghost use Rattle.call_grammar.specs.Paths.{PathsAreCalls, PathsJoin};
+ghost use Rattle.call_grammar.specs.Permitted.{CallsArePermitted, PathsArePermitted};
 ghost use Rattle.call_grammar.specs.Returning.{PollsThatReturnRing};
 ghost use Rattle.call_grammar.specs.Rows.{CallsKeepRows};
 ghost use Rattle.call_grammar.specs.Places.{PlacesFollowTrees};
+ghost use Rattle.call_grammar.specs.SamePlaces.{PlacesAreTheSame};
 ghost use Rattle.call_grammar.specs.Replays.{ReplaysAreCalls};
 ghost use Rattle.call_grammar.specs.StepBounds.{CallsMeetBounds, OtherCallsMeetBounds};
 ghost use Rattle.call_grammar.specs.ReadsOnce.{FieldsAreReadOnce};
@@ -132,4 +137,27 @@ pub fn polls_that_return_ring()
 //    definition by which the words of a section do.
 pub fn read_items_are_spelled()
     ensures { ReadItemsAreSpelled }
+{}
+
+/// Law: a list of steps is a call exactly if it leads from the call's first place to `Closed`.
+// claim with paths_join, places_are_the_same: A list of steps is a call exactly if each step is
+//    that of its place, from the call's first place to the end. A cut call is the beginning of one.
+pub fn paths_are_calls()
+    ensures { PathsAreCalls }
+{}
+
+/// Law: a path can be cut at each of its steps, and joined.
+pub fn paths_join()
+    ensures { PathsJoin }
+{}
+
+/// Law: a place by number has the step and the next place of the place that it numbers.
+pub fn places_are_the_same()
+    ensures { PlacesAreTheSame }
+{}
+
+/// Law: every step from the first place of a call on is permitted.
+// claim: Each step of a call, whole or cut, accesses a permitted word.
+pub fn paths_are_permitted()
+    ensures { PathsArePermitted }
 {}

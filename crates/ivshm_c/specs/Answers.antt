@@ -1,26 +1,22 @@
 -- The exact answer of each export, and its effect on the end of a handle.
-use Rattle.std.specs.Prelude.{ℕ, ◌≡◌, ◌≢◌, ◌+◌, ◌*◌, ◌/◌, ◌%◌, ◌==◌, ◌<◌, ◌≤◌, nat_lt, if◌then◌else◌, List, length, take, drop, Option, Some, None, is_none, IfSome}
+use Rattle.std.specs.Prelude.{ℕ, ◌≡◌, ◌≢◌, ◌+◌, ◌/◌, ◌%◌, ◌==◌, ◌<◌, ◌≤◌, nat_lt, if◌then◌else◌, List, length, drop, ◌++◌, Option, Some, None, is_none, IfSome}
 use Rattle.split_ring.specs.declared.sizes.TheConstants.{FRAME_OVERHEAD, SHORTEST_FRAME}
-use Rattle.section_map.specs.Geometry.{IsShape}
 use Rattle.split_ring.specs.Layout.{IsVersion, IsQueue}
 use Rattle.split_ring.specs.declared.steps.Access as steps
 use Rattle.split_ring.specs.declared.steps.Note.{Note}
-use Rattle.tx_engine.specs.declared.ahead.Bursts.{Bursts}
-use Rattle.tx_engine.specs.Ahead.{words_of}
 use Rattle.link_endpoint.specs.declared.order.Ordering.{Ordering}
 use Rattle.link_endpoint.specs.Engine.{config_of, is_busy, delivered, reads_ahead, writes_ahead, bursts_of, offered}
 use Rattle.ivshm_c.specs.declared.crossing.Access.{Access}
 use Rattle.ivshm_c.specs.declared.crossing.Notes.{Notes}
-use Rattle.ivshm_c.specs.declared.crossing.Bursts as crossed
 use Rattle.ivshm_c.specs.declared.device.Found.{Found}
 use Rattle.ivshm_c.specs.declared.end_state.EndState.{EndState}
 use Rattle.ivshm_c.specs.declared.end_state.Outcome.TheVariants.{Never, Open}
 use Rattle.c_status.specs.declared.status.Status.{Status}
 use Rattle.c_status.specs.declared.status.Status.TheVariants.{Done, NoEnd, HasEnd, CallOpen, NoCall, NoMemory, BadCall, ShortFrame, LongFrame, ShortRoom, BadPeer, OtherAccess, BadCount, BadVersion, BadVector}
 use Rattle.ivshm_c.specs.Counts.{no_counts, counts_after}
-use Rattle.ivshm_c.specs.Crossing.{call_numbered, access_crossed, bursts_crossed, notes_crossed}
-use Rattle.ivshm_c.specs.EndStates.{Begins, Offers, IsNext, IsAhead, AreWritten, AreBursts, AreBurstTail, ReadsAtOnce, ReadsWhole, WritesAtOnce, Steps, IsStarted, Restarts, outcome_after, outcome_cut}
-use Rattle.ivshm_c.specs.Sizes.{shape_found, sizes_found, IsSizeFault}
+use Rattle.ivshm_c.specs.Crossing.{call_numbered, access_crossed, notes_crossed}
+use Rattle.ivshm_c.specs.EndStates.{Begins, Offers, IsNext, IsAhead, AreWritten, ReadsAtOnce, ReadsWhole, WritesAtOnce, Steps, IsStarted, Restarts, outcome_after, outcome_cut}
+use Rattle.ivshm_c.specs.Sizes.{shape_found, sizes_found, HasSizes, IsSizeFault}
 
 -- A handle without an end has the answer NoEnd for every call.
 abbrev pub answer_at : Option EndState → (EndState → Status) → Status
@@ -78,26 +74,12 @@ words_answer bytes port = if is_busy port.endpoint then bytes_answer (writes_ahe
 abbrev pub writes_answer : (count : ℕ) → EndState → Status
 writes_answer count port = if is_busy port.endpoint then count_answer (writes_ahead port.endpoint) count else NoCall
 
--- The answer for the bursts of an offer before its index. It is OtherAccess if no word of a frame
--- is next, and ShortRoom if the words don't fit.
-abbrev pub room_answer : Option Bursts → (room : ℕ) → Status
-room_answer None room = OtherAccess
-room_answer (Some bursts) room = if nat_lt room (4 * words_of (Some bursts)) then ShortRoom else Done
-
-abbrev pub bursts_answer : (room : ℕ) → EndState → Status
-bursts_answer room port = if is_busy port.endpoint then room_answer (bursts_of port.endpoint) room else NoCall
-
--- The answer for the words after the frame, which have 20 bytes.
-abbrev pub took_tail_answer : Option Bursts → (room : ℕ) → Status
-took_tail_answer None room = OtherAccess
-took_tail_answer (Some bursts) room = if nat_lt room 20 then ShortRoom else Done
-
-abbrev pub tail_answer : (room : ℕ) → EndState → Status
-tail_answer room port = if is_busy port.endpoint then took_tail_answer (bursts_of port.endpoint) room else NoCall
-
--- The answer for the completion of these bursts.
-abbrev pub took_bursts_answer : EndState → Status
-took_bursts_answer port = if is_busy port.endpoint then (if is_none (bursts_of port.endpoint) then OtherAccess else Done) else NoCall
+-- The answer for the publication of a frame. It is OtherAccess if no word of a frame is next, and
+-- ShortRoom if the words after the frame, which have 20 bytes, don't fit.
+abbrev pub publish_answer : (room : ℕ) → EndState → Status
+publish_answer room port =
+    if is_busy port.endpoint then (if is_none (bursts_of port.endpoint) then OtherAccess else if nat_lt room 20 then ShortRoom else Done)
+    else NoCall
 
 abbrev pub frame_answer : ℕ → EndState → Status
 frame_answer room port = if nat_lt room (length (delivered port.endpoint)) then ShortRoom else Done
@@ -166,30 +148,10 @@ GivesWords port before after = Where (words_answer (length before) port) (AreWri
 abbrev pub TakesWrites : ℕ → EndState → EndState → Type 0
 TakesWrites count old new = Where (writes_answer count old) (WritesAtOnce old.endpoint count new.endpoint × Keeps old new) (new ≡ old)
 
--- The bursts of an offer before its index are written, and their words are at the front of `room`.
-abbrev pub GivesBursts : EndState → (before after : crossed.Bursts) → (room filled : List ℕ) → Type 0
-GivesBursts port before after room filled = Where (bursts_answer (length room) port)
-    ((bursts : Bursts) × (bursts_of port.endpoint ≡ Some bursts) × (after ≡ bursts_crossed bursts) × AreBursts port.endpoint bursts filled ×
-    (drop (4 * words_of (Some bursts)) filled ≡ drop (4 * words_of (Some bursts)) room))
-    ((after ≡ before) × (filled ≡ room))
-
--- The same bursts are written, and only the words after the frame are at the front of `room`.
-abbrev pub GivesTail : EndState → (before after : crossed.Bursts) → (room filled : List ℕ) → Type 0
-GivesTail port before after room filled = Where (tail_answer (length room) port)
-    ((bursts : Bursts) × (bursts_of port.endpoint ≡ Some bursts) × (after ≡ bursts_crossed bursts) × AreBurstTail port.endpoint bursts filled ×
-    (drop 20 filled ≡ drop 20 room))
-    ((after ≡ before) × (filled ≡ room))
-
--- All these writes are completed together.
-abbrev pub TakesBursts : EndState → EndState → Type 0
-TakesBursts old new = Where (took_bursts_answer old)
-    (WritesAtOnce old.endpoint (words_of (bursts_of old.endpoint)) new.endpoint × Keeps old new)
-    (new ≡ old)
-
--- The frame delivered last is copied to the front of the room.
+-- The frame delivered last is copied to the front of the room. The room after it stays.
 abbrev pub CopiesFrame : EndState → List ℕ → List ℕ → Type 0
 CopiesFrame port before after = Where (frame_answer (length before) port)
-    (take (length (delivered port.endpoint)) after ≡ delivered port.endpoint)
+    (after ≡ delivered port.endpoint ++ drop (length (delivered port.endpoint)) before)
     (after ≡ before)
 
 -- The end is reset after a reset of the device. The counts stay.
@@ -211,7 +173,7 @@ pub record AreNumbers (version me vector : ℕ) : Type 0 where
 -- All arguments are valid: a region of these sizes exists, and a queue in its sections.
 pub record MayMake (found : Found) (version peers me mtu vector : ℕ) : Type 0 where
   pub numbers : AreNumbers version me vector
-  pub shape : IsShape (shape_found found peers)
+  pub sizes : HasSizes found peers
   pub queue : IsQueue (sizes_found found version mtu)
 
 -- The reason for which no end is made: the first of these tests that fails. It is NoMemory if all

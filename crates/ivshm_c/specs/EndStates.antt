@@ -1,5 +1,5 @@
 -- An end and the outcome of its last offer: the effect of its calls.
-use Rattle.std.specs.Prelude.{ℕ, ◌≡◌, ◌*◌, ◌↔◌, List, [], ◌∷◌, ◌++◌, length, take, flat_map, true, not, IsTrue, Some, IfSome}
+use Rattle.std.specs.Prelude.{ℕ, ◌≡◌, ◌*◌, ◌↔◌, List, [], ◌∷◌, length, take, flat_map, true, not, IsTrue, IfSome}
 use Rattle.split_ring.specs.declared.steps.Access.{Access}
 use Rattle.split_ring.specs.declared.steps.Access.TheVariants.{Nothing, Read, Write, State}
 use Rattle.split_ring.specs.declared.steps.Note.{Note}
@@ -11,8 +11,6 @@ use Rattle.call_grammar.specs.Permitted.{IsPermittedAccess}
 use Rattle.call_grammar.specs.StepBounds.{HasFewInFlight}
 use Rattle.call_grammar.specs.Words.{word_bytes}
 use Rattle.call_grammar.specs.Bursts.{StepsThrough, ReadsBurst, WritesBurst}
-use Rattle.tx_engine.specs.declared.ahead.Bursts.{Bursts}
-use Rattle.tx_engine.specs.Ahead.{words_of, listed, last_words, WritesAll}
 use Rattle.link_endpoint.specs.declared.place.Call.{Call}
 use Rattle.link_endpoint.specs.declared.place.Call.TheVariants.{Stop}
 use Rattle.link_endpoint.specs.Engine.{Engine, fresh_engine, engine_after_reset, is_busy, is_down, is_refusing, is_reading_state, is_tick, offered, delivered, call_of, begins_down, reads_ahead, frame_ahead}
@@ -62,18 +60,6 @@ pub record IsAhead (engine : Engine) (reported : Ordering) : Type 0 where
 abbrev pub AreWritten : Engine → List ℕ → Type 0
 AreWritten engine bytes = (config : EndConfig) (end : End) (place : places.Place) (word value : ℕ) → RefinesAt engine config end place →
     places.access_at config place ≡ Write word value → WritesBurst config place word bytes
-
--- The first of these bytes are the words of these bursts, which are written next, in order.
-abbrev pub AreBursts : Engine → Bursts → (bytes : List ℕ) → Type 0
-AreBursts engine bursts bytes = (config : EndConfig) (end : End) (place : places.Place) → RefinesAt engine config end place →
-    WritesAll config place (listed bursts) (take (4 * words_of (Some bursts)) bytes)
-
--- The first of these bytes are the words of the descriptor and of the available entry, which are
--- written after the words of the frame. The words of the frame are the last words of the frame
--- offered last.
-abbrev pub AreBurstTail : Engine → Bursts → (bytes : List ℕ) → Type 0
-AreBurstTail engine bursts bytes = (config : EndConfig) (end : End) (place : places.Place) → RefinesAt engine config end place →
-    WritesAll config place (listed bursts) (last_words (offered engine) bursts.frame.count ++ take 20 bytes)
 
 -- A burst of reads whose values are these bytes, four each: equivalent to one step for each value.
 abbrev pub ReadsAtOnce : Engine → (bytes : List ℕ) → List Note → Engine → Type 0

@@ -18,7 +18,7 @@ use Rattle.ivshm_c.specs.declared.end_state.EndState.{EndState}
 use Rattle.c_status.specs.declared.status.Status.{Status}
 use Rattle.c_status.specs.declared.status.Status.TheVariants.{Done, NoCall, OtherAccess}
 use Rattle.ivshm_c.specs.EndStates.{Steps}
-use Rattle.ivshm_c.specs.Answers.{Keeps, Follows, Where, IsNextAccess, tail_answer}
+use Rattle.ivshm_c.specs.Answers.{Keeps, Follows, Where, IsNextAccess, publish_answer}
 use Rattle.ivshm_c.specs.Crossing.{frame_return_crossed, publication_crossed}
 use Rattle.c_status.specs.Statuses.{number_of}
 
@@ -94,4 +94,4 @@ pub record FramePublished (after : crossed_publication.Publication) (room filled
 -- A frame is published, or nothing changes.
 abbrev pub PublishesFrame : (before after : crossed_publication.Publication) (room filled : List ℕ) (was next : Access) (old new : EndState) → Type 0
 PublishesFrame before after room filled was next old new =
-    Where (tail_answer (length room) old) (FramePublished after room filled next old new) ((new ≡ old) × (after ≡ before) × (filled ≡ room) × (next ≡ was))
+    Where (publish_answer (length room) old) (FramePublished after room filled next old new) ((new ≡ old) × (after ≡ before) × (filled ≡ room) × (next ≡ was))

@@ -5,7 +5,7 @@ use Rattle.core.specs.Int.{from_bool}
 use Rattle.section_map.specs.declared.limits.TheConstants.{LARGEST_REGION}
 use Rattle.split_ring.specs.declared.sizes.TheConstants.{FRAME_OVERHEAD, LEAST_MTU, LONGEST_FRAME, MOST_MTU, SHORTEST_FRAME}
 use Rattle.section_map.specs.Geometry.{Shape, IsShape, section_start}
-use Rattle.section_map.specs.Faults.{shape_of, IsFirstFault}
+use Rattle.section_map.specs.Faults.{shape_of, IsFirstFault, IsPages, IsSomePages}
 use Rattle.section_map.specs.declared.sizes.GeometryFault.{GeometryFault}
 use Rattle.split_ring.specs.Layout.{Sizes, IsQueue, size_of, slot_of, limit_of, data_area_start, data_area_len, word_offset, AvailIndex, AvailEntry, UsedEvent, UsedIndex, UsedId, AvailEvent}
 use Rattle.split_ring.specs.Faults.{IsQueueFault}
@@ -69,6 +69,10 @@ shape_found found peers = shape_of peers found.table found.common found.out
 abbrev pub sizes_found : Found → (version mtu : ℕ) → Sizes
 sizes_found found version mtu = record { version = version; out = found.out; mtu = mtu }
 
+-- The sizes in bytes are whole pages, and those of a region with this number of peers.
+abbrev pub HasSizes : Found → ℕ → Type 0
+HasSizes found peers = IsSomePages found.table × IsPages found.common × IsSomePages found.out × IsShape (shape_found found peers)
+
 -- The answer for each reason for which a section has no queue.
 abbrev pub queue_status : QueueFault → Status
 queue_status (queue.BadMtu mtu) = status_of.BadMtu
@@ -79,7 +83,7 @@ queue_status (queue.NoSlot slot room) = status_of.NoSlot
 pub data IsSizeFault (found : Found) (version peers mtu : ℕ) (status : Status) : Type 0 where
   no_region : (fault : GeometryFault) → IsFirstFault peers found.table found.common found.out fault → status ≡ geometry_status fault →
       IsSizeFault found version peers mtu status
-  no_queue : (fault : QueueFault) → IsShape (shape_found found peers) → IsQueueFault (sizes_found found version mtu) fault → status ≡ queue_status fault →
+  no_queue : (fault : QueueFault) → HasSizes found peers → IsQueueFault (sizes_found found version mtu) fault → status ≡ queue_status fault →
       IsSizeFault found version peers mtu status
 
 -- The greatest length in bytes of a delivered frame: at most the longest frame and the data area.
@@ -108,7 +112,7 @@ layout_of shape q = record {
 -- The answer of the layout, whose words are the same in each version, with the slots and the limit
 -- of version 1. Each refusal has its cause, and writes nothing.
 pub data LaysOut (found : Found) (peers mtu : ℕ) (before : Layout) : Status → (after : Layout) → Type 0 where
-  laid_out : IsShape (shape_found found peers) → IsQueue (sizes_found found 1 mtu) →
+  laid_out : HasSizes found peers → IsQueue (sizes_found found 1 mtu) →
       LaysOut found peers mtu before Done (layout_of (shape_found found peers) (sizes_found found 1 mtu))
   refused : (status : Status) → IsSizeFault found 1 peers mtu status → LaysOut found peers mtu before status before
 

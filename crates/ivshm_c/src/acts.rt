@@ -1,10 +1,10 @@
 //! The acts of the tests: calls of the exports on a handle, with their answers and outputs.
 use crate::exports::{
-    ivshm_end_begin, ivshm_end_bursts, ivshm_end_counts, ivshm_end_frame, ivshm_end_free,
-    ivshm_end_new, ivshm_end_new_version, ivshm_end_next, ivshm_end_offer, ivshm_end_offer_again,
-    ivshm_end_publish, ivshm_end_reset, ivshm_end_step, ivshm_end_tail, ivshm_end_took,
-    ivshm_end_took_bursts, ivshm_end_took_field, ivshm_end_took_frame, ivshm_end_took_reads,
-    ivshm_end_took_writes, ivshm_end_view, ivshm_end_words,
+    ivshm_end_begin, ivshm_end_counts, ivshm_end_frame, ivshm_end_free, ivshm_end_new,
+    ivshm_end_new_version, ivshm_end_next, ivshm_end_offer, ivshm_end_offer_again,
+    ivshm_end_publish, ivshm_end_reset, ivshm_end_step, ivshm_end_took, ivshm_end_took_field,
+    ivshm_end_took_frame, ivshm_end_took_reads, ivshm_end_took_writes, ivshm_end_view,
+    ivshm_end_words,
 };
 use crate::{
     Access, Burst, Bursts, Counts, End, Found, FrameReturn, Note, Notes, Publication, View,
@@ -72,7 +72,7 @@ pub(crate) const OLD_COUNTS: Counts = Counts {
 
 const OLD_BURST: Burst = Burst { word: 9, count: 9 };
 
-pub(crate) const OLD_BURSTS: Bursts = Bursts {
+const OLD_BURSTS: Bursts = Bursts {
     frame: OLD_BURST,
     descriptor: OLD_BURST,
     entry: OLD_BURST,
@@ -109,7 +109,6 @@ pub(crate) enum Call {
     Took(u32),
     TookReads(&'static [u8]),
     TookWrites(u32),
-    TookBursts,
     Reset,
     Free,
 }
@@ -128,7 +127,6 @@ fn answer(alloc: Global, end: &mut End, call: Call) -> u32 {
         Call::Took(value) => ivshm_end_took(alloc, end, value, &mut notes),
         Call::TookReads(words) => ivshm_end_took_reads(alloc, end, words, &mut notes),
         Call::TookWrites(count) => ivshm_end_took_writes(alloc, end, count),
-        Call::TookBursts => ivshm_end_took_bursts(alloc, end),
         Call::Reset => ivshm_end_reset(alloc, end),
         Call::Free => ivshm_end_free(alloc, end),
     }
@@ -154,11 +152,6 @@ pub(crate) enum Act {
     NextState(u32),
     /// Writes the next words into a room of 1s, which has these bytes then, with this answer.
     Words(&'static [u8], u32),
-    /// Writes the bursts of an offer and their words into the front of a room. A row has the room's
-    /// length, the answer, the bursts, and the 40 bytes that hold the room afterwards.
-    Bursts(usize, u32, Bursts, &'static [u8; 40]),
-    /// The same with the words after the frame.
-    Tail(usize, u32, Bursts, &'static [u8; 40]),
     /// Completes the writes of an offer up to its index: the length of the room, the answer, and
     /// what the writes, the 40 bytes that hold the room and the access after the writes are then.
     Publish(usize, u32, Publication, &'static [u8; 40], Access),
@@ -295,45 +288,6 @@ fn places(bursts: &Bursts) -> [u32; 6] {
     ]
 }
 
-/// Writes the bursts of an offer into a room of this length. Returns whether all is as the act
-/// says.
-#[must_use]
-fn are_bursts(
-    alloc: Global,
-    end: &mut End,
-    size: usize,
-    due: u32,
-    bursts: &Bursts,
-    bytes: &[u8; 40],
-) -> bool {
-    let mut room = OLD_ROOM;
-    let mut into = OLD_BURSTS;
-    if size > 40 {
-        return false;
-    }
-    let answer = ivshm_end_bursts(alloc, end, &mut into, &mut room[..size]);
-    answer == due && places(&into) == places(bursts) && room == *bytes
-}
-
-/// Does the same with the words after the frame.
-#[must_use]
-fn is_tail(
-    alloc: Global,
-    end: &mut End,
-    size: usize,
-    due: u32,
-    bursts: &Bursts,
-    bytes: &[u8; 40],
-) -> bool {
-    let mut room = OLD_ROOM;
-    let mut into = OLD_BURSTS;
-    if size > 40 {
-        return false;
-    }
-    let answer = ivshm_end_tail(alloc, end, &mut into, &mut room[..size]);
-    answer == due && places(&into) == places(bursts) && room == *bytes
-}
-
 /// Completes the writes of an offer up to its index. Returns whether all is as the act says.
 #[must_use]
 fn is_published(
@@ -441,8 +395,6 @@ fn makes(alloc: Global, end: &mut End, act: &Act) -> bool {
         Act::Next(access) => is_next(alloc, end, access),
         Act::NextState(value) => is_next(alloc, end, &state(*value)),
         Act::Words(bytes, due) => are_words(alloc, end, bytes, *due),
-        Act::Bursts(size, due, bursts, bytes) => are_bursts(alloc, end, *size, *due, bursts, bytes),
-        Act::Tail(size, due, bursts, bytes) => is_tail(alloc, end, *size, *due, bursts, bytes),
         Act::Publish(size, due, made, bytes, access) => {
             is_published(alloc, end, *size, *due, made, bytes, access)
         }

@@ -1,18 +1,16 @@
 //! The calls of an end with their answers. Each call tests the arguments of the C program.
 ghost use Rattle.std.specs.Prelude.{◌≡◌, ◌*◌, ◌%◌, ◌<◌, ◌≤◌, true, length, Some, IfOk, IfErr};
-ghost use Rattle.tx_engine.specs.Ahead.{words_of};
 ghost use Rattle.link_endpoint.specs.Engine.{is_busy, delivered, offered};
-ghost use Rattle.ivshm_c.specs.Answers.{begin_answer, offer_answer, step_answer, count_answer, bytes_answer, reads_answer, words_answer, writes_answer, bursts_answer, tail_answer, took_bursts_answer, frame_answer, BeginsAnswered, OffersAnswered, IsNextAccess, GivesNext, TakesAnswered, TakesWords, GivesWords, TakesWrites, GivesBursts, GivesTail, TakesBursts, CopiesFrame, IsNew, MayMake, RefusesNew};
+ghost use Rattle.ivshm_c.specs.Answers.{begin_answer, offer_answer, step_answer, count_answer, bytes_answer, reads_answer, words_answer, writes_answer, publish_answer, frame_answer, BeginsAnswered, OffersAnswered, IsNextAccess, GivesNext, TakesAnswered, TakesWords, GivesWords, TakesWrites, CopiesFrame, IsNew, MayMake, RefusesNew};
 ghost use Rattle.c_status.specs.Statuses.{number_of};
 ghost use Rattle.ivshm_c.specs.Items.{idle_answer, TakesField, TakesFrame, PublishesFrame, GoesOn, Rung};
 
 use crate::crossing::{
-    access_crossed, bursts_crossed, call_numbered, frame_return_crossed, notes_crossed,
-    publication_crossed,
+    access_crossed, call_numbered, frame_return_crossed, notes_crossed, publication_crossed,
 };
 use crate::device::{Found, sized};
 use crate::end_state::EndState;
-use crate::{Access, Burst, Bursts, FrameReturn, Notes, Publication};
+use crate::{Access, Burst, FrameReturn, Notes, Publication};
 use c_status::Status;
 use link_endpoint::Endpoint;
 use split_ring::{SHORTEST_FRAME, steps};
@@ -246,17 +244,17 @@ pub(crate) fn publish(
     room: &mut [u8],
     access: &mut Access,
 ) -> Status
-    ensures answer { result ≡ tail_answer (length room.old) port.old }
+    ensures answer { result ≡ publish_answer (length room.old) port.old }
     ensures step { PublishesFrame made.old made.new room.old room.new access.old access.new port.old port.new }
 {
     if !port.endpoint.busy() {
         return Status::NoCall;
     }
     if room.len() <= 19 {
-        return if port.endpoint.bursts().is_none() {
-            Status::OtherAccess
-        } else {
+        return if port.endpoint.writes_frame() {
             Status::ShortRoom
+        } else {
+            Status::OtherAccess
         };
     }
     match port.publish(&mut room[..20]) {
@@ -343,70 +341,6 @@ pub(crate) fn took_writes(port: &mut EndState, count: u32) -> Status
         port.took_writes(count);
     }
     status
-}
-
-/// Writes the bursts of an offer before its index into `reported`, and their words into the front
-/// of `room`.
-pub(crate) fn bursts(port: &EndState, reported: &mut Bursts, room: &mut [u8]) -> Status
-    ensures answer { result ≡ bursts_answer (length room.old) port.now }
-    ensures words { GivesBursts port.now reported.old reported.new room.old room.new }
-{
-    if !port.endpoint.busy() {
-        return Status::NoCall;
-    }
-    let Some(bursts) = port.endpoint.bursts() else {
-        return Status::OtherAccess;
-    };
-    let bytes = bytes_of(&bursts);
-    if room.len() < bytes {
-        return Status::ShortRoom;
-    }
-    port.endpoint.burst_words(&mut room[..bytes]);
-    *reported = bursts_crossed(bursts);
-    Status::Done
-}
-
-/// Returns the number of bytes of the words of these bursts.
-fn bytes_of(bursts: &link_endpoint::Bursts) -> usize
-    ensures { result ≡ 4 * words_of (Some bursts.now) }
-{
-    let frame = bursts.frame.count as usize;
-    4 * (frame + bursts.descriptor.count as usize + bursts.entry.count as usize)
-}
-
-/// Writes the same bursts into `reported`, and only the words after the frame into the front of
-/// `room`.
-pub(crate) fn tail(port: &EndState, reported: &mut Bursts, room: &mut [u8]) -> Status
-    ensures answer { result ≡ tail_answer (length room.old) port.now }
-    ensures words { GivesTail port.now reported.old reported.new room.old room.new }
-{
-    if !port.endpoint.busy() {
-        return Status::NoCall;
-    }
-    let Some(bursts) = port.endpoint.bursts() else {
-        return Status::OtherAccess;
-    };
-    if room.len() < 20 {
-        return Status::ShortRoom;
-    }
-    port.endpoint.tail_words(&mut room[..20]);
-    *reported = bursts_crossed(bursts);
-    Status::Done
-}
-
-/// Completes the steps of all these writes.
-pub(crate) fn took_bursts(port: &mut EndState) -> Status
-    ensures answer { result ≡ took_bursts_answer port.old }
-    ensures step { TakesBursts port.old port.new }
-{
-    if !port.endpoint.busy() {
-        return Status::NoCall;
-    }
-    if port.endpoint.bursts().is_none() {
-        return Status::OtherAccess;
-    }
-    port.took_bursts();
-    Status::Done
 }
 
 /// Copies the frame delivered last into `room` if it fits, and writes its length in bytes into

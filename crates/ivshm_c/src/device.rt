@@ -2,7 +2,7 @@
 ghost use Rattle.std.specs.Prelude.{◌≡◌, ◌+◌, ◌*◌, IfOk, IfErr, unwrap_or};
 ghost use Rattle.section_map.specs.Geometry.{IsShape};
 ghost use Rattle.split_ring.specs.Layout.{IsQueue, IsVersion};
-ghost use Rattle.ivshm_c.specs.Sizes.{no_msix, found_crossed, capability_status, queue_status, shape_found, sizes_found, IsSizeFault, layout_of, longest_delivery};
+ghost use Rattle.ivshm_c.specs.Sizes.{no_msix, found_crossed, capability_status, queue_status, shape_found, sizes_found, HasSizes, IsSizeFault, layout_of, longest_delivery};
 
 use c_status::{Status, geometry_status};
 use pci_space::{CapabilityFault, MsixFound};
@@ -144,6 +144,7 @@ pub(crate) fn sized(
 ) -> Result<(Geometry, Queue), Status>
     requires version { IsVersion version }
     ensures shape { IfOk result (λ r. (r.0 ≡ shape_found found.now peers) × IsShape r.0) }
+    ensures sizes { IfOk result (λ _. HasSizes found.now peers) }
     ensures queue { IfOk result (λ r. (r.1 ≡ sizes_found found.now version mtu) × IsQueue r.1) }
     ensures whole { IfOk result (λ r. r.1.out ≡ 4 * r.0.out) }
     ensures fault { IfErr result (λ status. IsSizeFault found.now version peers mtu status) }

@@ -1,7 +1,6 @@
 //! An end of the link, with the outcome of its last offer and its counts.
 ghost use Rattle.std.specs.Prelude.{◌≡◌, ℕ, ◌+◌, ◌*◌, ◌%◌, ◌<◌, ◌≤◌, [], ◌∷◌, true, false, None, IfSome, length};
 ghost use Rattle.split_ring.specs.declared.sizes.TheConstants.{FRAME_OVERHEAD, SHORTEST_FRAME};
-ghost use Rattle.tx_engine.specs.Ahead.{words_of};
 ghost use Rattle.link_endpoint.specs.Engine.{is_busy, reads_ahead, writes_ahead, bursts_of, offered};
 ghost use Rattle.link_endpoint.specs.declared.place.Call.TheVariants.{Stop};
 ghost use Rattle.link_endpoint.specs.Publishing.{Publishes};
@@ -142,16 +141,6 @@ impl EndState {
         ensures counts { self.new.counts ≡ self.old.counts }
     {
         self.endpoint.took_writes(count);
-    }
-
-    /// Completes all writes before the index.
-    pub(crate) fn took_bursts(&mut self)
-        requires { 0 < words_of (bursts_of self.old.endpoint) }
-        ensures steps { WritesAtOnce self.old.endpoint (words_of (bursts_of self.old.endpoint)) self.new.endpoint }
-        ensures outcome { self.new.outcome ≡ self.old.outcome }
-        ensures counts { self.new.counts ≡ self.old.counts }
-    {
-        self.endpoint.took_bursts();
     }
 
     /// Publishes the frame of the open offer: completes all writes up to its index.

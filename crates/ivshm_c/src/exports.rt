@@ -5,16 +5,16 @@ ghost use Rattle.c_status.specs.Statuses.{number_of};
 ghost use Rattle.c_status.specs.declared.status.Status.{Status as Answer};
 ghost use Rattle.link_endpoint.specs.Engine.{delivered};
 ghost use Rattle.ivshm_c.specs.Crossing.{view_of};
-ghost use Rattle.ivshm_c.specs.Answers.{answer_at, begin_answer, offer_answer, again_answer, step_answer, reads_answer, words_answer, writes_answer, bursts_answer, tail_answer, took_bursts_answer, frame_answer, done_answer, BeginsAnswered, OffersAnswered, OffersAgain, GivesNext, TakesAnswered, TakesWords, GivesWords, TakesWrites, GivesBursts, GivesTail, TakesBursts, CopiesFrame, Renews, MakesAnswered};
+ghost use Rattle.ivshm_c.specs.Answers.{answer_at, begin_answer, offer_answer, again_answer, step_answer, reads_answer, words_answer, writes_answer, publish_answer, frame_answer, done_answer, BeginsAnswered, OffersAnswered, OffersAgain, GivesNext, TakesAnswered, TakesWords, GivesWords, TakesWrites, CopiesFrame, Renews, MakesAnswered};
 ghost use Rattle.ivshm_c.specs.Items.{TakesField, TakesFrame, PublishesFrame};
 
 use crate::calls::{
-    begun, bursts, framed, made, next, offered, offered_again, publish, stepped, tail, took,
-    took_bursts, took_field, took_frame, took_reads, took_writes, words,
+    begun, framed, made, next, offered, offered_again, publish, stepped, took, took_field,
+    took_frame, took_reads, took_writes, words,
 };
 use crate::crossing::view_of;
 use crate::device::Found;
-use crate::{Access, Burst, Bursts, Counts, End, FrameReturn, Notes, Publication, View};
+use crate::{Access, Burst, Counts, End, FrameReturn, Notes, Publication, View};
 use c_status::Status;
 use std::alloc::Global;
 
@@ -312,77 +312,11 @@ pub extern "C" fn ivshm_end_took_writes(alloc: Global, end: &mut End, count: u32
     status.number()
 }
 
-/// Writes the three bursts of an offer before its index, from the next word on, into `reported`.
-/// They are the words of the frame, of the descriptor and of the available entry. Writes their
-/// words into the front of `room`, in this order, four bytes each, the lowest byte first.
-// claim answer, words with ivshm_end_took_bursts.answer, ivshm_end_took_bursts.step: The bursts are
-//    all that an offer writes before its index, exactly if a word of its frame is next and the room
-//    has enough bytes; the rest of the room stays. Completing them equals as many single steps.
-//    Otherwise the answer says why, and nothing changes.
-#[unsafe(no_mangle)]
-pub extern "C" fn ivshm_end_bursts(
-    alloc: Global,
-    end: &mut End,
-    reported: &mut Bursts,
-    room: &mut [u8],
-) -> u32
-    ensures answer { result ≡ number_of (answer_at end.old.port (bursts_answer (length room.old))) }
-    ensures words { IfSome end.old.port (λ port. GivesBursts port reported.old reported.new room.old room.new) }
-    ensures untouched { end.old.port ≡ None → (reported.new ≡ reported.old) × (room.new ≡ room.old) }
-    ensures kept { end.new.port ≡ end.old.port }
-{
-    let Some(port) = end.take(alloc) else {
-        return Status::NoEnd.number();
-    };
-    let status = bursts(&port, reported, room);
-    end.put(port);
-    status.number()
-}
-
-/// Writes the same three bursts into `reported`. Writes only the words of the descriptor and of the
-/// available entry into the front of `room`, in 20 bytes. The words of the frame are the last words
-/// of the offered frame, with 0 after its last byte.
-// claim answer, words: The tail is the five words after the frame, exactly if a word of the frame
-//    is next and the room has 20 bytes; the rest of the room stays. The words left of the frame are
-//    the last ones of the frame offered. Otherwise the answer says why, and nothing changes.
-#[unsafe(no_mangle)]
-pub extern "C" fn ivshm_end_tail(
-    alloc: Global,
-    end: &mut End,
-    reported: &mut Bursts,
-    room: &mut [u8],
-) -> u32
-    ensures answer { result ≡ number_of (answer_at end.old.port (tail_answer (length room.old))) }
-    ensures words { IfSome end.old.port (λ port. GivesTail port reported.old reported.new room.old room.new) }
-    ensures untouched { end.old.port ≡ None → (reported.new ≡ reported.old) × (room.new ≡ room.old) }
-    ensures kept { end.new.port ≡ end.old.port }
-{
-    let Some(port) = end.take(alloc) else {
-        return Status::NoEnd.number();
-    };
-    let status = tail(&port, reported, room);
-    end.put(port);
-    status.number()
-}
-
-/// Completes all these writes. None of them has a note.
-#[unsafe(no_mangle)]
-pub extern "C" fn ivshm_end_took_bursts(alloc: Global, end: &mut End) -> u32
-    ensures answer { result ≡ number_of (answer_at end.old.port took_bursts_answer) }
-    ensures step { Leads end.old.port TakesBursts end.new.port }
-{
-    let Some(mut port) = end.take(alloc) else {
-        return Status::NoEnd.number();
-    };
-    let status = took_bursts(&mut port);
-    end.put(port);
-    status.number()
-}
-
 /// Completes all that an offer writes up to its index, and writes these writes into `made`, and the
 /// access after them into `access`. If that is the doorbell, its step is completed too. Writes only
-/// the words of the descriptor and of the available entry into the front of `room`, in 20 bytes, as
-/// `ivshm_end_tail` does.
+/// the words of the descriptor and of the available entry into the front of `room`, in 20 bytes,
+/// four bytes each, the lowest byte first. The words of the frame are the last words of the offered
+/// frame, with 0 after its last byte.
 // claim answer, step, untouched: All that an offer writes up to its index is completed as by single
 //    steps, exactly if a word of its frame is next and the room has 20 bytes. The writes are the
 //    accesses of these steps; the rest of the room stays. The access after them is written. Exactly
@@ -396,7 +330,7 @@ pub extern "C" fn ivshm_end_publish(
     room: &mut [u8],
     access: &mut Access,
 ) -> u32
-    ensures answer { result ≡ number_of (answer_at end.old.port (tail_answer (length room.old))) }
+    ensures answer { result ≡ number_of (answer_at end.old.port (publish_answer (length room.old))) }
     ensures step { Leads end.old.port
         (PublishesFrame made.old made.new room.old room.new access.old access.new) end.new.port }
     ensures untouched { end.old.port ≡ None →

@@ -1,7 +1,6 @@
 //! Each export once, with numbers from the layout of a section and from the device's specification.
 use crate::acts::{
-    Act, Call, FOUND, OLD_ACCESS, OLD_BURSTS, OLD_COUNTS, OLD_PUBLICATION, OLD_RETURN, OLD_ROOM,
-    makes_all,
+    Act, Call, FOUND, OLD_ACCESS, OLD_COUNTS, OLD_PUBLICATION, OLD_RETURN, OLD_ROOM, makes_all,
 };
 use crate::tables::{
     ivshm_abi_version, ivshm_layout, ivshm_library_version, ivshm_limits, ivshm_walk,
@@ -145,7 +144,7 @@ fn a_section_cleared_at_once(rt: HostRuntime) {
     makes_all(&rt, rt.alloc(), &mut end, &CLEARED_AT_ONCE);
 }
 
-/// The bursts of the first offer of peer 0, of 14 bytes, and what is left after the first word.
+/// The bursts of the first offer of peer 0, of 14 bytes, and those left after the first word.
 const OFFERED: Bursts = Bursts {
     frame: Burst {
         word: 1_472,
@@ -176,85 +175,13 @@ const LEFT: Bursts = Bursts {
     },
 };
 
-/// The words of these bursts, in 36 bytes.
-const OFFERED_WORDS: [u8; 40] = [
-    7, 7, 7, 7, 7, 7, 7, 7, 7, 7, 7, 7, 7, 7, 0, 0, 0, 7, 0, 0, 0, 0, 0, 0, 14, 0, 0, 0, 0, 0, 0,
-    0, 0, 0, 0, 0, 9, 9, 9, 9,
-];
-
-/// The write of the available index.
-const INDEX: Access = Access {
-    kind: 2,
-    word: 1_280,
-    value: 65_536,
-    count: 0,
-    order: 2,
-    fence_before: 0,
-    fence_after: 0,
-};
-
-const AT_ONCE: [Act; 15] = [
-    Act::Bursts(40, 1, OLD_BURSTS, &OLD_ROOM),
-    Act::Makes(Call::TookBursts, 1),
-    Act::Makes(Call::New(0), 0),
-    Act::Makes(Call::TookBursts, 26),
-    Act::Runs,
-    Act::Makes(Call::TookBursts, 4),
-    Act::Makes(Call::Offer(&[7; 14]), 0),
-    Act::Bursts(40, 26, OLD_BURSTS, &OLD_ROOM),
-    Act::Makes(Call::Took(0), 0),
-    Act::Bursts(35, 9, OLD_BURSTS, &OLD_ROOM),
-    Act::Bursts(40, 0, OFFERED, &OFFERED_WORDS),
-    Act::Makes(Call::TookBursts, 0),
-    Act::Next(INDEX),
-    Act::Makes(Call::TookBursts, 26),
-    Act::Makes(Call::Free, 0),
-];
-
-/// An offer of 14 bytes has three bursts: four words of the frame, four of its descriptor and one
-/// of its entry. They are completed together, and the index is next. No end, no call, another
-/// access and a room that is too short have their answers.
-// claim ivshm_c.ivshm_end_bursts.answer
-#[test]
-fn an_offer_at_once(rt: HostRuntime) {
-    let mut end = End::empty(rt.alloc());
-    makes_all(&rt, rt.alloc(), &mut end, &AT_ONCE);
-}
-
 /// The words after the frame, in 20 bytes.
 const TAIL: [u8; 40] = [
     0, 7, 0, 0, 0, 0, 0, 0, 14, 0, 0, 0, 0, 0, 0, 0, 0, 0, 0, 0, 9, 9, 9, 9, 9, 9, 9, 9, 9, 9, 9,
     9, 9, 9, 9, 9, 9, 9, 9, 9,
 ];
 
-const BY_THE_TAIL: [Act; 13] = [
-    Act::Tail(24, 1, OLD_BURSTS, &OLD_ROOM),
-    Act::Makes(Call::New(0), 0),
-    Act::Runs,
-    Act::Tail(24, 4, OLD_BURSTS, &OLD_ROOM),
-    Act::Makes(Call::Offer(&[7; 14]), 0),
-    Act::Tail(24, 26, OLD_BURSTS, &OLD_ROOM),
-    Act::Makes(Call::Took(0), 0),
-    Act::Tail(19, 9, OLD_BURSTS, &OLD_ROOM),
-    Act::Tail(24, 0, OFFERED, &TAIL),
-    Act::Makes(Call::Took(0), 0),
-    Act::Tail(24, 0, LEFT, &TAIL),
-    Act::Makes(Call::Took(0), 0),
-    Act::Makes(Call::Free, 0),
-];
-
-/// The tail of the same offer is 20 bytes, before and after the first word of the frame is written
-/// alone. No end, no call, another access and a room that is too short have their answers.
-// claim tx_engine.Tx.tail_words.writes
-// claim link_endpoint.Endpoint.tail_words.writes
-// claim ivshm_c.ivshm_end_offer.answer
-#[test]
-fn an_offer_by_its_tail(rt: HostRuntime) {
-    let mut end = End::empty(rt.alloc());
-    makes_all(&rt, rt.alloc(), &mut end, &BY_THE_TAIL);
-}
-
-/// The writes of the same offer up to its index.
+/// The writes of this offer up to its index.
 const PUBLICATION: Publication = Publication {
     bursts: OFFERED,
     index: 1_280,
@@ -299,13 +226,41 @@ const UP_TO_THE_INDEX: [Act; 15] = [
     Act::Makes(Call::Free, 0),
 ];
 
-/// The same offer is published by one call, which completes its doorbell too. No end, no call,
-/// another access and a room that is too short have their answers.
+/// An offer of 14 bytes is published by one call, which completes its doorbell too. No end, no
+/// call, another access and a room that is too short have their answers.
 // claim ivshm_c.ivshm_end_publish.answer
 #[test]
 fn an_offer_up_to_its_index(rt: HostRuntime) {
     let mut end = End::empty(rt.alloc());
     makes_all(&rt, rt.alloc(), &mut end, &UP_TO_THE_INDEX);
+}
+
+const AFTER_A_WORD: [Act; 6] = [
+    Act::Makes(Call::New(0), 0),
+    Act::Runs,
+    Act::Makes(Call::Offer(&[7; 14]), 0),
+    Act::Steps(2),
+    Act::Publish(
+        24,
+        0,
+        Publication {
+            bursts: LEFT,
+            ..PUBLICATION
+        },
+        &TAIL,
+        DOORBELL,
+    ),
+    Act::Makes(Call::Free, 0),
+];
+
+/// The same offer is published after the first word of its frame is written alone.
+// claim tx_engine.Tx.publish.steps
+// claim link_endpoint.Endpoint.publish.steps
+// claim ivshm_c.ivshm_end_offer.answer
+#[test]
+fn an_offer_after_a_word(rt: HostRuntime) {
+    let mut end = End::empty(rt.alloc());
+    makes_all(&rt, rt.alloc(), &mut end, &AFTER_A_WORD);
 }
 
 /// The writes that return the first frame of peer 1, of 14 bytes.

@@ -2,7 +2,7 @@
 use Rattle.std.specs.Prelude.{ℕ, ◌||◌, ◌++◌, ◌≡◌, ◌≢◌, ◌+◌, ◌*◌, ◌%◌, ◌^◌, ◌<◌, ◌≤◌, ◌==◌, nat_lt, if◌then◌else◌, Bool, List, [], Option, Some, None}
 use Rattle.pci_space.specs.declared.sizes.TheConstants.{SPACE_LEN, MOST_VECTORS}
 use Rattle.section_map.specs.Geometry.{Shape, IsShape, word_count}
-use Rattle.section_map.specs.Faults.{shape_of, IsFirstFault}
+use Rattle.section_map.specs.Faults.{shape_of, IsFirstFault, IsPages, IsSomePages}
 use Rattle.section_map.specs.declared.sizes.GeometryFault.{GeometryFault}
 use Rattle.pci_space.specs.declared.wiring.Wiring.{Wiring}
 use Rattle.pci_space.specs.declared.wiring.Wiring.TheVariants.{Msix, Intx}
@@ -130,6 +130,10 @@ wiring_of vectors = if vectors == 0 then Intx else Msix vectors
 abbrev pub shape_in : World → Shape
 shape_in w = shape_of w.peers w.table w.common w.out
 
+-- The sizes of a world in bytes are whole pages, and those of a region.
+abbrev pub HasSizes : World → Type 0
+HasSizes w = IsSomePages w.table × IsPages w.common × IsSomePages w.out × IsShape (shape_in w)
+
 -- The base of a world is a multiple of a page, and the region ends within 64 bits. Base 0 means
 -- Base Address Register 2.
 abbrev pub IsBase : World → Type 0
@@ -144,7 +148,7 @@ IsPlaceOf bytes base (Bar2 bits) = (base ≡ 0) × ((bytes ≤ 2 ^ bits) × (2 ^
 -- Worlds of which devices are made, unless memory runs out. They have at most 64 vectors, at most 8
 -- peers, the sizes of a region, and a base.
 abbrev pub MayMake : World → Type 0
-MayMake w = (w.vectors ≤ MOST_VECTORS) × ((w.peers ≤ 8) × (IsShape (shape_in w) × IsBase w))
+MayMake w = (w.vectors ≤ MOST_VECTORS) × (w.peers ≤ 8) × HasSizes w × IsBase w
 
 -- New devices of a world: all peers are connected and at reset.
 abbrev pub IsNew : World → DeviceState → Type 0
@@ -159,7 +163,7 @@ pub data RefusesNew (w : World) : Status → Type 0 where
   many_peers : w.vectors ≤ MOST_VECTORS → 9 ≤ w.peers → RefusesNew w BadPeers
   bad_sizes : w.vectors ≤ MOST_VECTORS → w.peers ≤ 8 → (fault : GeometryFault) → IsFirstFault w.peers w.table w.common w.out fault →
       RefusesNew w (geometry_status fault)
-  bad_base : w.vectors ≤ MOST_VECTORS → w.peers ≤ 8 → IsShape (shape_in w) → (IsBase w → ⊥) → RefusesNew w BadBase
+  bad_base : w.vectors ≤ MOST_VECTORS → w.peers ≤ 8 → HasSizes w → (IsBase w → ⊥) → RefusesNew w BadBase
   no_memory : MayMake w → RefusesNew w NoMemory
 
 -- The status of a call that makes devices, and the devices of the handle after the call.

@@ -79,8 +79,8 @@ pub(crate) fn made(alloc: Global, world: &World) -> Result<Box<DeviceState>, Sta
 pub(crate) fn config_read(
     state: &DeviceState,
     peer: u32,
-    offset: u16,
-    width: u16,
+    offset: u32,
+    width: u32,
     value: &mut u32,
 ) -> Status
     ensures answer { result ≡ access_answer peer offset width state.now }
@@ -89,7 +89,10 @@ pub(crate) fn config_read(
     if peer >= state.device.peers() {
         return Status::BadPeer;
     }
-    match state.device.config_read(peer, offset, width) {
+    if offset > 255 || width > 4 {
+        return Status::BadAccess;
+    }
+    match state.device.config_read(peer, offset as u16, width as u16) {
         Ok(found) => {
             *value = found;
             Status::Done
@@ -102,8 +105,8 @@ pub(crate) fn config_read(
 pub(crate) fn config_write(
     state: &mut DeviceState,
     peer: u32,
-    offset: u16,
-    width: u16,
+    offset: u32,
+    width: u32,
     value: u32,
 ) -> Status
     ensures answer { result ≡ access_answer peer offset width state.old }
@@ -112,7 +115,13 @@ pub(crate) fn config_write(
     if peer >= state.device.peers() {
         return Status::BadPeer;
     }
-    match state.device.config_write(peer, offset, width, value) {
+    if offset > 255 || width > 4 {
+        return Status::BadAccess;
+    }
+    match state
+        .device
+        .config_write(peer, offset as u16, width as u16, value)
+    {
         Ok(()) => Status::Done,
         Err(_) => Status::BadAccess,
     }

@@ -102,8 +102,8 @@ pub extern "C" fn ivshm_device_config_read(
     alloc: Global,
     device: &mut DeviceHandle,
     peer: u32,
-    offset: u16,
-    width: u16,
+    offset: u32,
+    width: u32,
     value: &mut u32,
 ) -> u32
     ensures answer { result ≡ number_of (answer_at device.old.state (access_answer peer offset width)) }
@@ -125,8 +125,8 @@ pub extern "C" fn ivshm_device_config_write(
     alloc: Global,
     device: &mut DeviceHandle,
     peer: u32,
-    offset: u16,
-    width: u16,
+    offset: u32,
+    width: u32,
     value: u32,
 ) -> u32
     ensures answer { result ≡ number_of (answer_at device.old.state (access_answer peer offset width)) }

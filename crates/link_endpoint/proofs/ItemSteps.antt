@@ -1,15 +1,13 @@
 -- The steps of a poll that the receiver completes by one call are steps of the endpoint.
-use Rattle.std.proofs.Common.{◌≡◌, ℕ, ◌++◌, Bool, true, false, Option, Some, None, List, [], ◌∷◌, length, take, refl, ap, sym, ◌∙◌, IfSome}
+use Rattle.std.proofs.Common.{◌≡◌, ℕ, Bool, true, false, Option, Some, None, List, [], ◌∷◌, length, refl, ap, sym, ◌∙◌, IfSome}
 use Rattle.std.specs.List.{flat_map}
-use Rattle.split_ring.specs.declared.steps.Access.TheVariants as access
 use Rattle.split_ring.specs.declared.steps.Note.TheVariants as note
-use Rattle.split_ring.specs.declared.steps.WordKind.TheVariants.{Plain, IndexWrite}
+use Rattle.split_ring.specs.declared.steps.WordKind.TheVariants.{IndexWrite}
 use Rattle.call_grammar.specs.Ends.{End}
 use Rattle.call_grammar.specs.Calls.{EndConfig}
 use Rattle.call_grammar.specs.Places as places
 use Rattle.call_grammar.specs.Orders.{word_kind}
 use Rattle.call_grammar.specs.Words.{word_bytes}
-use Rattle.call_grammar.specs.Bursts.{StepsThrough}
 use Rattle.rx_engine.specs.declared.ahead.FrameReturn.{FrameReturn}
 use Rattle.rx_engine.specs.Receiver.{Receiver}
 use Rattle.rx_engine.specs.Refinement as rx
@@ -17,8 +15,7 @@ use Rattle.rx_engine.specs.Items as receiver
 use Rattle.link_endpoint.specs.declared.place.Place.TheVariants.{Polling}
 use Rattle.link_endpoint.specs.Engine.{Engine}
 use Rattle.link_endpoint.specs.Refinement.{RefinesAt}
-use Rattle.link_endpoint.specs.Bursts.{IsTaken}
-use Rattle.link_endpoint.specs.Orders.{order_at, order_of, relaxed, release}
+use Rattle.link_endpoint.specs.Orders.{order_at, order_of, release}
 use Rattle.link_endpoint.specs.Items.{ReadsNext, RefusesNext, ReadsAndReturns}
 use Rattle.link_endpoint.proofs.EndByPlace.{at_place}
 use Rattle.link_endpoint.proofs.OfferAndPollSteps.{poll_at}

@@ -1,7 +1,6 @@
 -- The steps of an offer up to its index, which the sender completes by one call, are steps of the
 -- endpoint.
-use Rattle.std.proofs.Common.{◌≡◌, ℕ, ◌++◌, Bool, true, false, Some, None, List, [], ◌∷◌, length, refl, ap, sym, ◌∙◌, subst}
-use Rattle.split_ring.specs.declared.steps.Access.TheVariants as access
+use Rattle.std.proofs.Common.{◌≡◌, ℕ, false, List, [], ◌∷◌, length, refl, ap, sym, ◌∙◌, subst}
 use Rattle.split_ring.specs.declared.steps.Note.TheVariants as note
 use Rattle.call_grammar.specs.Ends.{End}
 use Rattle.call_grammar.specs.Calls.{EndConfig}
@@ -10,16 +9,13 @@ use Rattle.call_grammar.specs.Orders.{word_kind}
 use Rattle.tx_engine.specs.declared.ahead.Publication.{Publication}
 use Rattle.tx_engine.specs.Sender.{Sender}
 use Rattle.tx_engine.specs.Ahead.{words_of}
-use Rattle.tx_engine.specs.Ahead as ahead
-use Rattle.tx_engine.specs.Refinement as tx
 use Rattle.tx_engine.specs.Publishing as sender
 use Rattle.link_endpoint.specs.declared.place.Place.TheVariants.{Offering}
 use Rattle.link_endpoint.specs.declared.endpoint.Endpoint.TheInside.{Inside}
 use Rattle.link_endpoint.specs.Engine.{Engine, bursts_at}
 use Rattle.link_endpoint.specs.Representation.{engine_of, IsWellFormed}
 use Rattle.link_endpoint.specs.Refinement.{RefinesAt}
-use Rattle.link_endpoint.specs.Bursts.{IsTaken}
-use Rattle.link_endpoint.specs.Orders.{order_at, order_of, release}
+use Rattle.link_endpoint.specs.Orders.{order_of}
 use Rattle.link_endpoint.specs.Publishing.{Publishes}
 use Rattle.link_endpoint.proofs.EndByPlace.{at_place}
 use Rattle.link_endpoint.proofs.OfferAndPollSteps.{offer_at}
@@ -32,8 +28,8 @@ pub publishes : (old : Engine) (tail : List ℕ) (made : Publication) (next : Se
     Publishes old tail made (record old { sender = next }) × StandsFor (record old { sender = next }) config
 publishes old tail made next config end place offers refines all =
     let written : Engine = record old { sender = all.written } in
-    let writes = λ (values : List ℕ) (count : length values ≡ words_of (Some made.bursts)). offers_on old values all.written config end place offers (all.writes values count) refines in
-    let some = some_values (words_of (Some made.bursts)) in
+    let writes = λ (values : List ℕ) (count : length values ≡ words_of made.bursts). offers_on old values all.written config end place offers (all.writes values count) refines in
+    let some = some_values (words_of made.bursts) in
     let first = stands_on old written some.0 [] config end place (writes some.0 some.1) refines in
     let accepts = λ (value : ℕ). offers_noted written value (note.Accept ∷ []) next config first.end first.place offers (all.accepts value) first.refines refl in (
       record {
@@ -53,7 +49,7 @@ publishes old tail made next config end place offers refines all =
 -- The sender's parameters are unchanged.
 pub publishing_keeps : (old next : Sender) (tail : List ℕ) (made : Publication) → sender.Publishes old tail made next → KeepsNumbers old next
 publishing_keeps old next tail made all =
-    let some = some_values (words_of (Some made.bursts)) in
+    let some = some_values (words_of made.bursts) in
     let one = keeps_all old all.written some.0 [] (all.writes some.0 some.1) in
     let more = keeps_one all.written next 0 (note.Accept ∷ []) (all.accepts 0) in
     record { sizes = more.sizes ∙ one.sizes; own = more.own ∙ one.own; other_start = more.other_start ∙ one.other_start; target = more.target ∙ one.target; vector = more.vector ∙ one.vector }

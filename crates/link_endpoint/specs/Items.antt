@@ -1,8 +1,8 @@
 -- The steps of a poll that an endpoint completes by one call, and the accesses that it returns.
-use Rattle.std.specs.Prelude.{ℕ, ◌≡◌, ◌++◌, Bool, false, Option, None, List, [], ◌∷◌, length, take, flat_map}
+use Rattle.std.specs.Prelude.{ℕ, ◌≡◌, ◌++◌, Bool, false, List, [], ◌∷◌, length, take, flat_map}
 use Rattle.split_ring.specs.declared.steps.Access.TheVariants as access
 use Rattle.split_ring.specs.declared.steps.Note.TheVariants as note
-use Rattle.call_grammar.specs.Bursts.{StepsThrough, ReadsBurst, WritesBurst}
+use Rattle.call_grammar.specs.Bursts.{StepsThrough, WritesBurst}
 use Rattle.call_grammar.specs.Places as places
 use Rattle.call_grammar.specs.Words.{word_bytes}
 use Rattle.rx_engine.specs.declared.ahead.FrameReturn.{FrameReturn}

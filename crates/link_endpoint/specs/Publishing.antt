@@ -18,6 +18,6 @@ pub record Publishes (old : Engine) (tail : List ℕ) (made : Publication) (new 
   pub written : Engine
   pub bursts : bursts_of old ≡ Some made.bursts
   pub words : AtEachEnd old (λ config _ place. WritesAll config place (listed made.bursts) (last_words (offered old) made.bursts.frame.count ++ tail))
-  pub writes : (values : List ℕ) → length values ≡ words_of (Some made.bursts) → StepsThrough IsTaken old values [] written
+  pub writes : (values : List ℕ) → length values ≡ words_of made.bursts → StepsThrough IsTaken old values [] written
   pub index : AtEachEnd written (λ config _ place. (places.access_at config place ≡ access.Write made.index made.accepted) × (order_at place ≡ release))
   pub accepts : (value : ℕ) → IsTaken written value (note.Accept ∷ []) new

@@ -9,7 +9,6 @@ ghost use Rattle.call_grammar.specs.Ticks.{other_state};
 ghost use Rattle.call_grammar.specs.Bursts.{StepsThrough, ReadsBurst, WritesBurst};
 ghost use Rattle.call_grammar.specs.Words.{word_bytes, words_for};
 ghost use Rattle.call_grammar.specs.StepBounds.{HasFewInFlight};
-ghost use Rattle.tx_engine.specs.Ahead.{words_of, listed, last_words, WritesAll};
 ghost use Rattle.link_endpoint.specs.Engine.{config_of, fresh_engine, engine_after_reset, is_busy, is_down, is_refusing, is_reading_state, is_tick, offered, delivered, call_of, begins_down, refused_after, reads_ahead, frame_ahead, writes_ahead, bursts_of};
 ghost use Rattle.link_endpoint.specs.Refinement.{RefinesAt, AtEachEnd, is_armed, Takes, Opens};
 ghost use Rattle.link_endpoint.specs.Refusal.{RecordsRefusal, EndsRefusal, KeepsRefused, KeepsPhase, StaysRefused};
@@ -29,7 +28,7 @@ use split_ring::steps::{Access, Note, Notes, leaving};
 use split_ring::{Queue, Refused};
 use std::alloc::Global;
 use std::marker::Model;
-use tx_engine::{Bursts, Publication, Tx};
+use tx_engine::{Publication, Tx};
 
 /// An end of the link: its handshake, its sender, its receiver, and the place in the open call.
 ///
@@ -500,69 +499,26 @@ impl Endpoint {
         }
     }
 
-    /// Returns the bursts that the open offer writes before its index, in order and without notes.
-    /// They are the words left of its frame, the descriptor and the available entry. Returns `None`
-    /// if the next access isn't the write of a word of a frame.
-    // claim with Endpoint::burst_words.writes, Endpoint::burst_words.sized, Endpoint::took_bursts:
-    //    The bursts are all that an offer writes before its index. Completing them equals as many
-    //    single steps.
-    pub fn bursts(&self) -> Option<Bursts>
-        ensures { result ≡ bursts_of self.now }
+    /// Whether the next access writes a word of the offered frame.
+    // claim: A word of the frame is next exactly if the open offer has bursts to write before its
+    //    index.
+    pub fn writes_frame(&self) -> bool
+        ensures { result ≡ is_some (bursts_of self.now) }
     {
         match self.place {
-            Place::Offering => self.tx.bursts(),
-            _ => None,
+            Place::Offering => self.tx.writes_frame(),
+            _ => false,
         }
     }
 
-    /// Writes all words of `bursts` into `into`, four bytes each, the lowest byte first.
-    pub fn burst_words(&self, into: &mut [u8])
-        requires sized { length into.old ≡ 4 * words_of (bursts_of self.now) }
-        ensures writes { AtEachEnd self.now (λ config _ place.
-            IfSome (bursts_of self.now) (λ bursts. WritesAll config place (listed bursts) into.new)) }
-        ensures sized { length into.new ≡ length into.old }
-    {
-        if let Place::Offering = self.place {
-            self.tx.burst_words(into);
-        }
-    }
-
-    /// Writes the words of the descriptor and of the available entry of `bursts` into `into`, four
-    /// bytes each, the lowest byte first. Leaves `into` unchanged if `bursts` is `None`.
+    /// Completes the writes of all bursts of the open offer before its available index and the
+    /// write of the index, which the caller makes now. The bursts are the words left of the frame,
+    /// the descriptor and the available entry. Writes the words after the frame into `tail`, four
+    /// bytes each, the lowest byte first. Equivalent to `took` for each of these steps.
     ///
     /// The words of the frame are the last ones of `offered`, with 0 after its last byte. A caller
-    /// that still holds the frame can write them from its own copy.
-    // claim writes, untouched, sized: The tail is the five words after the frame, if the words left
-    //    of the frame are the last ones of the frame offered.
-    pub fn tail_words(&self, into: &mut [u8])
-        requires sized { length into.old ≡ 20 }
-        ensures writes { AtEachEnd self.now (λ config _ place.
-            IfSome (bursts_of self.now) (λ bursts. WritesAll config place (listed bursts) (last_words (offered self.now) bursts.frame.count ++ into.new))) }
-        ensures untouched { bursts_of self.now ≡ None → into.new ≡ into.old }
-        ensures sized { length into.new ≡ length into.old }
-    {
-        if let Place::Offering = self.place {
-            self.tx.tail_words(into);
-        }
-    }
-
-    /// Completes all writes of `bursts`.
-    ///
-    /// Equivalent to one call of `took` for each of these writes, none of which has a note.
-    pub fn took_bursts(&mut self)
-        requires { 0 < words_of (bursts_of self.old) }
-        ensures { (values : List ℕ) → length values ≡ words_of (bursts_of self.old) →
-            StepsThrough IsTaken self.old values [] self.new }
-    {
-        match self.place {
-            Place::Offering => self.tx.took_bursts(),
-            _ => unreachable!(),
-        }
-    }
-
-    /// Completes all writes of `bursts` and the write of the available index, which the caller
-    /// makes now. Writes into `tail` what `tail_words` does. Equivalent to `took` for each of these
-    /// steps. Returns `None` and changes nothing if no word of a frame is written next.
+    /// that still holds the frame can write them from its own copy. Returns `None` and changes
+    /// nothing if no word of a frame is written next.
     // claim steps, open, sized, other, phase, unchanged: All that an offer writes up to its index
     //    is completed as by single steps, none of which changes the phase or ends the call. These
     //    writes are the accesses of the steps, and the index is released. Exactly if no word of a

@@ -6,8 +6,7 @@
 //! # Design
 //!
 //! - A run plays the simulator, and has no calls, checks and rings of its own. Its lines are
-//!   compared with those that `simulate` returns, by the same contract. `reference_history` is the
-//!   program that shares no code with the simulator.
+//!   compared with those that `simulate` returns, by the same contract.
 //! - The view of a run is its scenario, the record's version, the lines that it took and its fault
 //!   (`Taking`). A run counts the lines and doesn't keep them: they are the first lines that a
 //!   record of the version has of the lawful history. Only `close` has a condition: no step of the

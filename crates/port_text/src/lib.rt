@@ -3,7 +3,7 @@
 //! `scenario_text` for the sizes of a region, and `section_map` for the region itself. Its
 //! contracts promise that each value has one spelling. They promise that parsing succeeds exactly
 //! if the bytes are a spelling. Each fault is the first in the order of the format
-//! (docs/COMMANDS.md).
+//! (docs/FORMATS.md).
 #![tactic(auto)]
 
 mod acts;

@@ -23,8 +23,8 @@
 //! - A `Queue` stores every number of its layout, and a contract sees the three from which they
 //!   follow (`specs/Representation`). These three determine the value, so it can be `Copy` and have
 //!   `==`.
-//! - Each range is a fact and a test in `specs/Ranges`. The grammar of calls, the reference
-//!   programs and the proofs above cite these. So a range is changed there and in its check.
+//! - Each range is a fact and a test in `specs/Ranges`. The grammar of calls and the proofs above
+//!   cite these. So a range is changed there and in its check.
 //! - `specs/Spelling` defines the frame that the words of a foreign section hold at a position. It
 //!   also defines the fields in the halves of a word, which the functions of `halves` return.
 #![tactic(auto)]

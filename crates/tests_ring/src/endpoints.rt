@@ -5,7 +5,7 @@ ghost use Rattle.split_ring.specs.Layout.{IsVersion};
 
 use ivs_base::Frame;
 use link_endpoint::laws::bursts_go_on;
-use link_endpoint::{Auto, Burst, Bursts, Call, Choice, Endpoint, Order, Ordering};
+use link_endpoint::{Auto, Burst, Bursts, Call, Choice, Endpoint, Order, Ordering, Publication};
 use link_handshake::Phase;
 use section_map::Geometry;
 use split_ring::steps::{Access, Note};
@@ -42,8 +42,9 @@ enum Act {
     Reads(Access, &'static [u8], &'static [Note]),
     /// Completes all the writes that may be made at once. There are this many.
     WritesAll(u32),
-    /// Makes all writes of the open offer before its index at once: their words and their bytes.
-    AtOnce(Bursts, &'static [u8]),
+    /// Publishes the frame of the open offer: the writes, and the bytes of the words after the
+    /// frame.
+    Publishes(Publication, &'static [u8; 20]),
     /// Resets the end.
     Reset,
     /// Sets a word of the region to this value.
@@ -65,8 +66,8 @@ enum Sight {
     Ordered(Ordering),
     /// The number of writes that may be made at once.
     Ahead(u32),
-    /// The writes of an offer can't be made at once.
-    NoBursts,
+    /// The next access doesn't write a word of a frame.
+    NoFrameWord,
     /// The value that the end refused.
     HasRefused(Option<Refused>),
 }
@@ -202,29 +203,17 @@ fn writes_all(end: &mut Endpoint, count: u32) -> bool {
     true
 }
 
-/// Makes all writes of the open offer before its index at once, as the act says.
+/// Publishes the frame of the open offer, as the act says.
 #[must_use]
-fn at_once(end: &mut Endpoint, expected: Bursts, bytes: &[u8]) -> bool {
-    let mut room = [0xee; 36];
-    let Some(bursts) = end.bursts() else {
+fn publishes(end: &mut Endpoint, expected: Publication, bytes: &[u8; 20]) -> bool {
+    let mut tail = [0xee; 20];
+    if !end.writes_frame() {
+        return false;
+    }
+    let Some(made) = end.publish(&mut tail) else {
         return false;
     };
-    if bursts != expected {
-        return false;
-    }
-    let frame = bursts.frame.count as usize;
-    let count = frame + bursts.descriptor.count as usize + bursts.entry.count as usize;
-    if count == 0 || count > 9 || bytes.len() != 4 * count {
-        return false;
-    }
-    let into = &mut room[..4 * count];
-    end.burst_words(into);
-    let are_these = &*into == bytes;
-    let mut tail = [0xee; 20];
-    end.tail_words(&mut tail);
-    let is_tail = bytes.ends_with(&tail);
-    end.took_bursts();
-    are_these && is_tail && end.bursts().is_none()
+    made == expected && tail == *bytes && !end.writes_frame()
 }
 
 /// Returns the end of peer `me` in the region of the worked examples, in a link of this version. It
@@ -276,7 +265,7 @@ fn shows(end: &Endpoint, sight: Sight) -> bool {
         Sight::Delivered(frame) => end.delivered() == frame,
         Sight::Ordered(order) => end.busy() && end.order() == order,
         Sight::Ahead(count) => end.writes_ahead() == count,
-        Sight::NoBursts => end.bursts().is_none(),
+        Sight::NoFrameWord => !end.writes_frame(),
         Sight::HasRefused(refused) => end.refused() == refused,
     }
 }
@@ -293,7 +282,7 @@ fn makes(words: &mut [u32], end: &mut Endpoint, me: usize, act: Act) -> bool {
         Act::Writes(access, bytes) => writes(end, access, bytes),
         Act::Reads(access, bytes, notes) => reads(end, access, bytes, notes),
         Act::WritesAll(count) => writes_all(end, count),
-        Act::AtOnce(bursts, bytes) => at_once(end, bursts, bytes),
+        Act::Publishes(made, bytes) => publishes(end, made, bytes),
         Act::Reset => {
             end.reset();
             true
@@ -574,39 +563,47 @@ fn one_frame_at_once(rt: HostRuntime) -> Result<(), Fail> {
     Ok(())
 }
 
-/// The bursts of the first frame after its first word, and those of the second frame.
-const FIRST_BURSTS: Bursts = Bursts {
-    frame: Burst {
-        word: 1_473,
-        count: 3,
+/// The writes that publish the first frame after its first word, and the second frame.
+const FIRST: Publication = Publication {
+    bursts: Bursts {
+        frame: Burst {
+            word: 1_473,
+            count: 3,
+        },
+        descriptor: Burst {
+            word: 1_024,
+            count: 4,
+        },
+        entry: Burst {
+            word: 1_281,
+            count: 1,
+        },
     },
-    descriptor: Burst {
-        word: 1_024,
-        count: 4,
-    },
-    entry: Burst {
-        word: 1_281,
-        count: 1,
-    },
+    index: 1_280,
+    accepted: 65_536,
 };
 
-const SECOND_BURSTS: Bursts = Bursts {
-    frame: Burst {
-        word: 1_552,
-        count: 4,
+const SECOND: Publication = Publication {
+    bursts: Bursts {
+        frame: Burst {
+            word: 1_552,
+            count: 4,
+        },
+        descriptor: Burst {
+            word: 1_028,
+            count: 4,
+        },
+        entry: Burst {
+            word: 1_281,
+            count: 1,
+        },
     },
-    descriptor: Burst {
-        word: 1_028,
-        count: 4,
-    },
-    entry: Burst {
-        word: 1_281,
-        count: 1,
-    },
+    index: 1_280,
+    accepted: 131_072,
 };
 
-/// Two frames, with the writes before each index made at once.
-const BEFORE_THE_INDEX: [(usize, Act); 16] = [
+/// Two frames, each published by one call.
+const PUBLISHED: [(usize, Act); 14] = [
     (0, Act::Tick(0, None, 1)),
     (1, Act::Tick(1, None, 1)),
     (0, Act::Tick(1, Some(1_024), 2)),
@@ -614,22 +611,15 @@ const BEFORE_THE_INDEX: [(usize, Act); 16] = [
     (0, Act::Tick(2, None, 3)),
     // The first word of the frame is written by itself.
     (0, Act::Offer(FRAME)),
-    (0, Act::Shows(Sight::NoBursts)),
+    (0, Act::Shows(Sight::NoFrameWord)),
     (0, Act::Takes(Access::Read(5_424), 0, &[Note::Reclaim(0)])),
     (0, Act::Takes(Access::Write(1_472, 4_294_967_295), 0, &[])),
     (
         0,
-        Act::AtOnce(
-            FIRST_BURSTS,
-            &[
-                0xff, 0xff, 0x02, 0, 0, 0, 0, 0x01, 0x08, 0, 0, 0, 0, 7, 0, 0, 0, 0, 0, 0, 14, 0,
-                0, 0, 0, 0, 0, 0, 0, 0, 0, 0,
-            ],
+        Act::Publishes(
+            FIRST,
+            &[0, 7, 0, 0, 0, 0, 0, 0, 14, 0, 0, 0, 0, 0, 0, 0, 0, 0, 0, 0],
         ),
-    ),
-    (
-        0,
-        Act::Takes(Access::Write(1_280, 65_536), 0, &[Note::Accept]),
     ),
     (0, Act::Takes(RING_1, 0, &[Note::Over])),
     // The entry of the second frame is in the same word as that of the first.
@@ -637,25 +627,20 @@ const BEFORE_THE_INDEX: [(usize, Act); 16] = [
     (0, Act::Takes(Access::Read(5_424), 0, &[Note::Reclaim(0)])),
     (
         0,
-        Act::AtOnce(
-            SECOND_BURSTS,
-            &[
-                8, 8, 8, 8, 8, 8, 8, 8, 8, 8, 8, 8, 8, 8, 0, 0, 64, 8, 0, 0, 0, 0, 0, 0, 14, 0, 0,
-                0, 0, 0, 0, 0, 0, 0, 1, 0,
-            ],
+        Act::Publishes(
+            SECOND,
+            &[64, 8, 0, 0, 0, 0, 0, 0, 14, 0, 0, 0, 0, 0, 0, 0, 0, 0, 1, 0],
         ),
-    ),
-    (
-        0,
-        Act::Takes(Access::Write(1_280, 131_072), 0, &[Note::Accept]),
     ),
 ];
 
-// claim tx_engine.Tx.bursts
-// claim link_endpoint.Endpoint.bursts
+// claim tx_engine.Tx.writes_frame
+// claim tx_engine.Tx.publish.steps
+// claim link_endpoint.Endpoint.writes_frame
+// claim link_endpoint.Endpoint.publish.steps
 #[test]
-fn all_before_the_index(rt: HostRuntime) -> Result<(), Fail> {
-    makes_all(&rt, rt.alloc(), 1, &BEFORE_THE_INDEX)
+fn frames_published_at_once(rt: HostRuntime) -> Result<(), Fail> {
+    makes_all(&rt, rt.alloc(), 1, &PUBLISHED)
 }
 
 const REFUSED: Refused = Refused {

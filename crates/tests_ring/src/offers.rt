@@ -187,7 +187,6 @@ const FULL_RING: [Act; 8] = [
 
 // claim tx_engine.Tx.next.access
 // claim tx_engine.Tx.took
-// claim reference_history.is_lawful.lawful
 #[test]
 fn full_ring(rt: HostRuntime) -> Result<(), Fail> {
     let mut tx = example(&rt, rt.alloc())?;
@@ -250,7 +249,7 @@ const HOSTILE_RETURNS: [Act; 12] = [
     Act::Idle,
 ];
 
-// claim reference_history.is_lawful.lawful
+// claim tx_engine.Tx.took
 #[test]
 fn hostile_returns(rt: HostRuntime) -> Result<(), Fail> {
     let mut tx = example(&rt, rt.alloc())?;

@@ -150,7 +150,6 @@ const ONE_FRAME: [Act; 24] = [
 // claim rx_engine.Rx.begin.refines
 // claim rx_engine.Rx.next.access
 // claim rx_engine.Rx.took.steps
-// claim reference_history.is_lawful.lawful
 // claim section_dump.dump.image
 // claim section_dump.dump.listing
 // claim ivshm_cli.ivshm.cause

@@ -214,7 +214,6 @@ fn bounds_of_the_descriptor_checks(rt: HostRuntime) {
 }
 
 // claim split_ring.Queue.check_avail.inside
-// claim reference_history.is_lawful.lawful
 #[test]
 fn longest_frame(rt: HostRuntime) {
     let queue = Queue::of(520_192, 65_535).expect(&rt, "a queue");

@@ -26,9 +26,8 @@ abbrev pub bursts_of : Sender → Option Bursts
 bursts_of tx = bursts_at tx.place tx
 
 -- The number of words in all bursts.
-abbrev pub words_of : Option Bursts → ℕ
-words_of None = 0
-words_of (Some s) = s.frame.count + s.descriptor.count + s.entry.count
+abbrev pub words_of : Bursts → ℕ
+words_of s = s.frame.count + s.descriptor.count + s.entry.count
 
 -- The bursts in order.
 abbrev pub listed : Bursts → List Burst

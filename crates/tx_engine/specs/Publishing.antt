@@ -21,7 +21,7 @@ pub record Publishes (old : Sender) (tail : List ℕ) (made : Publication) (new 
   pub bursts : bursts_of old ≡ Some made.bursts
   pub words : (config : EndConfig) (end : End) (place : laws.Place) → RefinesAt old config end place →
       WritesAll config place (listed made.bursts) (last_words old.frame made.bursts.frame.count ++ tail)
-  pub writes : (values : List ℕ) → length values ≡ words_of (Some made.bursts) → StepsThrough StaysOpen old values [] written
+  pub writes : (values : List ℕ) → length values ≡ words_of made.bursts → StepsThrough StaysOpen old values [] written
   pub index : (config : EndConfig) (end : End) (place : laws.Place) → RefinesAt written config end place →
       (laws.access_at config place ≡ access.Write made.index made.accepted) × (word_kind place ≡ IndexWrite) × (rings place ≡ false)
   pub accepts : (value : ℕ) → StaysOpen written value (note.Accept ∷ []) new

@@ -1,5 +1,5 @@
 //! The sender of an end.
-ghost use Rattle.std.specs.Prelude.{◌≡◌, ℕ, ◌+◌, ◌-◌, ◌*◌, ◌%◌, ◌<◌, ◌≤◌, IfOk, IfSome, None, true, false, List, [], ◌∷◌, ◌++◌, length, take, replicate};
+ghost use Rattle.std.specs.Prelude.{◌≡◌, ℕ, ◌+◌, ◌-◌, ◌*◌, ◌%◌, ◌<◌, ◌≤◌, IfOk, IfSome, Some, None, is_some, true, false, List, [], ◌∷◌, ◌++◌, length, take, replicate};
 ghost use Rattle.section_map.specs.declared.limits.TheConstants.{LARGEST_REGION};
 ghost use Rattle.split_ring.specs.declared.sizes.TheConstants.{FRAME_OVERHEAD, SHORTEST_FRAME};
 ghost use Rattle.split_ring.specs.Layout.{size_of, limit_of, word_offset, AvailIndex};
@@ -344,76 +344,21 @@ impl Tx {
         }
     }
 
-    /// Returns the bursts that are written before the index, in order and without notes. They are
-    /// the words left of the frame, the descriptor and the available entry. Returns `None` if the
-    /// next access isn't the write of a word of the frame.
-    // claim with Tx::burst_words.writes, Tx::burst_words.sized, Tx::took_bursts: The bursts are all
-    //    that an offer writes before its index: the rest of the frame, its descriptor and its
-    //    entry, as the next accesses write them. Completing them equals as many single steps.
-    pub fn bursts(&self) -> Option<Bursts>
-        ensures { result ≡ bursts_of self.now }
+    /// Whether the next access writes a word of the frame.
+    // claim: A word of the frame is next exactly if the offer has bursts to write before its index.
+    pub fn writes_frame(&self) -> bool
+        ensures { result ≡ is_some (bursts_of self.now) }
     {
-        let Place::WritingFrameWord { slot, at, more } = self.place else {
-            return None;
-        };
-        Some(self.bursts_from(slot, at, more))
+        matches!(self.place, Place::WritingFrameWord { .. })
     }
 
-    /// Writes all words of `bursts` into `into`, four bytes each, the lowest byte first.
-    pub fn burst_words(&self, into: &mut [u8])
-        requires sized { length into.old ≡ 4 * words_of (bursts_of self.now) }
-        ensures writes { (config : EndConfig) (end : End) (place : laws.Place) → RefinesAt self.now config end place →
-            IfSome (bursts_of self.now) (λ bursts. WritesAll config place (listed bursts) into.new) }
-        ensures sized { length into.new ≡ length into.old }
-    {
-        let Place::WritingFrameWord { slot, at, .. } = self.place else {
-            return;
-        };
-        put_all(
-            into,
-            &self.buffer[4 * at as usize..self.length as usize],
-            slot.address,
-            self.length,
-            self.entry_word(slot.descriptor),
-        );
-    }
-
-    /// Writes the words of the descriptor and of the available entry of `bursts` into `into`, four
-    /// bytes each, the lowest byte first. Leaves `into` unchanged if `bursts` is `None`.
+    /// Completes the writes of all bursts before the available index and the write of the index,
+    /// which the caller makes now. The bursts are the words left of the frame, the descriptor and
+    /// the available entry. Writes the words after the frame into `tail`, four bytes each, the
+    /// lowest byte first. Equivalent to `took` for each of these steps.
     ///
     /// The words of the frame are the last ones of the offered frame, with 0 after its last byte. A
     /// caller that still holds the frame can write them from its own copy.
-    // claim writes, untouched, sized: The tail is the five words after the frame, if the words left
-    //    of the frame are the last ones of the frame offered.
-    pub fn tail_words(&self, into: &mut [u8])
-        requires sized { length into.old ≡ 20 }
-        ensures writes { (config : EndConfig) (end : End) (place : laws.Place) → RefinesAt self.now config end place →
-            IfSome (bursts_of self.now) (λ bursts. WritesAll config place (listed bursts) (last_words self.now.frame bursts.frame.count ++ into.new)) }
-        ensures untouched { bursts_of self.now ≡ None → into.new ≡ into.old }
-        ensures sized { length into.new ≡ length into.old }
-    {
-        let Place::WritingFrameWord { slot, .. } = self.place else {
-            return;
-        };
-        let entry = self.entry_word(slot.descriptor);
-        put_tail(into, slot.address, self.length, entry);
-    }
-
-    /// Completes all writes of `bursts`. Equivalent to one call of `took` for each of these writes.
-    pub fn took_bursts(&mut self)
-        requires { 0 < words_of (bursts_of self.old) }
-        ensures { (values : List ℕ) → length values ≡ words_of (bursts_of self.old) →
-            StepsThrough StaysOpen self.old values [] self.new }
-    {
-        match self.place {
-            Place::WritingFrameWord { slot, at, more } => self.wrote_before_index(slot, at, more),
-            _ => unreachable!(),
-        }
-    }
-
-    /// Completes all writes of `bursts` and the write of the available index, which the caller
-    /// makes now. Writes the words of the descriptor and of the available entry into `tail`, as
-    /// `tail_words` does. Equivalent to `took` for each of these steps.
     ///
     /// Returns `None` and changes nothing if the next access isn't the write of a word of the
     /// frame.
@@ -431,7 +376,7 @@ impl Tx {
             return None;
         };
         let bursts = self.bursts_from(slot, at, more);
-        self.tail_words(tail);
+        self.tail_words(slot, at, more, tail);
         self.wrote_before_index(slot, at, more);
         let index = self.own + self.queue.avail_word();
         let accepted = self.next_index(index);
@@ -565,7 +510,8 @@ impl Tx {
     /// Returns the bursts before the index, from word `at` of the frame on.
     fn bursts_from(&self, slot: Slot, at: u32, more: u32) -> Bursts
         requires { self.now.place ≡ Place.WritingFrameWord slot at more }
-        ensures { bursts_of self.now ≡ Some result }
+        ensures bursts { bursts_of self.now ≡ Some result }
+        ensures words { words_of result ≡ more + 1 + 4 + 1 }
     {
         let queue = &self.queue;
         Bursts {
@@ -573,6 +519,20 @@ impl Tx {
             descriptor: self.burst(queue.descriptor(slot.descriptor), 4),
             entry: self.burst(queue.entry_word(u32::from(self.accepted)), 1),
         }
+    }
+
+    /// Writes the words after the frame into `into`: those of the descriptor, and then that of the
+    /// available entry.
+    fn tail_words(&self, slot: Slot, at: u32, more: u32, into: &mut [u8])
+        requires place { self.now.place ≡ Place.WritingFrameWord slot at more }
+        requires sized { length into.old ≡ 20 }
+        ensures writes { (config : EndConfig) (end : End) (place : laws.Place) → RefinesAt self.now config end place →
+            IfSome (bursts_of self.now) (λ bursts. WritesAll config place (listed bursts) (last_words self.now.frame bursts.frame.count ++ into.new)) }
+        ensures sized { length into.new ≡ length into.old }
+    {
+        let length = self.length;
+        let entry = self.entry_word(slot.descriptor);
+        put_tail(into, slot.address, length, entry);
     }
 
     /// Completes the writes before the index, from word `at` of the frame on.
@@ -722,19 +682,6 @@ fn put_tail(into: &mut [u8], address: u32, bytes: u32, entry: u32)
     let (descriptor, last) = into.split_at_mut(16);
     put_descriptor(descriptor, address, bytes);
     put_word(last, entry);
-}
-
-/// Writes the words of a frame (with 0 after its last byte), then the words of its descriptor, then
-/// the word of its entry.
-fn put_all(into: &mut [u8], frame: &[u8], address: u32, bytes: u32, entry: u32)
-    requires { 20 ≤ length into.old }
-    ensures { into.new ≡
-        (take (length into.old - 20) frame.now ++ replicate (length into.old - 20 - length frame.now) 0) ++
-        ((word_bytes address ++ (word_bytes 0 ++ (word_bytes bytes ++ word_bytes 0))) ++ word_bytes entry) }
-{
-    let (front, tail) = into.split_at_mut(into.len() - 20);
-    copy_padded(front, frame);
-    put_tail(tail, address, bytes, entry);
 }
 
 /// Law: a sender without an open offer refines the end as long as its session lasts. Ticks, Stops

@@ -1,5 +1,5 @@
-use Rattle.std.proofs.Common.{◌≡◌, ◌≢◌, ◌*◌, ◌%◌, ◌⊎◌, ℕ, Option, Some, None, List, length, refl, ap, sym, ◌∙◌, subst, arith, IfSome}
-use Rattle.call_grammar.specs.Words.{word_bytes, words_for}
+use Rattle.std.proofs.Common.{◌≡◌, ◌≢◌, ◌*◌, ◌⊎◌, Option, Some, None, length, refl, ap, sym, ◌∙◌, subst, arith, IfSome}
+use Rattle.call_grammar.specs.Words.{words_for}
 use Rattle.call_grammar.proofs.WordsOfBytes.{spelled}
 use Rattle.rx_engine.specs.declared.ahead.FrameReturn.{FrameReturn}
 use Rattle.rx_engine.specs.Items as receiver

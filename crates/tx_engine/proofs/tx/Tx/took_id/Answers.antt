@@ -1,4 +1,4 @@
-use Rattle.std.proofs.Common.{◌≡◌, List, [], ◌∷◌, ◌++◌, slice_index, ap, sym, ◌∙◌, subst, arith}
+use Rattle.std.proofs.Common.{◌≡◌, List, ◌++◌, slice_index, ap, sym, ◌∙◌, subst, arith}
 use Rattle.split_ring.specs.declared.steps.Note.{Note}
 use Rattle.frame_slots.specs.Allocator.{with_freed, oldest_of}
 use Rattle.frame_slots.specs.Refinement.{IsOldest}

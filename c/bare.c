@@ -126,7 +126,7 @@ static int check_handles(void) {
     ivshm_access access;
     ivshm_notes notes;
     ivshm_view view;
-    ivshm_burst bursts[3] = {{7, 7}};
+    ivshm_burst next = {7, 7};
     ivshm_frame_return made;
     ivshm_publication published;
     ivshm_counts counts = {.down = 7};
@@ -137,60 +137,37 @@ static int check_handles(void) {
     WANT(ivshm_end_offer_again(&none) == IVSHM_NO_END);
     WANT(ivshm_end_next(&none, &access) == IVSHM_NO_END && ivshm_end_took(&none, 0, &notes) == IVSHM_NO_END);
     WANT(ivshm_end_took_reads(&none, frame, 4, &notes) == IVSHM_NO_END && ivshm_end_words(&none, frame, 4) == IVSHM_NO_END);
-    WANT(ivshm_end_took_writes(&none, 1) == IVSHM_NO_END && ivshm_end_took_bursts(&none) == IVSHM_NO_END);
-    WANT(ivshm_end_took_field(&none, 0, bursts) == IVSHM_NO_END && ivshm_end_took_frame(&none, frame, 12, &made, &access) == IVSHM_NO_END);
+    WANT(ivshm_end_took_writes(&none, 1) == IVSHM_NO_END && ivshm_end_took_field(&none, 0, &next) == IVSHM_NO_END);
+    WANT(next.word == 7 && ivshm_end_took_frame(&none, frame, 12, &made, &access) == IVSHM_NO_END);
     WANT(ivshm_end_publish(&none, &published, frame, 14, &access) == IVSHM_NO_END && ivshm_end_step(&none, 0, &notes, &access) == IVSHM_NO_END);
-    WANT(ivshm_end_bursts(&none, bursts, frame, 14) == IVSHM_NO_END && bursts[0].word == 7);
-    WANT(ivshm_end_tail(&none, bursts, frame, 14) == IVSHM_NO_END && bursts[0].word == 7);
     WANT(ivshm_end_view(&none, &view) == IVSHM_NO_END && ivshm_end_frame(&none, frame, 14, &length) == IVSHM_NO_END);
     WANT(ivshm_end_reset(&none) == IVSHM_NO_END && ivshm_end_free(&none) == IVSHM_NO_END && none.at == NULL);
     return 0;
 }
 
-/* Offers the last frame of 38 bytes again, with all writes before its index at once. */
-static int check_before_index(ivshm_end *a, ivshm_end *b, const uint8_t *frame) {
+/* Offers the last frame of 38 bytes again, and publishes it after its first word is written by
+ * itself. The words that are left are written from this copy of the frame. The frame is delivered
+ * from the words that the other read at once. */
+static int check_after_a_word(ivshm_end *a, ivshm_end *b, const uint8_t *frame) {
     static uint8_t room[64];
-    ivshm_burst bursts[3];
-    ivshm_access access;
-    ivshm_notes notes;
-    size_t length;
-    WANT(ivshm_end_offer_again(a) == IVSHM_DONE);
-    while (ivshm_end_bursts(a, bursts, room, 64) == IVSHM_OTHER_ACCESS)
-        WANT(ivshm_end_next(a, &access) == IVSHM_DONE && ivshm_end_took(a, words[access.word], &notes) == IVSHM_DONE);
-    WANT(ivshm_end_bursts(a, bursts, room, 60) == IVSHM_DONE && bursts[0].count == 10);
-    WANT(bursts[1].word == 1028 && bursts[1].count == 4 && bursts[2].word == 1281 && bursts[2].count == 1);
-    memcpy(words + bursts[0].word, room, 40);
-    memcpy(words + bursts[1].word, room + 40, 16);
-    memcpy(words + bursts[2].word, room + 56, 4);
-    memset(room, 0, sizeof room);
-    WANT(ivshm_end_took_bursts(a) == IVSHM_DONE && run(a, 0) == 0 && ivshm_end_begin(b, IVSHM_POLL) == IVSHM_DONE && run(b, 1) == 1);
-    WANT(ivshm_end_frame(b, room, 64, &length) == IVSHM_DONE && length == 38);
-    for (int i = 0; i < 38; i++) WANT(frame[i] == room[i]);
-    return 0;
-}
-
-/* Once more: the words of the frame, except the first, are written from this copy of it. The frame
- * is delivered from the words that the other read at once. */
-static int check_tail(ivshm_end *a, ivshm_end *b, const uint8_t *frame) {
-    static uint8_t room[64];
-    ivshm_burst bursts[3] = {{7, 7}};
-    ivshm_access access;
+    ivshm_publication made = {.index = 7};
+    ivshm_access access, next;
     ivshm_notes notes;
     ivshm_view view;
-    WANT(ivshm_end_tail(a, bursts, room, 64) == IVSHM_NO_CALL && ivshm_end_offer_again(a) == IVSHM_DONE);
-    while (ivshm_end_tail(a, bursts, room, 64) == IVSHM_OTHER_ACCESS)
-        WANT(bursts[0].word == 7 && room[0] == 0 && ivshm_end_next(a, &access) == IVSHM_DONE && ivshm_end_took(a, words[access.word], &notes) == IVSHM_DONE);
-    WANT(bursts[0].count == 10 && ivshm_end_next(a, &access) == IVSHM_DONE && access.word == bursts[0].word);
+    WANT(ivshm_end_publish(a, &made, room, 64, &next) == IVSHM_NO_CALL && ivshm_end_offer_again(a) == IVSHM_DONE);
+    while (ivshm_end_publish(a, &made, room, 19, &next) == IVSHM_OTHER_ACCESS)
+        WANT(ivshm_end_next(a, &access) == IVSHM_DONE && ivshm_end_took(a, words[access.word], &notes) == IVSHM_DONE);
+    WANT(ivshm_end_next(a, &access) == IVSHM_DONE && access.kind == IVSHM_WRITE && access.count == 10);
     words[access.word] = access.value;
-    memset(room, 0, sizeof room);
-    WANT(ivshm_end_took(a, 0, &notes) == IVSHM_DONE && ivshm_end_tail(a, bursts, room, 19) == IVSHM_SHORT_ROOM && bursts[0].count == 10 && room[8] == 0);
-    WANT(ivshm_end_tail(a, bursts, room, 20) == IVSHM_DONE && bursts[0].count == 9 && room[8] == 38 && room[20] == 0);
-    WANT(bursts[1].count == 4 && bursts[2].word == 1282 && bursts[2].count == 1);
-    words[bursts[0].word + 8] = 0;
-    memcpy(words + bursts[0].word, frame + 4, 34);
-    memcpy(words + bursts[1].word, room, 16);
-    memcpy(words + bursts[2].word, room + 16, 4);
-    WANT(ivshm_end_took_bursts(a) == IVSHM_DONE && ivshm_end_tail(a, bursts, room, 64) == IVSHM_OTHER_ACCESS && run(a, 0) == 0);
+    WANT(ivshm_end_took(a, 0, &notes) == IVSHM_DONE && ivshm_end_publish(a, &made, room, 19, &next) == IVSHM_SHORT_ROOM);
+    WANT(made.index == 7 && room[8] == 0 && ivshm_end_publish(a, &made, room, 20, &next) == IVSHM_DONE && next.kind == IVSHM_RING);
+    WANT(made.bursts[0].word == access.word + 1 && made.bursts[0].count == 9 && room[8] == 38 && room[20] == 0);
+    WANT(made.bursts[1].word == 1028 && made.bursts[1].count == 4 && made.bursts[2].word == 1281 && made.bursts[2].count == 1);
+    words[made.bursts[0].word + 8] = 0;
+    memcpy(words + made.bursts[0].word, frame + 4, 34);
+    memcpy(words + made.bursts[1].word, room, 16);
+    memcpy(words + made.bursts[2].word, room + 16, 4);
+    words[made.index] = made.accepted;
     WANT(ivshm_end_begin(b, IVSHM_POLL) == IVSHM_DONE);
     do WANT(ivshm_end_next(b, &access) == IVSHM_DONE && (access.count || ivshm_end_took(b, words[access.word], &notes) == IVSHM_DONE));
     while (access.count == 0);
@@ -202,7 +179,7 @@ static int check_tail(ivshm_end *a, ivshm_end *b, const uint8_t *frame) {
     return 0;
 }
 
-/* And once more: the frame is published at once, with the doorbell. The other takes the item by its
+/* Once more: the frame is published at once, with the doorbell. The other takes the item by its
  * fields and its words, returns it and rings. */
 static int check_item(ivshm_end *a, ivshm_end *b, const uint8_t *frame) {
     static uint8_t room[20];
@@ -246,14 +223,13 @@ static int check_bursts(void) {
     static uint8_t frame[40] = {255, 255, 255, 255, 255, 255, 2}, room[64];
     ivshm_found found = {.table = 4096, .out = 16384};
     ivshm_access access;
-    ivshm_burst bursts[3] = {{7, 7}};
+    ivshm_publication published;
     ivshm_notes notes = {.count = 7};
     size_t length;
     WANT(ivshm_end_new(&a, &found, 2, 0, 256, 1) == IVSHM_DONE && ivshm_end_new(&b, &found, 2, 1, 256, 1) == IVSHM_DONE);
     WANT(ivshm_end_next(&a, &access) == IVSHM_DONE && access.order == IVSHM_RELEASE && access.fence_before == 0 && access.fence_after == 1);
     WANT(ivshm_end_took_reads(&a, room, 4, &notes) == IVSHM_OTHER_ACCESS && notes.count == 7);
     WANT(run(&a, 0) == 0 && run(&b, 1) == 0 && ivshm_end_took_writes(&a, 1) == IVSHM_NO_CALL);
-    WANT(ivshm_end_bursts(&a, bursts, room, 64) == IVSHM_NO_CALL && ivshm_end_took_bursts(&a) == IVSHM_NO_CALL);
     WANT(ivshm_end_took_reads(&a, room, 4, &notes) == IVSHM_NO_CALL && ivshm_end_words(&a, room, 4) == IVSHM_NO_CALL);
     tick(&a, 0);
     tick(&b, 1);
@@ -275,9 +251,8 @@ static int check_bursts(void) {
     WANT(room[37] == 37 && room[38] == 0 && room[39] == 0 && ivshm_end_words(&a, room, 44) == IVSHM_BAD_COUNT);
     WANT(ivshm_end_words(&a, room, 6) == IVSHM_BAD_COUNT);
     memcpy(words + access.word, room, 40);
-    WANT(ivshm_end_bursts(&a, bursts, room, 59) == IVSHM_SHORT_ROOM && bursts[0].word == 7 && room[40] == 0);
     WANT(ivshm_end_took_writes(&a, 10) == IVSHM_DONE && ivshm_end_next(&a, &access) == IVSHM_DONE && access.word == 1024 && access.count == 4);
-    WANT(ivshm_end_bursts(&a, bursts, room, 64) == IVSHM_OTHER_ACCESS && ivshm_end_took_bursts(&a) == IVSHM_OTHER_ACCESS);
+    WANT(ivshm_end_publish(&a, &published, room, 64, &access) == IVSHM_OTHER_ACCESS);
     WANT(run(&a, 0) == 0 && ivshm_end_begin(&b, IVSHM_POLL) == IVSHM_DONE);
     for (int i = 0; i < 6; i++) WANT(ivshm_end_next(&b, &access) == IVSHM_DONE && ivshm_end_took(&b, words[access.word], &notes) == IVSHM_DONE);
     WANT(ivshm_end_next(&b, &access) == IVSHM_DONE && access.kind == IVSHM_READ && access.count == 10 && access.word == 1024 + 448);
@@ -286,8 +261,7 @@ static int check_bursts(void) {
     WANT(ivshm_end_frame(&b, room, 64, &length) == IVSHM_DONE && length == 38);
     for (int i = 0; i < 38; i++) WANT(frame[i] == room[i]);
     WANT(run(&b, 1) == 0);
-    int line = check_before_index(&a, &b, frame);
-    if (!line) line = check_tail(&a, &b, frame);
+    int line = check_after_a_word(&a, &b, frame);
     if (!line) line = check_item(&a, &b, frame);
     if (line) return line;
     WANT(ivshm_end_free(&a) == IVSHM_DONE && ivshm_end_free(&b) == IVSHM_DONE);

@@ -101,7 +101,7 @@ static uint32_t write_directly(ivshm_device *device, uint32_t peer, const ivshm_
     uint32_t value = (uint32_t)access->value;
     switch (access->window) {
     case IVSHM_WINDOW_CONFIG:
-        return ivshm_device_config_write(device, peer, (uint16_t)access->offset, (uint16_t)access->width, value);
+        return ivshm_device_config_write(device, peer, access->offset, access->width, value);
     case IVSHM_WINDOW_REGISTERS: return ivshm_device_register_write(device, peer, access->offset, value, effect);
     default: return ivshm_device_msix_write(device, peer, access->offset, value);
     }

@@ -54,7 +54,7 @@ static void look(ivshm_device *device, uint32_t peers, struct sight *sights) {
     ivshm_route route;
     memset(sights, 0, peers * sizeof *sights);
     for (p = 0; p < peers; p++) {
-        for (i = 0; i < 256; i++) ivshm_device_config_read(device, p, (uint16_t)i, 1, &sights[p].config[i]);
+        for (i = 0; i < 256; i++) ivshm_device_config_read(device, p, i, 1, &sights[p].config[i]);
         for (i = 0; i < 8; i++) ivshm_device_register_read(device, p, 4 * i, &sights[p].page[i]);
         for (i = 0; i < 256; i++) ivshm_device_msix_read(device, p, 4 * i, &sights[p].msix[i]);
         if (ivshm_device_route(device, p, &route) != IVSHM_DEVICE_DONE) continue;
@@ -224,7 +224,7 @@ static void refusals(void) {
     ivshm_window_access access = {.width = 4};
     static struct sight before[3], after[3];
     uint32_t value = 77, peer;
-    uint16_t offset, width;
+    uint32_t offset, width;
     static const uint32_t strangers[] = {3, 8, 65536, 0xFFFFFFFF};
     size_t i;
     memset(&effect, 0x5A, sizeof effect);
@@ -254,6 +254,11 @@ static void refusals(void) {
                 EXPECT(ivshm_device_config_write(&device, 0, offset, width, 0xFFFFFFFF) == IVSHM_DEVICE_BAD_ACCESS);
             }
     REFUSED(IVSHM_DEVICE_BAD_ACCESS, ivshm_device_config_write(&device, 1, 0xFFFF, 1, 0));
+    REFUSED(IVSHM_DEVICE_BAD_ACCESS, ivshm_device_config_read(&device, 1, 0x10010, 4, &value));
+    REFUSED(IVSHM_DEVICE_BAD_ACCESS, ivshm_device_config_read(&device, 1, 0x10, 0x10004, &value));
+    REFUSED(IVSHM_DEVICE_BAD_ACCESS, ivshm_device_config_write(&device, 1, 0x10004, 2, 0));
+    REFUSED(IVSHM_DEVICE_BAD_ACCESS, ivshm_device_config_write(&device, 1, 0x04, 0x10002, 0));
+    REFUSED(IVSHM_DEVICE_BAD_ACCESS, ivshm_device_config_write(&device, 1, 0xFFFFFFFF, 4, 0));
     REFUSED(IVSHM_DEVICE_BAD_VECTOR, ivshm_device_message(&device, 0, 2, &message));
     REFUSED(IVSHM_DEVICE_BAD_VECTOR, ivshm_device_message(&device, 0, 0xFFFFFFFF, &message));
     access.window = 3;
@@ -349,7 +354,7 @@ static void windows(void) {
                 memset(&due, 0, sizeof due);
                 EXPECT(ivshm_device_mmio_write(&device, 1, &access, &effect) == IVSHM_DEVICE_DONE);
                 if (window == IVSHM_WINDOW_CONFIG && aligned && width <= 4 && offset < 256)
-                    ivshm_device_config_write(&twin, 1, (uint16_t)offset, (uint16_t)width, (uint32_t)access.value);
+                    ivshm_device_config_write(&twin, 1, offset, width, (uint32_t)access.value);
                 if (window == IVSHM_WINDOW_REGISTERS && width == 4)
                     ivshm_device_register_write(&twin, 1, offset, (uint32_t)access.value, &due);
                 if (window == IVSHM_WINDOW_MSIX && width >= 4 && aligned)
@@ -362,7 +367,7 @@ static void windows(void) {
                 EXPECT(ivshm_device_mmio_read(&device, 1, &read) == IVSHM_DEVICE_DONE);
                 low = high = 0;
                 if (window == IVSHM_WINDOW_CONFIG && aligned && width <= 4 && offset < 256)
-                    ivshm_device_config_read(&twin, 1, (uint16_t)offset, (uint16_t)width, &low);
+                    ivshm_device_config_read(&twin, 1, offset, width, &low);
                 if (window == IVSHM_WINDOW_REGISTERS && width == 4) ivshm_device_register_read(&twin, 1, offset, &low);
                 if (window == IVSHM_WINDOW_MSIX && width >= 4 && aligned) ivshm_device_msix_read(&twin, 1, offset, &low);
                 if (window == IVSHM_WINDOW_MSIX && width == 8 && aligned) ivshm_device_msix_read(&twin, 1, offset + 4, &high);

@@ -56,7 +56,7 @@ static void hostile_call(ivshm_device *device, uint32_t peer) {
     ivshm_effect effect = {.count = 99};
     ivshm_window_access access = {0, 3 + drawn(), drawn(), 4};
     uint32_t value = 99, stranger = 8 + (drawn() >> 1), status = 0;
-    uint16_t offset = (uint16_t)drawn(), width = (uint16_t)(drawn() % 2 ? drawn() : 3);
+    uint32_t offset = drawn(), width = drawn() % 2 ? drawn() : 3;
     hostile_calls++;
     switch (drawn() % 9) {
     case 0: status = ivshm_device_config_read(device, peer, offset | 256, width, &value); break;
@@ -110,14 +110,14 @@ static void copy(const ivshm_effect *from, struct device_effect *to) {
 static uint32_t config_read(void *device, uint32_t peer, uint32_t offset, uint32_t width) {
     uint32_t value = 0;
     hostile(device, peer);
-    ivshm_device_config_read(device, peer, (uint16_t)offset, (uint16_t)width, &value);
+    ivshm_device_config_read(device, peer, offset, width, &value);
     return value;
 }
 
 static void config_write(void *device, uint32_t peer, uint32_t offset, uint32_t width, uint32_t value) {
     hostile(device, peer);
     if (WRONG == 4 && offset == 0x43) return;                   /* one-shot mode can't be set */
-    ivshm_device_config_write(device, peer, (uint16_t)offset, (uint16_t)width, value);
+    ivshm_device_config_write(device, peer, offset, width, value);
 }
 
 static uint32_t register_read(void *device, uint32_t peer, uint32_t offset) {

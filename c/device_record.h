@@ -1,6 +1,6 @@
 /* A record of the accesses of guests to the devices of one world, for a hypervisor in C. `ivshm
  * replay` reads it and answers `same` exactly if each answer and each interrupt is that of the
- * device's rules (docs/DEVICE.md, docs/FORMATS.md, docs/REPLAY.md).
+ * device's rules (docs/DEVICE.md, docs/FORMATS.md).
  *
  *     struct device_record record;
  *     device_record_begin(&record)

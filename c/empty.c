@@ -185,35 +185,19 @@ uint32_t ivshm_end_took_frame(ivshm_end *end, const uint8_t *words, size_t size,
 }
 
 /* An offer reads two words first. */
-uint32_t ivshm_end_bursts(ivshm_end *end, ivshm_burst bursts[3], uint8_t *room, size_t size) {
+uint32_t ivshm_end_publish(ivshm_end *end, ivshm_publication *made, uint8_t *room, size_t size, ivshm_access *next) {
     struct empty *e = end->at;
     (void)room, (void)size;
     if (!e) return IVSHM_NO_END;
     if (e->now != &e->offer || e->at != 2) return IVSHM_OTHER_ACCESS;
     const ivshm_access *frame = &e->offer.access[2], *descriptor = frame + frame->count;
-    bursts[0] = (ivshm_burst){frame->word, frame->count};
-    bursts[1] = (ivshm_burst){descriptor->word, 4};
-    bursts[2] = (ivshm_burst){descriptor[4].word, 1};
-    return IVSHM_DONE;
-}
-
-uint32_t ivshm_end_tail(ivshm_end *end, ivshm_burst bursts[3], uint8_t *room, size_t size) { return ivshm_end_bursts(end, bursts, room, size); }
-
-uint32_t ivshm_end_publish(ivshm_end *end, ivshm_publication *made, uint8_t *room, size_t size, ivshm_access *next) {
-    struct empty *e = end->at;
-    uint32_t answer = ivshm_end_tail(end, made->bursts, room, size);
-    if (answer != IVSHM_DONE) return answer;
-    e->at += made->bursts[0].count + 6;
-    made->index = e->now->access[e->at - 1].word;
+    made->bursts[0] = (ivshm_burst){frame->word, frame->count};
+    made->bursts[1] = (ivshm_burst){descriptor->word, 4};
+    made->bursts[2] = (ivshm_burst){descriptor[4].word, 1};
+    made->index = descriptor[5].word;
     made->accepted = 0;
+    e->at += frame->count + 6;
     *next = after_frame(e);
-    return IVSHM_DONE;
-}
-
-uint32_t ivshm_end_took_bursts(ivshm_end *end) {
-    struct empty *e = end->at;
-    if (!e) return IVSHM_NO_END;
-    e->at += e->offer.access[2].count + 5;
     return IVSHM_DONE;
 }
 

@@ -2,7 +2,7 @@
  *
  * A region of shared memory has a State Table, a common section and an output section for each
  * peer. Peers 0 and 1 exchange Ethernet frames over it. Each writes its own output section and its
- * own State alone, and reads those of the other peer, which it needn't trust. docs/LAYOUT.md of the
+ * own State alone, and reads those of the other peer, which it needn't trust. docs/LINK.md of the
  * repository has the layout, docs/DEVICE.md the device.
  *
  * The library performs no access to the region. It returns the next access; the caller performs it
@@ -44,8 +44,10 @@
  *  4. Every other pointer is valid and aligned, and to memory that nothing else accesses during the
  *     call. A pointer that comes with a length isn't null, even at length 0. Frames are in memory
  *     of your own, never in the region: the library reads them more than once.
- *  5. Your State in the State Table is the value of the last IVSHM_STATE access. If something else
- *     changed the register or the word, for example a device reset, call ivshm_end_reset.
+ *  5. Your State in the State Table is the value of the last IVSHM_STATE access, before you perform
+ *     the next access. The write of the register may be posted, so read the register back: that is
+ *     answered once the device has stored State (docs/ORDERS.md). If something else changed the
+ *     register or the word, for example a device reset, call ivshm_end_reset.
  *  6. A refusal is final. An end that read a value out of range writes State 0 and stays in RESET
  *     until ivshm_end_reset. You decide when to call that: at once, to give the other peer another
  *     chance; after its State was 0 for a while; or never.
@@ -273,7 +275,8 @@ struct rattle_block {
  * each descriptor. One has four bytes for each frame that may be in flight, and one some hundred
  * bytes. rattle_alloc returns a new block of `size` bytes, at least 1, at a multiple of `align`: 1,
  * 2, 4, 8 or 16. The library calls rattle_dealloc once for each block: in ivshm_end_free, and in
- * ivshm_end_new and ivshm_end_new_version if a later block is missing. */
+ * ivshm_end_new and ivshm_end_new_version if a later block is missing. That each block is freed is
+ * tested by c/sizes.c, not proved. */
 struct rattle_block rattle_alloc(size_t size, size_t align);
 void rattle_dealloc(void *at);
 #endif
@@ -454,9 +457,9 @@ uint32_t ivshm_end_words(ivshm_end *end, uint8_t *into, size_t size);
  * change: IVSHM_NO_END, IVSHM_NO_CALL, IVSHM_OTHER_ACCESS, IVSHM_BAD_COUNT. */
 uint32_t ivshm_end_took_writes(ivshm_end *end, uint32_t count);
 
-/* ALL BEFORE THE INDEX. The writes of an offer before its index have no notes. They are the
+/* PUBLICATION OF A FRAME. The writes of an offer before its index have no notes. They are the
  * words of the frame, the four of its descriptor and the one with its available entry. They may
- * be made at once, in any order: all are relaxed, and the index, the next access, releases them. */
+ * be made at once, in any order: all are relaxed, and the index releases them. */
 
 /* Consecutive words: the number of the first, and their count. */
 typedef struct ivshm_burst {
@@ -464,43 +467,22 @@ typedef struct ivshm_burst {
     uint32_t count;
 } ivshm_burst;
 
-/* Returns the words that the open offer writes before its index, if a word of its frame is next.
- * bursts[0] is the rest of the frame, bursts[1] its descriptor and bursts[2] its entry. `room`
- * begins with their values in this order, as four bytes each, the lowest first. For a frame these
- * are 4 * (count + 5) bytes, with the count of the access. Write them to the region, and then call
- * ivshm_end_took_bursts.
- *
- * Returns IVSHM_DONE. Otherwise the bursts and the room don't change: IVSHM_NO_END, IVSHM_NO_CALL,
- * IVSHM_OTHER_ACCESS (no word of a frame is next), IVSHM_SHORT_ROOM. */
-uint32_t ivshm_end_bursts(ivshm_end *end, ivshm_burst bursts[3], uint8_t *room, size_t size);
-
-/* Returns the same bursts, and writes only the words of the descriptor and of the entry to the
- * first 20 bytes of `room`. The frame's words are the last bursts[0].count ones of the frame that
- * ivshm_end_offer got last. Each has four bytes, with 0 after the frame's last byte. Write them
- * from your own copy, if you still have it: then the library's copy isn't read again. Then call
- * ivshm_end_took_bursts.
- *
- * Returns IVSHM_DONE. Otherwise the bursts and the room don't change: IVSHM_NO_END, IVSHM_NO_CALL,
- * IVSHM_OTHER_ACCESS (no word of a frame is next), IVSHM_SHORT_ROOM (size < 20). */
-uint32_t ivshm_end_tail(ivshm_end *end, ivshm_burst bursts[3], uint8_t *room, size_t size);
-
-/* Completes all these writes, which have no notes, after ivshm_end_bursts or ivshm_end_tail.
- * Returns IVSHM_DONE. Otherwise the end doesn't change: IVSHM_NO_END, IVSHM_NO_CALL,
- * IVSHM_OTHER_ACCESS. */
-uint32_t ivshm_end_took_bursts(ivshm_end *end);
-
 /* A publication: the writes of an offer up to its index, from a word of its frame on. */
 typedef struct ivshm_publication {
-    ivshm_burst bursts[3]; /* as of ivshm_end_tail, all relaxed */
+    ivshm_burst bursts[3]; /* the rest of the frame, its descriptor and its entry, all relaxed */
     uint32_t index;        /* the available index: this word .. */
     uint32_t accepted;     /* .. is `accepted`, released */
 } ivshm_publication;
 
-/* Completes the writes of an offer before its index, and that of its index. `bursts` and `room` are
- * those of ivshm_end_tail. Make these writes now, the index last. The note, which isn't reported,
- * is IVSHM_ACCEPT. *next is the access after these writes. If it is IVSHM_RING it is completed too:
- * ring now, and the call is over. Its note, which isn't reported, is IVSHM_OVER. Otherwise the call
- * is open still, and *next is to be made and completed.
+/* Completes the writes of an offer before its index, and that of its index. Make these writes now,
+ * the index last. The first 20 bytes of `room` are the words of the descriptor and of the entry.
+ * The frame's words are the last bursts[0].count ones of the frame that ivshm_end_offer got last:
+ * write them from your own copy. Each word has four bytes, the lowest first, with 0 after the
+ * frame's last byte. The note, which isn't reported, is IVSHM_ACCEPT.
+ *
+ * *next is the access after these writes. If it is IVSHM_RING it is completed too: ring now, and
+ * the call is over. Its note, which isn't reported, is IVSHM_OVER. Otherwise the call is open
+ * still, and *next is to be made and completed.
  *
  * Returns IVSHM_DONE. Otherwise the end, *made, *next and the room don't change: IVSHM_NO_END,
  * IVSHM_NO_CALL, IVSHM_OTHER_ACCESS (no word of a frame is next), IVSHM_SHORT_ROOM (size < 20). */
@@ -531,7 +513,8 @@ typedef struct ivshm_frame_return {
 } ivshm_frame_return;
 
 /* Completes the reads of all words of a frame, passed as to ivshm_end_took_reads, and the three
- * writes that return the frame. Make these writes now, in this order. The notes, which aren't
+ * writes that return the frame. Make these writes now, in this order, before any other call of the
+ * library. The notes, which aren't
  * reported, are IVSHM_DELIVER after the reads and IVSHM_RETURN after the used index. The frame is
  * the first made->length bytes of `words`. *next is the access after these writes. If it is
  * IVSHM_RING it is completed too: ring now, and the call is over. Its note, which isn't reported,

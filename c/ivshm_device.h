@@ -38,8 +38,11 @@
  *     ivshm_device_new_at that it is at another address, or at the start of the window of Base
  *     Address Register 2, wherever the guest puts that. The library never touches the region.
  *  4. Only the hypervisor writes the State Table. After a call with `writes_state` 1 it stores
- *     `state` to the word of the calling peer, before it injects the deliveries of this call, and
- *     before it makes another call. At the start all words are 0.
+ *     `state` to the word of the calling peer, before the write of the guest completes. A write
+ *     that the hypervisor posts completes before the guest's next read of the register is
+ *     answered. The store comes before the hypervisor injects the deliveries of this call, and
+ *     before it makes another call. If it is late, honest ends may refuse each other, and deliver
+ *     frames that were never offered. At the start all words are 0.
  *  5. The hypervisor injects the deliveries of a call in any order, each once, before it makes the
  *     next call on the handle or at any later time. A delivery is a pulse. With MSI-X it is the
  *     message that ivshm_device_message returns right after the call; with INTx it is the line of
@@ -209,12 +212,12 @@ typedef struct ivshm_effect {
 /* Reads `width` bytes of a peer's configuration space, lowest byte first. IVSHM_DEVICE_DONE,
  * _EMPTY, _BAD_PEER, _BAD_ACCESS: the width isn't 1, 2 or 4, the offset is no multiple, or the
  * access ends after byte 256. */
-uint32_t ivshm_device_config_read(ivshm_device *device, uint32_t peer, uint16_t offset, uint16_t width,
+uint32_t ivshm_device_config_read(ivshm_device *device, uint32_t peer, uint32_t offset, uint32_t width,
                                   uint32_t *value);
 
 /* Writes `width` bytes of a peer's configuration space. Read-only bits keep their values.
  * The statuses of ivshm_device_config_read. */
-uint32_t ivshm_device_config_write(ivshm_device *device, uint32_t peer, uint16_t offset, uint16_t width,
+uint32_t ivshm_device_config_write(ivshm_device *device, uint32_t peer, uint32_t offset, uint32_t width,
                                    uint32_t value);
 
 /* Reads an aligned word of a peer's register page. Every other offset reads 0.

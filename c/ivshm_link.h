@@ -12,6 +12,13 @@
  *
  * One call at a time uses a link. None of them waits.
  *
+ * A SEND FROM `deliver`. A poll returns a frame to the other peer, and rings if that was its last
+ * one, before it passes the frame to `deliver`. So `deliver` may answer by ivshm_link_send, with
+ * the frame itself too. After a poll's last frame the answer is offered. Before, the poll is open,
+ * and the send returns IVSHM_CALL_OPEN: queue the answer. Every other call of the link returns
+ * IVSHM_CALL_OPEN in `deliver`, or no frame, and changes nothing. The other functions of the setup
+ * call nothing of the link.
+ *
  * A BUDGET FOR POLLS. The other peer decides how many frames a poll finds: up to queue_size of
  * them, each up to the length of its section. So ivshm_link_poll stops after `budget` frames. The
  * poll is open then, and the next ivshm_link_poll continues it. Until the poll is over a tick and a
@@ -35,6 +42,8 @@
 #include "ivshm_c.h"
 
 #ifdef __KERNEL__
+#include <asm/barrier.h>
+#include <linux/compiler.h>
 #include <linux/string.h>
 #else
 #include <string.h>
@@ -62,11 +71,12 @@ typedef struct ivshm_link_setup {
     size_t room_size;
 
     void *context; /* the first argument of each function */
-    /* writes the State register */
+    /* writes the State register, and reads it back: the write may be posted, and the read is
+     * answered once the State Table has the value (docs/ORDERS.md) */
     void (*write_state)(void *context, uint32_t state);
     /* writes the Doorbell register: peer << 16 | vector */
     void (*ring)(void *context, uint32_t peer, uint32_t vector);
-    /* takes a delivered frame, whose bytes are valid during the call only */
+    /* takes a delivered frame, whose bytes are valid during the call only. It may send */
     void (*deliver)(void *context, const uint8_t *frame, size_t length);
     /* for records: after each step, and for each note of it, with the frame if the note is
      * IVSHM_ACCEPT or IVSHM_DELIVER */
@@ -115,12 +125,30 @@ typedef struct ivshm_link {
     uint32_t polling;         /* 1: a poll is open that stopped at its budget */
     uint32_t left;            /* words of a frame that aren't read yet */
     uint32_t whole;           /* 1: the room has the whole frame that was read last */
+    uint32_t delivering;      /* 1: `deliver` is called */
+    size_t due;               /* bytes of the frame in the room that `deliver` gets next; 0: none */
     const uint8_t *frame;     /* the frame of the open offer */
     size_t length;
     ivshm_access first;       /* the first access of each offer in RUN, once it is known */
 } ivshm_link;
 
-static inline void ivshm_link_fence(void) { __atomic_thread_fence(__ATOMIC_SEQ_CST); }
+/* Accesses of a word, and the full fence. The other end runs on another processor, also if this
+ * kernel was built for one alone. There smp_mb() is no fence, and virt_mb() is one. */
+#ifdef __KERNEL__
+#define IVSHM_LINK_LOAD(word) READ_ONCE(*(word))
+#define IVSHM_LINK_STORE(word, value) WRITE_ONCE(*(word), value)
+#define IVSHM_LINK_LOAD_ACQUIRE(word) virt_load_acquire(word)
+#define IVSHM_LINK_STORE_RELEASE(word, value) virt_store_release(word, value)
+#define IVSHM_LINK_FENCE() virt_mb()
+#else
+#define IVSHM_LINK_LOAD(word) __atomic_load_n(word, __ATOMIC_RELAXED)
+#define IVSHM_LINK_STORE(word, value) __atomic_store_n(word, value, __ATOMIC_RELAXED)
+#define IVSHM_LINK_LOAD_ACQUIRE(word) __atomic_load_n(word, __ATOMIC_ACQUIRE)
+#define IVSHM_LINK_STORE_RELEASE(word, value) __atomic_store_n(word, value, __ATOMIC_RELEASE)
+#define IVSHM_LINK_FENCE() __atomic_thread_fence(__ATOMIC_SEQ_CST)
+#endif
+
+static inline void ivshm_link_fence(void) { IVSHM_LINK_FENCE(); }
 
 /* On x86 each load is an acquire and each store a release, so the order needs no test. */
 #if defined __x86_64__ || defined __i386__
@@ -135,7 +163,8 @@ static inline uint32_t ivshm_link_load_in(const uint32_t *word, uint32_t order) 
     (void)order;
     return __atomic_load_n(word, __ATOMIC_SEQ_CST);
 #else
-    return IVSHM_LINK_TSO || order == IVSHM_ACQUIRE ? __atomic_load_n(word, __ATOMIC_ACQUIRE) : __atomic_load_n(word, __ATOMIC_RELAXED);
+    if (IVSHM_LINK_TSO || order == IVSHM_ACQUIRE) return IVSHM_LINK_LOAD_ACQUIRE(word);
+    return IVSHM_LINK_LOAD(word);
 #endif
 }
 
@@ -144,8 +173,8 @@ static inline void ivshm_link_store_in(uint32_t *word, uint32_t value, uint32_t 
     (void)order;
     __atomic_store_n(word, value, __ATOMIC_SEQ_CST);
 #else
-    if (IVSHM_LINK_TSO || order == IVSHM_RELEASE) __atomic_store_n(word, value, __ATOMIC_RELEASE);
-    else __atomic_store_n(word, value, __ATOMIC_RELAXED);
+    if (IVSHM_LINK_TSO || order == IVSHM_RELEASE) IVSHM_LINK_STORE_RELEASE(word, value);
+    else IVSHM_LINK_STORE(word, value);
 #endif
 }
 
@@ -188,13 +217,13 @@ static inline void ivshm_link_copy_out(uint32_t *to, const uint32_t *from, uint3
 #else
     uint32_t i = 0;
     if (IVSHM_LINK_PAIRS) {
-        if (count > 0 && (size_t)from % 8 != 0) to[i++] = __atomic_load_n(from, __ATOMIC_RELAXED);
+        if (count > 0 && (size_t)from % 8 != 0) to[i++] = IVSHM_LINK_LOAD(from);
         for (; count - i >= 2; i += 2) {
-            uint64_t pair = __atomic_load_n((const ivshm_link_pair *)(const void *)&from[i], __ATOMIC_RELAXED);
+            uint64_t pair = IVSHM_LINK_LOAD((const ivshm_link_pair *)(const void *)&from[i]);
             __builtin_memcpy(&to[i], &pair, 8);
         }
     }
-    for (; i < count; i++) to[i] = __atomic_load_n(&from[i], __ATOMIC_RELAXED);
+    for (; i < count; i++) to[i] = IVSHM_LINK_LOAD(&from[i]);
 #endif
 }
 
@@ -208,16 +237,17 @@ static inline void ivshm_link_copy_in(uint32_t *to, const uint8_t *from, uint32_
         uint64_t pair;
         if (count > 0 && (size_t)to % 8 != 0) {
             __builtin_memcpy(&word, from, 4);
-            __atomic_store_n(&to[i++], word, __ATOMIC_RELAXED);
+            IVSHM_LINK_STORE(to, word);
+            i = 1;
         }
         for (; count - i >= 2; i += 2) {
             __builtin_memcpy(&pair, from + 4 * (size_t)i, 8);
-            __atomic_store_n((ivshm_link_pair *)(void *)&to[i], pair, __ATOMIC_RELAXED);
+            IVSHM_LINK_STORE((ivshm_link_pair *)(void *)&to[i], pair);
         }
     }
     for (; i < count; i++) {
         __builtin_memcpy(&word, from + 4 * (size_t)i, 4);
-        __atomic_store_n(&to[i], word, __ATOMIC_RELAXED);
+        IVSHM_LINK_STORE(&to[i], word);
     }
 #endif
 }
@@ -244,7 +274,7 @@ static inline void ivshm_link_report(ivshm_link *link, uint32_t kind, const ivsh
 }
 
 /* Writes the State register. It is no word of the region: fences order it with the words before
- * and after. */
+ * and after, once the device has stored it. */
 static inline void ivshm_link_set_state(ivshm_link *link, uint32_t state) {
     ivshm_link_fence();
     link->setup.write_state(link->setup.context, state);
@@ -321,7 +351,8 @@ static inline uint32_t ivshm_link_read_burst(ivshm_link *link, const ivshm_burst
 }
 
 /* Makes the burst that the access begins, or a part of it, and returns the number of its words. 0:
- * its first word is to be made by itself. */
+ * its first word is to be made by itself. So is each write while the room has a frame that isn't
+ * delivered yet. */
 static inline uint32_t ivshm_link_burst(ivshm_link *link, const ivshm_access *access, ivshm_notes *notes) {
     ivshm_burst burst;
     link->whole = 0;
@@ -336,10 +367,27 @@ static inline uint32_t ivshm_link_burst(ivshm_link *link, const ivshm_access *ac
         return 0;
     }
     if (access->kind == IVSHM_READ) return ivshm_link_read_burst(link, &burst, access->count, notes);
-    return ivshm_link_write_burst(link, &burst);
+    return link->due > 0 || link->delivering ? 0 : ivshm_link_write_burst(link, &burst);
 }
 
-/* Passes a delivered frame to the program. */
+/* Counts a frame that was read whole. It is in the room, and due once it is returned. */
+static inline void ivshm_link_was_read(ivshm_link *link, size_t length) {
+    link->counts.delivered++;
+    link->counts.delivered_bytes += length;
+    link->due = length;
+}
+
+/* Passes the frame that is due to the program. */
+static inline void ivshm_link_deliver(ivshm_link *link) {
+    size_t length = link->due;
+    link->due = 0;
+    if (!link->setup.deliver) return;
+    link->delivering = 1;
+    link->setup.deliver(link->setup.context, (const uint8_t *)link->setup.room, length);
+    link->delivering = 0;
+}
+
+/* Takes a frame that was read whole into the room, if it isn't there yet. */
 static inline void ivshm_link_delivered(ivshm_link *link, const ivshm_note *note) {
     ivshm_link_setup *setup = &link->setup;
     ivshm_view view;
@@ -349,10 +397,8 @@ static inline void ivshm_link_delivered(ivshm_link *link, const ivshm_note *note
     } else if (ivshm_end_view(&link->end, &view) == IVSHM_DONE) {
         length = (size_t)view.delivered;
     }
-    link->counts.delivered++;
-    link->counts.delivered_bytes += length;
+    ivshm_link_was_read(link, length);
     if (setup->noted) setup->noted(setup->context, note, (const uint8_t *)setup->room, length);
-    if (setup->deliver) setup->deliver(setup->context, (const uint8_t *)setup->room, length);
 }
 
 /* Counts the frame that is offered as published. */
@@ -455,8 +501,8 @@ static inline void ivshm_link_return(ivshm_link *link, const ivshm_frame_return 
     ivshm_link_report_word(link, IVSHM_WRITE, made->index, made->returned, IVSHM_RELEASE, 0);
 }
 
-/* Reads the words of a frame, delivers it and returns it, and has the access after it in *next.
- * Returns 0 if nothing was made. */
+/* Reads the words of a frame and returns it, and has the access after it in *next. Returns 0 if
+ * nothing was made. */
 static inline uint32_t ivshm_link_take_frame(ivshm_link *link, const ivshm_burst *words, ivshm_access *next) {
     const ivshm_link_setup *setup = &link->setup;
     const uint8_t *frame = (const uint8_t *)setup->room;
@@ -466,10 +512,8 @@ static inline uint32_t ivshm_link_take_frame(ivshm_link *link, const ivshm_burst
     if (setup->accessed) ivshm_link_report(link, IVSHM_READ, words, setup->room);
     if (ivshm_end_took_frame(&link->end, frame, 4 * (size_t)words->count, &made, next) != IVSHM_DONE) return 0;
     link->counts.accesses += words->count;
-    link->counts.delivered++;
-    link->counts.delivered_bytes += made.length;
+    ivshm_link_was_read(link, made.length);
     if (setup->noted) ivshm_link_note(link, IVSHM_DELIVER, frame, made.length);
-    if (setup->deliver) setup->deliver(setup->context, frame, made.length);
     ivshm_link_return(link, &made);
     if (setup->noted) ivshm_link_note(link, IVSHM_RETURN, frame, 0);
     return 1;
@@ -582,14 +626,18 @@ static inline uint32_t ivshm_link_go_on(ivshm_link *link, ivshm_access *next, ui
 
 /* Makes the steps of the open call from the access *next on, if `answer` is IVSHM_DONE, until it is
  * over or until the poll has delivered `budget` frames and returned the last of them. IVSHM_DONE:
- * the call is over. IVSHM_CALL_OPEN: it isn't. */
+ * the call is over. IVSHM_CALL_OPEN: it isn't. A frame is delivered once it is returned, and once
+ * the doorbell is rung if that is next. */
 static inline uint32_t ivshm_link_run_from(ivshm_link *link, uint32_t answer, ivshm_access *next, uint32_t budget) {
     uint64_t last = link->counts.delivered + budget;
     while (answer == IVSHM_DONE) {
         uint32_t returns = 0;
         link->counts.steps++;
         answer = ivshm_link_go_on(link, next, &returns);
-        if (returns && answer == IVSHM_DONE && link->counts.delivered == last) return IVSHM_CALL_OPEN;
+        if (link->due == 0) continue;
+        if (answer == IVSHM_DONE && (!returns || next->kind == IVSHM_RING)) continue;
+        ivshm_link_deliver(link);
+        if (answer == IVSHM_DONE && link->counts.delivered == last) return IVSHM_CALL_OPEN;
     }
     return IVSHM_DONE;
 }
@@ -641,13 +689,16 @@ static inline uint32_t ivshm_link_open(ivshm_link *link, const ivshm_link_setup 
 static inline int ivshm_link_is_open(const ivshm_link *link) { return link->polling != 0; }
 
 /* Reads the other's State. Returns IVSHM_DONE, or IVSHM_CALL_OPEN if a poll is open. */
-static inline uint32_t ivshm_link_tick(ivshm_link *link) { return ivshm_link_call(link, IVSHM_TICK); }
+static inline uint32_t ivshm_link_tick(ivshm_link *link) {
+    if (link->delivering) return IVSHM_CALL_OPEN;
+    return ivshm_link_call(link, IVSHM_TICK);
+}
 
 /* Delivers at most `budget` frames, and returns their number. If it is less than the budget the
  * poll is over. */
 static inline uint32_t ivshm_link_poll(ivshm_link *link, uint32_t budget) {
     uint64_t before = link->counts.delivered;
-    if (budget == 0) return 0;
+    if (budget == 0 || link->delivering) return 0;
     if (!link->polling && ivshm_end_begin(&link->end, IVSHM_POLL) != IVSHM_DONE) return 0;
     link->polling = ivshm_link_run(link, budget) == IVSHM_CALL_OPEN;
     return (uint32_t)(link->counts.delivered - before);
@@ -699,7 +750,9 @@ static inline uint32_t ivshm_link_list(ivshm_link *link, ivshm_link_count list[I
 
 /* Begins anew after a reset of the device, or after a refusal. A poll that is open is cut. */
 static inline uint32_t ivshm_link_reset(ivshm_link *link) {
-    uint32_t answer = ivshm_end_reset(&link->end);
+    uint32_t answer;
+    if (link->delivering) return IVSHM_CALL_OPEN;
+    answer = ivshm_end_reset(&link->end);
     if (answer != IVSHM_DONE) return answer;
     link->polling = 0;
     link->left = 0;
@@ -708,6 +761,7 @@ static inline uint32_t ivshm_link_reset(ivshm_link *link) {
 
 /* Leaves the link and frees the end. A poll that is open is finished first, and delivers. */
 static inline uint32_t ivshm_link_close(ivshm_link *link) {
+    if (link->delivering) return IVSHM_CALL_OPEN;
     if (link->polling) ivshm_link_run(link, IVSHM_LINK_ALL);
     link->polling = 0;
     ivshm_link_call(link, IVSHM_STOP);

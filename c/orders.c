@@ -1,9 +1,13 @@
-/* orders RUNS STEPS SEED [--version 2] [--without ROW]: random runs of two ends over a memory that
- * is weaker than sequentially consistent. Each access has the order that the library gives it. ROW
- * removes one order: state-release, state-fence, state-acquire, available-release,
- * available-acquire, used-release, used-acquire, doorbell-release, and in a link of version 2
- * event-store-fence or event-load-fence. The program ends with 0 if each run was as expected, and
- * with 1 at the first that wasn't.
+/* orders RUNS STEPS SEED [--version 2] [--state-late N] [--without ROW]: random runs of two ends
+ * over a memory that is weaker than sequentially consistent. Each access has the order that the
+ * library gives it. ROW removes one order: state-release, state-fence, state-acquire,
+ * available-release, available-acquire, used-release, used-acquire, doorbell-release, and in a link
+ * of version 2 event-store-fence or event-load-fence. The program ends with 0 if each run was as
+ * expected, and with 1 at the first that wasn't.
+ *
+ * With --state-late a device stores State, up to N steps after the end wrote its register. It
+ * stores State before it takes the end's next State or doorbell. The end reads State back before
+ * its fence. The ROW read-back removes that.
  *
  * The memory: each word has a list of messages. A store adds one. A load may return any message
  * that its thread's view allows, and moves the view to it. A releasing store has its thread's view,
@@ -29,10 +33,10 @@
 
 enum { OUT = 16384, MTU = 256, WORDS = 1024 + 2 * OUT / 4, SESSIONS = 4096, FLIGHT = 256 };
 enum row { NONE, STATE_RELEASE, STATE_FENCE, STATE_ACQUIRE, AVAILABLE_RELEASE, AVAILABLE_ACQUIRE, USED_RELEASE, USED_ACQUIRE,
-           DOORBELL_RELEASE, EVENT_STORE_FENCE, EVENT_LOAD_FENCE, ROWS };
+           DOORBELL_RELEASE, READ_BACK, EVENT_STORE_FENCE, EVENT_LOAD_FENCE, ROWS };
 
 static const char *const rows[ROWS] = {"none", "state-release", "state-fence", "state-acquire", "available-release", "available-acquire",
-                                       "used-release", "used-acquire", "doorbell-release", "event-store-fence", "event-load-fence"};
+                                       "used-release", "used-acquire", "doorbell-release", "read-back", "event-store-fence", "event-load-fence"};
 
 struct view { uint32_t at[WORDS]; }; /* the oldest message of each word that may be read */
 
@@ -51,9 +55,17 @@ struct word {
  * returned of the session to which the peer is attached. */
 struct announcement { uint32_t session, accepted, attached, returned; };
 
+/* A State whose register the end wrote. */
+struct posted {
+    bool due, unread, release; /* the device hasn't stored it yet; the end hasn't read it back */
+    uint32_t value, steps;     /* the device stores it after this many steps at most */
+    struct view view;          /* of the end as it wrote the register; with the store, once it is made */
+};
+
 struct peer {
     ivshm_end end;
     struct view view;
+    struct posted posted;
     struct view carried;        /* by the doorbells whose interrupt isn't delivered yet */
     struct announcement sent, received; /* by the last doorbell rung, and by the last delivered */
     bool due;                   /* an interrupt is due */
@@ -69,6 +81,9 @@ struct peer {
                                                           * access, or was made before the next */
     bool idle, no_doorbell[FLIGHT];                      /* its last poll found nothing; the frames
                                                           * that didn't ring */
+    ivshm_publication made;                              /* its last publication, and what is left
+                                                          * of it */
+    enum { NOTHING, INDEX, INDEX_AND_DOORBELL, DOORBELL } left;
 };
 
 static struct word region[WORDS];
@@ -76,7 +91,7 @@ static struct view fences;
 static struct peer peers[2];
 static ivshm_words layout;
 static enum row without;
-static uint32_t version = 1;
+static uint32_t version = 1, late_by; /* steps by which a State is late at most */
 static uint64_t generator, delivered, sessions, idle_polls, skipped, rings;
 static uint32_t reset_every, tick_every; /* one step of this number is a reset, or one call a Tick:
                                           * drawn for each run */
@@ -103,16 +118,19 @@ static void forget(struct word *w, uint32_t before) {
     w->count -= gone;
 }
 
-static void store(struct peer *p, uint32_t at, uint32_t value, bool release) {
+/* Stores a word for the thread of this view. */
+static void store_by(struct view *view, uint32_t at, uint32_t value, bool release) {
     struct word *w = &region[at];
     if (w->count == w->room) w->list = realloc(w->list, (w->room = 2 * w->room + 2) * sizeof *w->list);
     struct message *m = &w->list[w->count];
     *m = (struct message){value, NULL};
-    p->view.at[at] = w->first + w->count++;
+    view->at[at] = w->first + w->count++;
     if (!release) return;
-    m->carried = malloc(sizeof p->view);
-    *m->carried = p->view;
+    m->carried = malloc(sizeof *view);
+    *m->carried = *view;
 }
+
+static void store(struct peer *p, uint32_t at, uint32_t value, bool release) { store_by(&p->view, at, value, release); }
 
 /* Returns the newest message in half of all loads, and otherwise any message. */
 static uint32_t load(struct peer *p, uint32_t at, bool acquire) {
@@ -214,8 +232,29 @@ static void skip_doorbell(struct peer *p) {
     wake(&peers[1 - p->me], p, number);
 }
 
-/* Stores the end's State: at READY a session begins. */
-static void store_state(struct peer *p, uint32_t state) {
+/* Counts the frame of the open offer, which may ring still. */
+static void accept(struct peer *p) {
+    p->no_doorbell[p->accepted[p->ready] % FLIGHT] = false;
+    p->accepted[p->ready]++;
+}
+
+/* Stores State in the place of the device. */
+static void store_posted(struct peer *p) {
+    if (p->posted.due) store_by(&p->posted.view, p->me, p->posted.value, p->posted.release);
+    p->posted.due = false;
+}
+
+/* Reads State back: then the end knows of its store. */
+static void read_back(struct peer *p) {
+    store_posted(p);
+    join(&p->view, &p->posted.view);
+    p->posted.unread = false;
+}
+
+/* Writes State: at READY a session begins. */
+static void write_state(struct peer *p, uint32_t state, bool release) {
+    if (late_by > 0) p->posted = (struct posted){true, true, release, state, 1 + draw(late_by), p->view};
+    else store(p, p->me, state, release);
     p->idle = false;
     if (state != IVSHM_READY) return;
     if (p->taken) p->last = p->attached;
@@ -252,42 +291,51 @@ static void follow_notes(struct peer *p, const ivshm_access *access, const ivshm
         if (kind == IVSHM_RETURN) p->returned++;
         if (kind == IVSHM_FINISH && access->kind == IVSHM_READ) end_idle_poll(p);
         if (kind == IVSHM_OVER && at_event) skip_doorbell(p);
-        if (kind == IVSHM_ACCEPT) {
-            p->no_doorbell[p->accepted[p->ready] % FLIGHT] = false;
-            p->accepted[p->ready]++;
-        }
+        if (kind == IVSHM_ACCEPT) accept(p);
     }
 }
 
-/* Writes all words of an offer before its index to the room. For a part of the frames the words of
- * the frame are taken from the frame itself. */
-static bool words_before_index(struct peer *p, ivshm_burst bursts[3], uint32_t *room, size_t bytes) {
-    uint8_t tail[20];
-    if (p->length / 4 % 2) return ivshm_end_bursts(&p->end, bursts, (uint8_t *)room, bytes) == IVSHM_DONE;
-    if (ivshm_end_tail(&p->end, bursts, tail, sizeof tail) != IVSHM_DONE) return false;
+/* Makes all writes of a publication before its index, in one of two orders: from the last to the
+ * first, or the frame first. The words of the frame are those of the frame offered. */
+static void store_before_index(struct peer *p, const ivshm_burst bursts[3], const uint8_t tail[20]) {
+    static uint32_t room[OUT / 4];
+    uint32_t first[3] = {0, bursts[0].count, bursts[0].count + bursts[1].count};
     size_t at = 4 * ((p->length + 3) / 4 - bursts[0].count);
     memset(room, 0, 4 * (size_t)bursts[0].count);
     memcpy(room, p->offered + at, p->length - at);
-    memcpy(room + bursts[0].count, tail, sizeof tail);
-    return true;
-}
-
-/* Makes all writes of an offer before its index, in one of two orders: from the last to the first,
- * or the frame first. */
-static bool step_before_index(struct peer *p, uint32_t *room, size_t bytes) {
-    ivshm_burst bursts[3];
-    if (!words_before_index(p, bursts, room, bytes)) return false;
-    uint32_t first[3] = {0, bursts[0].count, bursts[0].count + bursts[1].count};
+    memcpy(room + bursts[0].count, tail, 20);
     bool backwards = draw(2);
     for (int k = 0; k < 3; k++) {
         const ivshm_burst *s = &bursts[backwards ? 2 - k : k];
         for (uint32_t i = 0; i < s->count; i++) store(p, s->word + i, room[first[backwards ? 2 - k : k] + i], false);
     }
-    ivshm_end_took_bursts(&p->end);
+}
+
+/* Publishes the frame of the open offer if a word of it is next. The writes before the index are
+ * made; that of the index, and the doorbell, are left for steps of their own. */
+static bool publish(struct peer *p) {
+    ivshm_access next;
+    uint8_t tail[20];
+    if (ivshm_end_publish(&p->end, &p->made, tail, sizeof tail, &next) != IVSHM_DONE) return false;
+    store_before_index(p, p->made.bursts, tail);
+    p->left = next.kind == IVSHM_RING ? INDEX_AND_DOORBELL : INDEX;
     return true;
 }
 
-/* Makes one access of the open call, a burst of them, or the full fence before it. */
+/* Makes the next access that is left of a publication. */
+static void step_publication(struct peer *p) {
+    if (p->left == DOORBELL) {
+        ring(p, without != DOORBELL_RELEASE);
+        p->left = NOTHING;
+        return;
+    }
+    store(p, p->made.index, p->made.accepted, without != AVAILABLE_RELEASE);
+    accept(p);
+    p->left = p->left == INDEX ? NOTHING : DOORBELL;
+}
+
+/* Makes one access of the open call, a burst of them, all writes before an index, or the full
+ * fence before it. */
 static void step(struct peer *p) {
     static uint32_t room[OUT / 4];
     ivshm_access access;
@@ -310,7 +358,7 @@ static void step(struct peer *p) {
             for (uint32_t i = 0; i < count; i++) room[i] = load(p, access.word + i, false);
             ivshm_end_took_reads(&p->end, (const uint8_t *)room, 4 * (size_t)count, &notes);
             whole = first;
-        } else if (draw(2) || !step_before_index(p, room, sizeof room)) {
+        } else if (draw(2) || !publish(p)) {
             ivshm_end_words(&p->end, (uint8_t *)room, 4 * (size_t)count);
             for (uint32_t i = count; i-- > 0;) store(p, access.word + i, room[i], false);
             ivshm_end_took_writes(&p->end, count);
@@ -318,10 +366,7 @@ static void step(struct peer *p) {
     } else {
         if (access.kind == IVSHM_READ) value = load(p, access.word, ordered);
         if (access.kind == IVSHM_WRITE) store(p, access.word, access.value, ordered);
-        if (access.kind == IVSHM_STATE) {
-            store(p, p->me, access.value, ordered);
-            store_state(p, access.value);
-        }
+        if (access.kind == IVSHM_STATE) write_state(p, access.value, ordered);
         if (access.kind == IVSHM_RING) ring(p, ordered);
         ivshm_end_took(&p->end, value, &notes);
     }
@@ -332,6 +377,18 @@ static void step(struct peer *p) {
 static void offer(struct peer *p) {
     p->length = make(p->offered, p->me, p->ready, p->ready ? p->accepted[p->ready] : 0);
     ivshm_end_offer(&p->end, p->offered, p->length);
+}
+
+/* The device takes a step before one of peer `p`. It stores a State whose time has come, or whose
+ * end reads it back or accesses the device again. */
+static void step_device(struct peer *p) {
+    ivshm_access access;
+    for (uint32_t me = 0; me < 2; me++)
+        if (peers[me].posted.due && --peers[me].posted.steps == 0) store_posted(&peers[me]);
+    if (p->posted.unread && without != READ_BACK) read_back(p);
+    if (!p->posted.due) return;
+    bool accesses = ivshm_end_next(&p->end, &access) == IVSHM_DONE && access.kind >= IVSHM_STATE;
+    if (accesses || p->left == DOORBELL) store_posted(p);
 }
 
 static void begin(struct peer *p) {
@@ -361,6 +418,7 @@ static void run(uint32_t steps) {
     for (uint32_t i = 0; i < steps && !wrong; i++) {
         struct peer *p = &peers[draw(2)];
         ivshm_access access;
+        step_device(p);
         if (p->fencing) {
             fence(p);
             p->fencing = false;
@@ -369,7 +427,9 @@ static void run(uint32_t steps) {
         } else if (draw(reset_every) == 0) {
             ivshm_end_reset(&p->end);
             p->fenced = p->idle = false;
-        } else if (ivshm_end_next(&p->end, &access) == IVSHM_DONE) step(p);
+            p->left = NOTHING;
+        } else if (p->left != NOTHING) step_publication(p);
+        else if (ivshm_end_next(&p->end, &access) == IVSHM_DONE) step(p);
         else begin(p);
     }
     for (uint32_t me = 0; me < 2; me++) ivshm_end_free(&peers[me].end);
@@ -382,13 +442,14 @@ static enum row row_named(const char *name) {
 
 int main(int argc, char **argv) {
     ivshm_found found = {.table = 4096, .out = OUT};
-    bool good = argc == 4 || argc == 6 || argc == 8;
+    bool good = argc >= 4 && argc % 2 == 0;
     for (int i = 4; good && i < argc; i += 2) {
         if (!strcmp(argv[i], "--version")) good = !strcmp(argv[i + 1], "2") && (version = 2);
+        else if (!strcmp(argv[i], "--state-late")) good = (late_by = (uint32_t)strtoul(argv[i + 1], NULL, 10)) > 0;
         else good = !strcmp(argv[i], "--without") && (without = row_named(argv[i + 1])) != NONE;
     }
-    if (!good || (version == 1 && without >= EVENT_STORE_FENCE)) {
-        fprintf(stderr, "usage: orders RUNS STEPS SEED [--version 2] [--without ROW]\n");
+    if (!good || (version == 1 && without >= EVENT_STORE_FENCE) || (late_by == 0 && without == READ_BACK)) {
+        fprintf(stderr, "usage: orders RUNS STEPS SEED [--version 2] [--state-late N] [--without ROW]\n");
         return 2;
     }
     if (ivshm_layout(&found, 2, MTU, &layout) != IVSHM_DONE) return 2;

@@ -133,10 +133,9 @@ static int one(const char *path, uint32_t me, char **sizes, uint64_t burst) {
 static int both(char **sizes, const char *record, bool prints) {
     static struct side a, b;
     struct record lines;
-    char path[64];
-    snprintf(path, sizeof path, "/dev/shm/ivshm-pair-%ld", (long)getpid());
+    char path[] = "/dev/shm/ivshm-pair-XXXXXX";
     if (record) record_begin(&lines);
-    unlink(path);
+    make_file(path);
     begin(&a, path, 0, sizes, record ? &lines : NULL);
     begin(&b, path, 1, sizes, record ? &lines : NULL);
     unlink(path);

@@ -1,5 +1,5 @@
 /* An end of the link in plain C, version 1: a second driver (driver.h), written from
- * docs/LAYOUT.md, SESSION.md and OFFER.md, without the library. It is here for play.c and fuzz.c
+ * docs/LINK.md, without the library. It is here for play.c and fuzz.c
  * to find its faults, and isn't proved. FAULT takes one of its checks away:
  *   0, the default: none;
  *   1: a frame may end past the section (the other's length alone is tested);

@@ -3,7 +3,7 @@
  * same copies and index words by themselves. A frame is copied as often as with the library:
  * into the end and the section, and then into a room and the other end. Each frame is published,
  * and returned, by one index word. VERSION is that of the link (region.h). From 2 on sections
- * have the event words, and in 3 a frame takes its own length (docs/VERSIONS.md). */
+ * have the event words, and in 3 a frame takes its own length (docs/LINK.md). */
 #ifndef PLAIN_RINGS_H
 #define PLAIN_RINGS_H
 #include "region.h"

@@ -11,10 +11,12 @@
 struct record {
     FILE *acts, *lines;
     uint64_t count;
+    uint32_t version; /* of the link */
+    int hostile;      /* peer 0 is hostile: what it does is recorded by record_poke and record_set */
 };
 
 static inline void record_begin(struct record *r) {
-    *r = (struct record){.acts = tmpfile(), .lines = tmpfile()};
+    *r = (struct record){.acts = tmpfile(), .lines = tmpfile(), .version = 1};
     if (!r->acts || !r->lines) {
         perror("tmpfile");
         exit(1);
@@ -80,6 +82,19 @@ static inline void record_note(struct record *r, uint32_t me, const ivshm_note *
     r->count++;
 }
 
+/* What a hostile peer stores: a word, or its State. */
+static inline void record_poke(struct record *r, uint32_t me, uint32_t word, uint32_t value) {
+    fprintf(r->acts, "poke %u %u %u\n", me, word, value);
+    fprintf(r->lines, "w %u %u %u\n", me, word, value);
+    r->count++;
+}
+
+static inline void record_set(struct record *r, uint32_t me, uint32_t state) {
+    fprintf(r->acts, "set %u %u\n", me, state);
+    fprintf(r->lines, "s %u %u\n", me, state);
+    r->count++;
+}
+
 static inline void record_append(FILE *to, FILE *from) {
     char room[65536];
     size_t length;
@@ -95,8 +110,8 @@ static inline void record_end(struct record *r, const char *path, uint64_t out, 
         perror(path);
         exit(1);
     }
-    fprintf(file, "record 1\nivshm 1\npeers 2\ntable 4096\ncommon 0\nout %" PRIu64 "\nmtu %u\nirq msix 2\n", out, mtu);
-    fprintf(file, "peer 0 honest\npeer 1 honest\nbegin\n");
+    fprintf(file, "record 1\nivshm %u\npeers 2\ntable 4096\ncommon 0\nout %" PRIu64 "\nmtu %u\nirq msix 2\n", r->version, out, mtu);
+    fprintf(file, "peer 0 %s\npeer 1 honest\nbegin\n", r->hostile ? "hostile" : "honest");
     record_append(file, r->acts);
     fprintf(file, "end\n");
     record_append(file, r->lines);

@@ -1,7 +1,7 @@
 /* A link over a region in a file, as /dev/shm/NAME: a State Table of one page, and the output
  * sections of peers 0 and 1. It shows what a driver in user space does around ivshm_link.h: only
  * its own section and State are mapped writable. There is no device: the State is a word that each
- * end writes itself, and a doorbell is a function of the program.
+ * end stores itself, so that it needn't be read back, and a doorbell is a function of the program.
  *
  * WAY says how the accesses are made (cc -DWAY=1):
  *   0, the default: each word by itself, sequentially consistent, as in the proofs
@@ -123,7 +123,7 @@ static inline void region_records_note(void *context, const ivshm_note *note, co
 
 /* The steps of the call that was recorded last are made. */
 static inline void record_steps(struct region *r) {
-    if (r->record) record_turn(r->record, r->link.setup.me, r->steps);
+    if (r->record && r->steps > 0) record_turn(r->record, r->link.setup.me, r->steps);
     r->steps = 0;
 }
 
@@ -162,6 +162,13 @@ static inline void reset(struct region *r) {
 }
 
 static inline bool is_running(const struct region *r) { return r->link.state == IVSHM_RUN; }
+
+/* Makes an empty file with a name that no other file has, in place of the last six X. */
+static inline void make_file(char *path) {
+    int file = mkstemp(path);
+    if (file < 0) fail(path);
+    close(file);
+}
 
 /* Maps the region in this file, which is made if it isn't there, for peer `me`. */
 static inline void map_region(struct region *r, ivshm_link_setup *setup, const ivshm_words *layout, const char *path) {

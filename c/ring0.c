@@ -27,6 +27,8 @@ struct pair {
 static struct pair pairs[2], *now;
 static _Alignas(16) unsigned char stack[65536], handler_stack[65536];
 static uint64_t run, interrupts;
+static uint8_t frame[274]; /* the frame of the run, and its length */
+static size_t length;
 
 /* Memory functions without the red zone and without vector registers, from any source. */
 void *memcpy(void *restrict to, const void *restrict from, size_t count);
@@ -125,27 +127,22 @@ static void step(ivshm_end *end, uint32_t me, const ivshm_access *access) {
     mix_notes(&notes);
 }
 
-/* Makes the writes of an offer before its index, if they come next. */
+/* Publishes the frame of an offer, if a word of it comes next. */
 static bool step_offer(ivshm_end *end) {
-    static uint8_t room[512];
-    ivshm_burst bursts[3];
-    if (ivshm_end_bursts(end, bursts, room, sizeof room) != IVSHM_DONE) return false;
-    const uint8_t *from = room;
-    for (int i = 0; i < 3; i++) {
-        mix(bursts[i].word);
-        memcpy(now->words + bursts[i].word % WORDS, from, 4 * (size_t)bursts[i].count);
-        from += 4 * (size_t)bursts[i].count;
-    }
-    if (run % 4 == 0) {
-        ivshm_publication made;
-        ivshm_access next;
-        if (ivshm_end_publish(end, &made, room, sizeof room, &next) != IVSHM_DONE) return false;
-        now->words[made.index % WORDS] = made.accepted;
-        mix(made.accepted);
-        mix(next.word);
-        return true;
-    }
-    mix(ivshm_end_took_bursts(end));
+    static uint8_t room[20];
+    ivshm_publication made;
+    ivshm_access next;
+    if (ivshm_end_publish(end, &made, room, sizeof room, &next) != IVSHM_DONE) return false;
+    for (int i = 0; i < 3; i++) mix(made.bursts[i].word);
+    uint32_t *words = now->words + made.bursts[0].word % WORDS;
+    size_t at = 4 * ((length + 3) / 4 - made.bursts[0].count);
+    words[made.bursts[0].count - 1] = 0;
+    memcpy(words, frame + at, length - at);
+    memcpy(now->words + made.bursts[1].word % WORDS, room, 16);
+    memcpy(now->words + made.bursts[2].word % WORDS, room + 16, 4);
+    now->words[made.index % WORDS] = made.accepted;
+    mix(made.accepted);
+    mix(next.word);
     return true;
 }
 
@@ -208,12 +205,13 @@ static void make_ends(void) {
 
 /* One run: a frame goes from one end to the other, and its bytes are compared. */
 static void make_run(void) {
-    static uint8_t frame[274], room[300];
-    size_t length = 14 + run * 7 % 50, copied = 0;
+    static uint8_t room[300];
+    size_t copied = 0;
     ivshm_view view;
     ivshm_counts counts;
     walk();
     if (run % LIFE == 0) make_ends();
+    length = 14 + run * 7 % 50;
     for (size_t i = 0; i < length; i++) frame[i] = (uint8_t)(run + i * 31);
     uint32_t from = (uint32_t)(run % 2);
     mix(ivshm_end_offer(&now->ends[from], frame, length));

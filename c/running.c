@@ -1,6 +1,6 @@
 /* running: the accesses of two ends of the link in C, by two threads over sequentially consistent
  * words, with a record of them. `ivshm run` is compared with it. Each end clears its section,
- * offers its frames and polls the other's, as docs/OFFER.md and docs/VERSIONS.md say. Of the
+ * offers its frames and polls the other's, as docs/LINK.md says. Of the
  * handshake there is nothing else.
  *
  *   running FRAMES BYTES BOTH [VERSION]     FRAMES frames of BYTES bytes from peer 0, and back if

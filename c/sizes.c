@@ -5,9 +5,9 @@
  *     cc -O2 -o sizes sizes.c storage.o LIB
  *
  * For sections and MTUs of many sizes and each version, a new end allocates six blocks, and none
- * later. They fit IVSHM_END_BYTES. The number of bytes is printed as in ivshm_c.h. Then ends are
- * made and freed ROUNDS times over storage.c. An array for three ends of equal sizes serves three
- * ends, and their blocks don't overlap. */
+ * later. They fit IVSHM_END_BYTES, and all six are freed with the end. The number of bytes is
+ * printed as in ivshm_c.h. Then ends are made and freed ROUNDS times over storage.c. An array for
+ * three ends of equal sizes serves three ends, and their blocks don't overlap. */
 #include <inttypes.h>
 #include <stdio.h>
 #include <stdlib.h>
@@ -21,18 +21,26 @@ enum { STORAGE = 3 * IVSHM_LARGEST_END };
 struct rattle_block storage_alloc(size_t size, size_t align);
 void storage_dealloc(void *at);
 
-static size_t blocks, bytes;
+static size_t blocks, held, bytes;
 
 /* Measures a block, and fills it, so that blocks that overlap are seen by the ends. */
 struct rattle_block rattle_alloc(size_t size, size_t align) {
     struct rattle_block block = storage_alloc(size, align);
     blocks++;
+    held += block.ok;
     bytes += size;
     if (block.ok) memset(block.at, (int)(blocks % 255) + 1, size);
     return block;
 }
 
-void rattle_dealloc(void *at) { storage_dealloc(at); }
+void rattle_dealloc(void *at) {
+    held--;
+    storage_dealloc(at);
+}
+
+#ifdef LEAK /* as if the library freed no block */
+#define ivshm_end_free(end) ((end)->at == NULL ? IVSHM_NO_END : ((end)->at = NULL, IVSHM_DONE))
+#endif
 
 /* Ends the program with a message unless the test was right. */
 static void expect(int right, const char *what) {
@@ -64,6 +72,7 @@ static size_t measured(uint64_t out, uint32_t mtu, uint32_t version) {
     expect(ivshm_end_offer(&end, frame, sizeof frame) == IVSHM_DONE && ivshm_end_reset(&end) == IVSHM_DONE, "no offer or no reset");
     expect(blocks == 6, "a block that isn't asked for by a new end");
     expect(ivshm_end_free(&end) == IVSHM_DONE, "the end isn't freed");
+    expect(held == 0, "a block isn't freed");
     return bytes;
 }
 

@@ -84,14 +84,13 @@ static void print_floor(double seconds, uint64_t rounds, size_t size) {
 
 int main(int argc, char **argv) {
     static struct region a, b;
-    char path[64];
-    snprintf(path, sizeof path, "/dev/shm/ivshm-speed-%ld", (long)getpid());
+    char path[] = "/dev/shm/ivshm-speed-XXXXXX";
     if (argc != 5) return 2;
     uint64_t out = strtoull(argv[1], NULL, 10), rounds = strtoull(argv[4], NULL, 10);
     uint32_t mtu = (uint32_t)strtoul(argv[2], NULL, 10);
     size_t size = strtoull(argv[3], NULL, 10);
     memset(frame, 0x5a, sizeof frame);
-    unlink(path);
+    make_file(path);
     attach(&a, path, 0, out, mtu, NULL);
     attach(&b, path, 1, out, mtu, NULL);
     unlink(path);

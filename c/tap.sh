@@ -5,8 +5,10 @@
 set -u
 here=$(cd "$(dirname "${BASH_SOURCE[0]}")" && pwd) || exit 2
 pings=${1:-20000}
-region=/dev/shm/ivshm-tap-$$ out=520192 mtu=9000
+out=520192 mtu=9000
 folder=$(mktemp -d) || exit 2
+shared=$(mktemp -d /dev/shm/ivshm-tap-XXXXXX) || exit 2
+region=$shared/region
 peers=()
 
 cleanup() {
@@ -14,7 +16,7 @@ cleanup() {
   wait
   ip netns del "ivshm-a-$$" 2>/dev/null
   ip netns del "ivshm-b-$$" 2>/dev/null
-  rm -rf "$folder" "$region" "$region".bell*
+  rm -rf "$folder" "$shared"
 }
 trap cleanup EXIT
 

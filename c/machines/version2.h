@@ -95,7 +95,13 @@ static inline void enable_interrupts(struct guest *g) { write_register(g, INTERR
 /* The device alone writes the State Table. */
 static inline void mend(struct guest *g) { (void)g; }
 
-static inline void guest_writes_state(void *context, uint32_t state) { write_register(context, STATE_REGISTER, state); }
+/* The read is answered once the State Table has the value. */
+static inline void guest_writes_state(void *context, uint32_t state) {
+    struct guest *g = context;
+    write_register(g, STATE_REGISTER, state);
+    (void)g->bell.registers[STATE_REGISTER];
+    atomic_thread_fence(memory_order_seq_cst);
+}
 
 static inline void guest_rings(void *context, uint32_t peer, uint32_t vector) {
     write_register(context, DOORBELL, peer << 16 | vector);

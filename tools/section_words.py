@@ -1,4 +1,4 @@
-"""The words of an output section by name, for tools/plain and tools/jsonl (docs/PLAIN.md has the names)."""
+"""The words of an output section by name, for tools/plain and tools/jsonl (docs/FORMATS.md has the names)."""
 import re
 
 SHIFT_OF_INDEX = 16
@@ -19,7 +19,7 @@ def rings_len(size):
 
 
 class Layout:
-    """The offsets of a section's fields (docs/LAYOUT.md), in words from its start. `data` is in
+    """The offsets of a section's fields (docs/LINK.md), in words from its start. `data` is in
     bytes.
     """
 
@@ -47,7 +47,7 @@ class Layout:
         """Returns the word of a name, and the number of bits by which its value is shifted."""
         if name in self.fixed():
             return self.fixed()[name], SHIFT_OF_INDEX if name.endswith(".index") else 0
-        found = re.fullmatch(r"(avail|desc|used|data)([0-9]+)(?:\.([a-z]+))?", name)
+        found = re.fullmatch(r"(avail|desc|used|data)([0-9]{1,40})(?:\.([a-z]+))?", name)
         if not found:
             raise NoWord(f"no word has the name {name}")
         kind, position, field = found[1], int(found[2]), found[3]
